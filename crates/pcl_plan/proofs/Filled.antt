@@ -3,7 +3,7 @@ use Rattle.std.proofs.Common.{◌≡◌, ℕ, zero, suc, ◌+◌, ◌-◌, ◌<�
 use Rattle.std.proofs.lemmas.Bool.{cases_lt}
 use Rattle.std.proofs.lemmas.List.{drop_more}
 use Rattle.pcl_base.specs.declared.method.Method.{Method}
-use Rattle.pcl_base.specs.declared.method.Method.TheVariants.{Plain, Runs, Packed, Delta}
+use Rattle.pcl_base.specs.declared.method.Method.TheVariants.{Plain}
 use Rattle.pcl_coders.specs.Coding.{IsLeastLength}
 use Rattle.pcl_output.specs.declared.table.RowNumbers.{RowNumbers}
 use Rattle.pcl_output.specs.Tokens.{AreWhite}
@@ -23,15 +23,13 @@ falls_by : {width : ℕ} {rows : List (List ℕ)} {table : List RowNumbers} {row
     → IsWhiteRun rows row run → (method : Method) (near gap : ℕ) → 0 < near → near + gap ≤ run
     → rest (node_number table) (row + (near + gap)) method ≤ rest (node_number table) (row + near) method
 falls_by {table} {row} right is method near zero some within =
-    let same : near + 0 ≡ near = omega arith in
-    omega (arith, ap (λ (k : ℕ). rest (node_number table) (row + k) method) same)
+    let same : near + 0 ≡ near = omega arith in omega (arith, ap (λ (k : ℕ). rest (node_number table) (row + k) method) same)
 falls_by {rows} {table} {row} {run} right is method near (suc gap) some within =
     let before = falls_by right is method near gap some (omega arith) in
-    let place : ℕ = row + (near + gap) in
     let white = white_below rows row (near + gap) is.white (omega arith) is.within in
-    let step = (right.right place (omega arith) (omega (arith, is.within))).falls method (omega (arith, is.within)) white in
-    let next : place + 1 ≡ row + (near + suc gap) = omega arith in
-    omega (arith, before, step, ap (λ (r : ℕ). rest (node_number table) r method) next)
+    let step = (right.right (row + (near + gap)) (omega arith) (omega (arith, is.within))).falls method (omega (arith, is.within)) white in
+    let next : row + (near + gap) + 1 ≡ row + (near + suc gap) = omega arith in
+    omega (arith, ap (λ (r : ℕ). rest (node_number table) r method) next)
 
 pub readable : (width : ℕ) (rows : List (List ℕ)) (table : List RowNumbers) (row run : ℕ) → length rows ≤ 9999
     → AreRightFrom width rows table (row + 1) → IsWhiteRun rows row run → row + run < length rows → IsReadable table row run
@@ -41,27 +39,20 @@ readable width rows table row run few right is ink = record {
   few = omega (arith, right.size);
   falls = λ method near far some le within.
       let gap : near + (far - near) ≡ far = omega arith in
-      omega (
-        arith,
-        falls_by right is method near (far - near) some (omega arith),
-        ap (λ (k : ℕ). rest (node_number table) (row + k) method) gap,
-      );
+      let fall = falls_by right is method near (far - near) some (omega arith) in
+      omega (arith, ap (λ (k : ℕ). rest (node_number table) (row + k) method) gap);
   small = λ a below inside. omega (arith, (right.right a.row (omega arith) (omega (arith, right.size))).small a refl, few);
 }
 
 -- ---- the numbers of a row
 
 pub skippable : {rows : List (List ℕ)} {row run count : ℕ} → IsWhiteRun rows row run → 0 < count → count ≤ run → AreSkippable rows row count
-skippable {rows} {row} {run} {count} white some within = (
-  some,
-  omega (arith, white.within),
-  white_front run count (drop row rows) white.white within,
-)
+skippable {rows} {row} {run} {count} white some within =
+    (some, omega (arith, white.within), white_front run count (drop row rows) white.white within)
 
 pub direct_of_start : {width : ℕ} {rows : List (List ℕ)} {number : Node → ℕ} {row : ℕ} {method : Method} {run bytes least : ℕ}
-    → IsWhiteRun rows row run
-    → IsLeastLength method (row_above width rows row) (row_at rows row) bytes → IsLeastStart number row method run bytes least
-    → IsDirect width rows number row method least
+    → IsWhiteRun rows row run → IsLeastLength method (row_above width rows row) (row_at rows row) bytes
+    → IsLeastStart number row method run bytes least → IsDirect width rows number row method least
 direct_of_start {rows} {row} {run} {bytes} is length_is start = record {
   bytes = bytes;
   is_length = length_is;
@@ -105,8 +96,7 @@ pub record IsPut (old new : List RowNumbers) (row : ℕ) (numbers : RowNumbers) 
 module _ {width : ℕ} {rows : List (List ℕ)} {old new : List RowNumbers} {row : ℕ} {numbers : RowNumbers} (put : IsPut old new row numbers)
     (right : AreRightFrom width rows old (row + 1)) where
   stays_behind : (behind : ℕ) → row < behind → behind ≤ length rows → IsRowRight width rows (node_number new) behind
-  stays_behind behind lt within =
-      row_stays (λ a le. put.others a (λ same. omega arith)) (right.right behind (omega arith) within)
+  stays_behind behind lt within = row_stays (λ a le. put.others a (λ same. omega arith)) (right.right behind (omega arith) within)
 
   right_more : IsRowRight width rows (node_number new) row → AreRightFrom width rows new row
   right_more here = record {
@@ -136,13 +126,8 @@ module _ {width : ℕ} {rows : List (List ℕ)} {old new : List RowNumbers} {row
 -- where the rest is white
 end_is : (method : Method) (is_open : Bool) → number_in end_numbers method is_open ≡ end_number is_open
 end_is Plain true = refl
-end_is Runs true = refl
-end_is Packed true = refl
-end_is Delta true = refl
 end_is Plain false = refl
-end_is Runs false = refl
-end_is Packed false = refl
-end_is Delta false = refl
+end_is _ _ = refl
 
 put_end : {old new : List RowNumbers} {row : ℕ} → IsPut old new row end_numbers → (a : Node) → a.row ≡ row
     → node_number new a ≡ end_number a.inside
@@ -150,9 +135,8 @@ put_end {new} {row} put =
     at_row (λ (a : Node). node_number new a ≡ end_number a.inside) row
     (λ method is_open. put.changed method is_open ∙ end_is method is_open)
 
-pub put_white : {width : ℕ} {rows : List (List ℕ)} {old new : List RowNumbers} {row : ℕ} → row < length rows
-    → IsPut old new row end_numbers → AreRightFrom width rows old (row + 1) → AreWhite (drop row rows)
-    → AreRightFrom width rows new row
+pub put_white : {width : ℕ} {rows : List (List ℕ)} {old new : List RowNumbers} {row : ℕ} → row < length rows → IsPut old new row end_numbers
+    → AreRightFrom width rows old (row + 1) → AreWhite (drop row rows) → AreRightFrom width rows new row
 put_white {rows} {row} lt put right white =
     let below = rw (drop_more rows row [] lt) at white in
     right_more put right

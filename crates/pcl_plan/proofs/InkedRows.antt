@@ -33,8 +33,7 @@ pub record IsInkedRow (width : ℕ) (rows : List (List ℕ)) (number : Node → 
 
 -- a token that leads to where a walk begins
 pub walk_more : (width : ℕ) {rows : List (List ℕ)} {a b : Node} (token : Token) {n m : ℕ} → Leads width rows a token b
-    → IsAttained (Leads width rows) (Ends rows) cost b m → n ≡ cost token + m
-    → IsAttained (Leads width rows) (Ends rows) cost a n
+    → IsAttained (Leads width rows) (Ends rows) cost b m → n ≡ cost token + m → IsAttained (Leads width rows) (Ends rows) cost a n
 walk_more width {b} token l w e = (token ∷ w.0, (b, l, w.1), omega (arith, w.2, e))
 
 -- the rest of skippable rows is skippable
@@ -63,39 +62,20 @@ module _ {width : ℕ} {rows : List (List ℕ)} {number : Node → ℕ} {row : �
       → number (node row current is_open) ≤ cost token + number b
   steps_from current false opening b l = omega (arith, opens current, cost_opening, ap number l.1)
   steps_from current true (method digits next ends) b l =
-      omega (
-        arith,
-        switches current next,
-        opens next,
-        rest_below number row next (not ends),
-        switch_costs width rows (node row current true) b digits next ends l,
-        ap number l.2,
-      )
+      let costs = switch_costs width rows (node row current true) b digits next ends l in
+      omega (arith, switches current next, opens next, rest_below number row next (not ends), ap number l.2)
   steps_from current true (skip digits count ends) b l =
-      omega (
-        arith,
-        is.placed current true,
-        is.switched.stays current,
-        (is.are_direct current).skipped count (l.2, l.3, l.4),
-        rest_below number (row + count) current (not ends),
-        skip_costs width rows (node row current true) b digits count ends is.few l,
-        ap number l.5,
-      )
+      let costs = skip_costs width rows (node row current true) b digits count ends is.few l in
+      let skipped = (is.are_direct current).skipped count (l.2, l.3, l.4) in
+      let behind = rest_below number (row + count) current (not ends) in
+      omega (arith, is.placed current true, is.switched.stays current, ap number l.5)
   steps_from current true (send digits bytes) b l =
       let d = is.are_direct current in
       let least = d.is_length.shortest bytes l.3 in
-      omega (
-        arith,
-        is.placed current true,
-        is.switched.stays current,
-        d.sent,
-        least,
-        count_grows d.bytes (length bytes) least (omega (arith, l.3.fits)),
-        row_costs width rows (node row current true) b digits bytes l,
-        ap number l.4,
-      )
-  steps_from current true opening b l = absurd (cc l.0)
-  steps_from current false token b l = absurd (cc l.0)
+      let grows = count_grows d.bytes (length bytes) least (omega (arith, l.3.fits)) in
+      let costs = row_costs width rows (node row current true) b digits bytes l in
+      omega (arith, is.placed current true, is.switched.stays current, d.sent, ap number l.4)
+  steps_from current is_open token b l = absurd (cc l.0)
 
   -- ---- walks from the row
 
@@ -147,12 +127,9 @@ module _ {width : ℕ} {rows : List (List ℕ)} {number : Node → ℕ} {row : �
   skip_falls current (suc zero) can = omega arith
   skip_falls current (suc (suc count)) can =
       let there : row + 1 + suc count ≡ row + suc (suc count) = omega arith in
-      omega (
-        arith,
-        skip_below width rows number (row + 1) current (next_steps current) is.few (skippable_rest rows row can),
-        ap (λ (r : ℕ). rest number r current) there,
-        count_grows (suc count) (suc (suc count)) (omega arith) (omega (arith, can.1, is.few)),
-      )
+      let below = skip_below width rows number (row + 1) current (next_steps current) is.few (skippable_rest rows row can) in
+      let grows = count_grows (suc count) (suc (suc count)) (omega arith) (omega (arith, can.1, is.few)) in
+      omega (arith, ap (λ (r : ℕ). rest number r current) there)
 
   direct_falls : (current : Method) → rest number (row + 1) current ≤ is.direct current
   direct_falls current =
@@ -166,14 +143,8 @@ module _ {width : ℕ} {rows : List (List ℕ)} {number : Node → ℕ} {row : �
       elim (is.switched.attained current) [
         | inl stays ↦ omega (arith, stays, is.placed current true, direct_falls current, opens current)
         | inr next ↦
-            omega (
-              arith,
-              next.1,
-              is.placed current true,
-              switch_below width rows number (row + 1) current (next_steps current) next.0,
-              direct_falls next.0,
-              opens current,
-            )
+            let below = switch_below width rows number (row + 1) current (next_steps current) next.0 in
+            omega (arith, next.1, is.placed current true, direct_falls next.0, opens current)
       ]
 
   -- ---- the row
@@ -181,16 +152,10 @@ module _ {width : ℕ} {rows : List (List ℕ)} {number : Node → ℕ} {row : �
   small_from : (current : Method) (is_open : Bool) → number (node row current is_open) ≤ 65544 * (length rows - row) + 1
   small_from current is_open =
       let d = is.are_direct current in
+      let behind = next_right.small (node (row + 1) current false) refl in
+      let cost_small = row_cost_small d.bytes (length_small d.is_length) in
       let low : inside number row current ≤ 65544 * (length rows - row) - 2 =
-      omega (
-        arith,
-        is.placed current true,
-        is.switched.stays current,
-        d.sent,
-        next_right.small (node (row + 1) current false) refl,
-        row_cost_small d.bytes (length_small d.is_length),
-        is.inside_page,
-      ) in
+      omega (arith, is.placed current true, is.switched.stays current, d.sent, is.inside_page) in
       elim is_open as (λ (o : Bool). number (node row current o) ≤ 65544 * (length rows - row) + 1) [
         | true ↦ omega (arith, low)
         | false ↦ omega (arith, low, opens current, is.inside_page)

@@ -53,8 +53,7 @@ module _ (width : ℕ) (rows : List (List ℕ)) (row : ℕ) (current : Method) w
 -- ---- a number inside a sequence that no step falls below
 
 -- data of fewer bytes costs less
-shorter_data : (short long : List ℕ) → length long ≤ 65535 → length short < length long
-    → row_cost (length short) < row_cost (length long)
+shorter_data : (short long : List ℕ) → length long ≤ 65535 → length short < length long → row_cost (length short) < row_cost (length long)
 shorter_data short long small less = omega (arith, count_grows (length short) (length long) (omega arith) (omega arith))
 
 module _ (width : ℕ) (rows : List (List ℕ)) (number : Node → ℕ) (row : ℕ) (current : Method)

@@ -27,11 +27,8 @@ module _ (width : ℕ) {rows : List (List ℕ)} {number : Node → ℕ} (feasibl
   step_is_least a {b} token rest l there w t =
       let below = feasible_bounds feasible b rest w in
       let step = feasible.steps a token b l in
-      let same = ap number there in (
-        omega (arith, t, below, step, same),
-        subst (λ (n : Node). Walk (Leads width rows) (Ends rows) n rest) there w,
-        omega (arith, t, below, step, same),
-      )
+      let same = ap number there in
+      (omega arith, subst (λ (n : Node). Walk (Leads width rows) (Ends rows) n rest) there w, omega arith)
 
   pub few_commands : length rows ≤ 9999 → (tokens : List Token) {row : ℕ} {current : Method} (is_open : Bool)
       → Walk (Leads width rows) (Ends rows) (node row current is_open) tokens → total cost tokens ≡ number (node row current is_open)
@@ -49,17 +46,12 @@ module _ (width : ℕ) {rows : List (List ℕ)} {number : Node → ℕ} (feasibl
       let s = step_is_least (node row current true) (method digits next ends) tokens w.1 w.1.2 w.2 t in
       let costs = switch_costs width rows (node row current true) w.0 digits next ends w.1 in
       let r = few_commands few tokens (not ends) s.1 s.2 in
+      let behind = rest_below number row next (not ends) in
       record {
         bound = omega (arith, r.behind_switch current (omega (arith, s.0, costs)));
         -- where a switch was taken first, no other one can follow
-        behind_switch = λ first h. absurd (omega (
-          arith,
-          h,
-          s.0,
-          costs,
-          switch_below width rows number row first (feasible.steps (node row first true)) next,
-          rest_below number row next (not ends),
-        ));
+        behind_switch = λ first h.
+            let below = switch_below width rows number row first (feasible.steps (node row first true)) next in absurd (omega (arith, s.0));
       }
   few_commands few (skip digits count ends ∷ tokens) {row} {current} is_open w t =
       let s = step_is_least (node row current is_open) (skip digits count ends) tokens w.1 w.1.5 w.2 t in

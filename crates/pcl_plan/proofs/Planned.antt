@@ -11,8 +11,7 @@ use Rattle.pcl_plan.specs.Plans.{StepsAndTable, IsPlan}
 use Rattle.pcl_plan.proofs.Reading.{feasible_table, least_table}
 
 pub plan_is : {width : ℕ} {rows : List (List ℕ)} {table : List RowNumbers} {steps : List Step} {plan : StepsAndTable} → plan.steps ≡ steps
-    → plan.table ≡ table → AreRightFrom width rows table 0
-    → AreLeastSteps width rows (node_number table) steps → IsPlan width rows plan
+    → plan.table ≡ table → AreRightFrom width rows table 0 → AreLeastSteps width rows (node_number table) steps → IsPlan width rows plan
 plan_is s t right are = record {
   size = rw t right.size;
   feasible = rw t (feasible_table right);

@@ -33,7 +33,7 @@ pub record IsNext (width : ℕ) (rows : List (List ℕ)) (number : Node → ℕ)
 
 not_not : (b : Bool) → b ≡ not (not b)
 not_not true = refl
-not_not false = refl
+not_not _ = refl
 
 -- ---- what was read
 
@@ -72,8 +72,7 @@ module _ {width : ℕ} {rows : List (List ℕ)} {table : List RowNumbers} (is : 
       → stays_inside step ≡ true → at.row ≤ length rows
       → rest (node_number table) (row_after row step) (method_after current step) ≡ node_number table at
   next_number step {at} p stays within =
-      rw (← p.row_is, ← p.method_is)
-      (rest_is at.method at.inside within (λ goes. (p.goes_on goes).1) (λ ended. p.ends ended stays))
+      rw (← p.row_is, ← p.method_is) (rest_is at.method at.inside within (λ goes. (p.goes_on goes).1) (λ ended. p.ends ended stays))
 
   next_is : {row : ℕ} {current : Method} (step : Step) {at : Node} → row ≤ length rows
       → IsBestStep width rows (node_number table) row current step → IsNextNode (node_number table) row current step at
@@ -93,8 +92,7 @@ module _ {width : ℕ} {rows : List (List ℕ)} {table : List RowNumbers} (is : 
   next_is {row} {current} (Switch next) {at} before best p =
       let there : at.row ≤ length rows = omega (arith, p.row_is, before) in
       let s = switch_leads width rows row current next (not at.inside) in
-      let same : node at.row at.method at.inside ≡ node row next (not (not at.inside)) =
-      cc (p.row_is, p.method_is, not_not at.inside) in
+      let same : node at.row at.method at.inside ≡ node row next (not (not at.inside)) = cc (p.row_is, p.method_is, not_not at.inside) in
       record {
         token = switch_token next (not at.inside);
         is_of = λ ends e. (refl, refl, e refl);

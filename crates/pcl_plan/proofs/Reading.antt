@@ -46,8 +46,7 @@ feasible_table {rows} {table} right = record {
 pub least_table : {width : ℕ} {rows : List (List ℕ)} {table : List RowNumbers} → AreRightFrom width rows table 0 → (a : Node)
     → a.row ≤ length rows → IsLeastCost (Leads width rows) (Ends rows) cost a (node_number table a)
 least_table {width} {rows} {table} right a within =
-    attained_is_least (feasible_table right) a
-    ((right.right a.row (omega arith) within).attained a refl)
+    attained_is_least (feasible_table right) a ((right.right a.row (omega arith) within).attained a refl)
 
 -- ---- what begins the least inside a sequence
 
@@ -83,40 +82,19 @@ module _ {width : ℕ} {rows : List (List ℕ)} {table : List RowNumbers} (is : 
       → ((next : Method) → inside (node_number table) row current ≡ switching next + rest (node_number table) row next → ⊥)
       → (bytes : List ℕ) × (row < length rows) × IsRowData current (row_above width rows row) (row_at rows row) bytes
       × (row_cost (length bytes) + outside (node_number table) (row + 1) current ≤ inside (node_number table) row current)
-  begins_with [] w t no_skip no_switch = absurd (cc w.0)
-  begins_with (opening ∷ es) w t no_skip no_switch = absurd (cc w.1.0)
   begins_with {row} {current} (method digits next ends ∷ es) w t no_skip no_switch =
-      absurd (no_switch next (omega (
-        arith,
-        t,
-        bounds w.0 es w.2,
-        ap (node_number table) w.1.2,
-        rest_below (node_number table) row next (not ends),
-        switch_costs width rows (node row current true) w.0 digits next ends w.1,
-        switch_below width rows (node_number table) row current (steps (node row current true)) next,
-      )))
+      let costs = switch_costs width rows (node row current true) w.0 digits next ends w.1 in
+      let below = switch_below width rows (node_number table) row current (steps (node row current true)) next in
+      let behind = rest_below (node_number table) row next (not ends) in
+      absurd (no_switch next (omega (arith, t, bounds w.0 es w.2, ap (node_number table) w.1.2)))
   begins_with {row} {current} (skip digits count ends ∷ es) w t no_skip no_switch =
-      absurd (omega (
-        arith,
-        t,
-        bounds w.0 es w.2,
-        ap (node_number table) w.1.5,
-        rest_below (node_number table) (row + count) current (not ends),
-        skip_costs width rows (node row current true) w.0 digits count ends (omega (arith, is.few)) w.1,
-        no_skip count (w.1.2, w.1.3, w.1.4),
-      ))
-  begins_with {row} {current} (send digits bytes ∷ es) w t no_skip no_switch = (
-    bytes,
-    w.1.2,
-    w.1.3,
-    omega (
-      arith,
-      t,
-      bounds w.0 es w.2,
-      ap (node_number table) w.1.4,
-      row_costs width rows (node row current true) w.0 digits bytes w.1,
-    ),
-  )
+      let costs = skip_costs width rows (node row current true) w.0 digits count ends (omega (arith, is.few)) w.1 in
+      let behind = rest_below (node_number table) (row + count) current (not ends) in
+      absurd (omega (arith, t, bounds w.0 es w.2, ap (node_number table) w.1.5, no_skip count (w.1.2, w.1.3, w.1.4)))
+  begins_with {row} {current} (send digits bytes ∷ es) w t no_skip no_switch =
+      let costs = row_costs width rows (node row current true) w.0 digits bytes w.1 in
+      (bytes, w.1.2, w.1.3, omega (arith, t, bounds w.0 es w.2, ap (node_number table) w.1.4))
+  begins_with es w t no_skip no_switch = absurd cc
 
   -- where no skip of some white rows and no switch begins the least, the row does, by least data
   pub row_begins : {row run least : ℕ} {current : Method} → row < length rows → IsWhiteRun rows row run
@@ -142,14 +120,8 @@ module _ {width : ℕ} {rows : List (List ℕ)} {table : List RowNumbers} (is : 
       → outside (node_number table) row current ≡ 3 + inside (node_number table) row current
   opens_with row current [] w t some = absurd (omega arith)
   opens_with row current (opening ∷ es) w t some =
-      omega (
-        arith,
-        t,
-        bounds w.0 es w.2,
-        ap (node_number table) w.1.1,
-        cost_opening,
-        steps (node row current false) opening (node row current true) (refl, refl),
-      )
+      let opened = steps (node row current false) opening (node row current true) (refl, refl) in
+      omega (arith, t, bounds w.0 es w.2, ap (node_number table) w.1.1, cost_opening)
   opens_with row current (token ∷ es) w t some = absurd (cc w.1.0)
 
   -- where the rest isn't white, a sequence is opened
@@ -166,8 +138,7 @@ module _ {width : ℕ} {rows : List (List ℕ)} {table : List RowNumbers} (is : 
   -- where the number is 0, the rest is white and no sequence is open
   pub ends : (a : Node) → a.row ≤ length rows → node_number table a ≡ 0 → Ends rows a
   ends a within none =
-      let w = (row_right a.row within).attained a refl in
-      ends_with a w.0 w.1 (w.2 ∙ none)
+      let w = (row_right a.row within).attained a refl in ends_with a w.0 w.1 (w.2 ∙ none)
 
   -- where the rest isn't white, a row is left
   pub row_left : (row : ℕ) (current : Method) → row ≤ length rows → 0 < outside (node_number table) row current → row < length rows
@@ -175,7 +146,8 @@ module _ {width : ℕ} {rows : List (List ℕ)} {table : List RowNumbers} (is : 
       elim (cases_lt row (length rows)) [
         | inl left ↦ left
         | inr past ↦
-            absurd (omega (arith, (row_right row within).ends (node row current false) refl (refl, rw (drop_of_length-le rows past) tt)))
+            let nothing = (row_right row within).ends (node row current false) refl in
+            absurd (omega (arith, nothing (refl, rw (drop_of_length-le rows past) tt)))
       ]
 
   -- where the rest isn't white, the run of white rows ends before the rows do
@@ -187,11 +159,8 @@ module _ {width : ℕ} {rows : List (List ℕ)} {table : List RowNumbers} (is : 
       (elim (cases_lt (row + run) (length rows)) [
         | inl inked ↦ inked
         | inr past ↦
-            let within : row + run ≤ length rows = white.within in
-            absurd (omega (
-              arith,
-              (row_right row (omega arith)).ends (node row current false) refl (refl, white_to_end white (omega arith)),
-            ))
+            let nothing = (row_right row (omega (arith, white.within))).ends (node row current false) refl in
+            absurd (omega (arith, nothing (refl, white_to_end white (omega (arith, white.within)))))
       ])
 
   pub small_number : (a : Node) → a.row ≤ length rows → node_number table a ≤ 655374457

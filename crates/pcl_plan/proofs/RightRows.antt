@@ -30,24 +30,14 @@ at_row P row h a e = subst (λ (r : ℕ). P (node r a.method a.inside)) (sym e) 
 pub row_stays : {width : ℕ} {rows : List (List ℕ)} {number other : Node → ℕ} {row : ℕ} → ((a : Node) → row ≤ a.row → other a ≡ number a)
     → IsRowRight width rows number row → IsRowRight width rows other row
 row_stays {width} {rows} {row} same is = record {
-  steps = λ a token b at l. omega (
-    arith,
-    is.steps a token b at l,
-    same a (omega arith),
-    same b
-        (omega (arith, leads_down width rows a token b l)),
-  );
+  steps = λ a token b at l.
+      omega (arith, is.steps a token b at l, same a (omega arith), same b (omega (arith, leads_down width rows a token b l)));
   ends = λ a at end. same a (omega arith) ∙ is.ends a at end;
   attained = λ a at. (let w = is.attained a at in (w.0, w.1, w.2 ∙ sym (same a (omega arith))));
   falls = λ current inside_page white.
-      omega (
-        arith,
-        is.falls current inside_page white,
-        same (node row current true) (omega arith),
-        same (node row current false) (omega arith),
-        same (node (row + 1) current true) (omega arith),
-        same (node (row + 1) current false) (omega arith),
-      );
+      let here = λ (is_open : Bool). same (node row current is_open) (omega arith) in
+      let next = λ (is_open : Bool). same (node (row + 1) current is_open) (omega arith) in
+      omega (arith, is.falls current inside_page white, here true, here false, next true, next false);
   small = λ a at. omega (arith, is.small a at, same a (omega arith));
 }
 
@@ -59,7 +49,7 @@ end_number false = 0
 
 end_small : (is_open : Bool) → end_number is_open ≤ 1
 end_small true = omega arith
-end_small false = omega arith
+end_small _ = omega arith
 
 pub white_row_right : {width : ℕ} {rows : List (List ℕ)} {number : Node → ℕ} {row : ℕ} → AreWhite (drop row rows)
     → ((a : Node) → a.row ≡ row → number a ≡ end_number a.inside)

@@ -1,5 +1,5 @@
 -- Which counts of rows are worth skipping.
-use Rattle.std.proofs.Common.{◌≡◌, ℕ, ◌+◌, ◌-◌, ◌^◌, ◌<◌, ◌≤◌, min, List, ap, inl, inr, arith}
+use Rattle.std.proofs.Common.{◌≡◌, ℕ, ◌+◌, ◌-◌, ◌^◌, ◌<◌, ◌≤◌, min, List, inl, inr, arith}
 use Rattle.std.proofs.lemmas.Bool.{cases_lt}
 use Rattle.pcl_base.specs.declared.method.Method.{Method}
 use Rattle.pcl_plan.specs.declared.fill.Skip.{Skip}
@@ -20,9 +20,8 @@ skip_is table row method run count skip c n some within = record { some = omega 
 
 -- the better of two
 pub better_is : {table : List RowNumbers} {row : ℕ} {method : Method} {run : ℕ} {one other best : Skip}
-    → (one.number ≤ other.number → best ≡ one) → (other.number < one.number → best ≡ other)
-    → IsSkipOf table row method run one → IsSkipOf table row method run other
-    → IsSkipOf table row method run best × (best.number ≤ one.number) × (best.number ≤ other.number)
+    → (one.number ≤ other.number → best ≡ one) → (other.number < one.number → best ≡ other) → IsSkipOf table row method run one
+    → IsSkipOf table row method run other → IsSkipOf table row method run best × (best.number ≤ one.number) × (best.number ≤ other.number)
 better_is {one} {other} first second a b =
     elim (cases_lt other.number one.number) [
       | inl less ↦ rw (second less) (b, omega arith, omega arith)
@@ -35,12 +34,8 @@ most_of : {table : List RowNumbers} {row : ℕ} (method : Method) {run : ℕ} (c
     → skipping (node_number table) row method (min run (10 ^ (k + 1) - 1)) ≤ skipping (node_number table) row method count
 most_of method {run} count k is some within above below small =
     let most : ℕ = min run (10 ^ (k + 1) - 1) in
-    omega (
-      arith,
-      is.falls method count most some (omega arith) (omega arith),
-      count_le (k + 1) most (omega arith) (omega arith),
-      count_above k count above (omega arith),
-    )
+    let same = count_le (k + 1) most (omega arith) (omega arith) in
+    omega (arith, is.falls method count most some (omega arith) (omega arith), count_above k count above (omega arith))
 
 pub least_skip_is : {table : List RowNumbers} {row : ℕ} {method : Method} {run : ℕ} {best : Skip} → IsReadable table row run
     → IsSkipOf table row method run best → best.number ≤ skipping (node_number table) row method run
@@ -49,26 +44,8 @@ pub least_skip_is : {table : List RowNumbers} {row : ℕ} {method : Method} {run
     → IsLeastSkip (node_number table) row method run best
 least_skip_is {table} {row} {method} {run} is best n4 n3 n2 n1 = record {
   bound = λ count one_row within.
-      elim (cases_lt count 10) [
-        | inl digit ↦ omega (arith, most_of method count 0 is one_row within (omega arith) (omega arith) (omega arith), n1)
-        | inr many ↦
-            elim (cases_lt count 100) [
-              | inl digits ↦ omega (arith, most_of method count 1 is one_row within (omega arith) (omega arith) (omega arith), n2)
-              | inr hundreds ↦
-                  elim (cases_lt count 1000) [
-                    | inl digits ↦
-                        omega (arith, most_of method count 2 is one_row within (omega arith) (omega arith) (omega arith), n3)
-                    | inr thousands ↦
-                        let all : min run 9999 ≡ run = omega (arith, is.within, is.few) in
-                        omega (
-                          arith,
-                          most_of method count 3 is one_row within (omega arith) (omega (arith, is.within, is.few)) (omega arith),
-                          ap (skipping (node_number table) row method) all,
-                          n4,
-                        )
-                  ]
-            ]
-      ];
+      let most = λ (k : ℕ). most_of method count k is one_row within in
+      grind (arith, most 0, most 1, most 2, most 3, is.within, is.few);
   some = best.some;
   within = best.within;
   number_is = best.number_is;

@@ -11,11 +11,8 @@ pub loop-row-init : goal.loop-row-init
 loop-row-init g c =
     let rows = c.args.rows.now in
     let count = length_rows rows.count rows.width rows.bytes.now in
-    let put : IsPut c.args.table.now c.put.new.self rows.count c.at_end.result = record {
-      size = c.put.ensures.rows;
-      changed = c.put.ensures.changed;
-      others = c.put.ensures.others;
-    } in
+    let put : IsPut c.args.table.now c.put.new.self rows.count c.at_end.result =
+    record { size = c.put.ensures.rows; changed = c.put.ensures.changed; others = c.put.ensures.others } in
     record {
       right = put_last (sym count) (omega (arith, c.requires, count)) (rw c.at_end.ensures at put)
           (no_rows rows.count rows.count rows.width rows.bytes.now (omega arith));
@@ -39,8 +36,7 @@ loop-row-preserved g c =
       right = elim c.if-row-run.branch [
         | then-row-run w ↦
             let inside : row < length (rows_of rows) = omega (arith, count, c.loop-row-test.true, c.loop-row.auto.row) in
-            put_white inside (rw (w.numbers-is, w.at_end-numbers.ensures) at put) behind
-            (white_to_end run (w.if-row-run.true ∙ sym count))
+            put_white inside (rw (w.numbers-is, w.at_end-numbers.ensures) at put) behind (white_to_end run (w.if-row-run.true ∙ sym count))
         | else-row-run w ↦
             let ink : row + c.white_run-run.result < length (rows_of rows) = omega
             (arith, count, w.if-row-run.false, c.white_run-run.ensures.within) in

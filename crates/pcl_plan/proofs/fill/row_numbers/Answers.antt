@@ -27,12 +27,8 @@ least_starts-requires-clause-bytes g c = λ method. length_small (c.least_length
 pub from_direct-requires : goal.from_direct-requires
 from_direct-requires g c = λ method.
     let is = readable_rows c.args.rows.now c.requires.right c.requires.run c.requires.ink in
-    omega (
-      arith,
-      (c.least_starts.ensures method).sent,
-      row_cost_small (by_method c.least_lengths-bytes.result method) (length_small (c.least_lengths-bytes.ensures method)),
-      is.small (node (c.args.row + 1) method false) (omega arith) is.next,
-    )
+    let cost_small = row_cost_small (by_method c.least_lengths-bytes.result method) (length_small (c.least_lengths-bytes.ensures method)) in
+    omega (arith, (c.least_starts.ensures method).sent, is.small (node (c.args.row + 1) method false) (omega arith) is.next)
 
 pub returns : goal.returns
 returns g c = record {

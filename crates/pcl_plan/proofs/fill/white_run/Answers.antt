@@ -5,21 +5,16 @@ use Rattle.pcl_output.proofs.WhiteRows.{run_more, run_none}
 use Rattle.pcl_plan.proofs.fill.white_run.Goals as goal
 
 pub overflow_add-result : goal.overflow_add-result
-overflow_add-result c = let rows = c.args.rows.now in omega (
-  arith,
-  c.requires.below.within,
-  length_rows rows.count rows.width
-      rows.bytes.now,
-  rows.few,
-)
+overflow_add-result c =
+    let rows = c.args.rows.now in
+    omega (arith, c.requires.below.within, length_rows rows.count rows.width rows.bytes.now, rows.few)
 
 pub returns-then-is_white : goal.returns-then-is_white
 returns-then-is_white c =
     let rows = c.args.rows.now in
     let count = length_rows rows.count rows.width rows.bytes.now in
     record {
-      run = run_more (omega (arith, c.requires.row, count)) c.requires.below
-          (c.is_white.ensures.0 c.if-is_white.true);
+      run = run_more (omega (arith, c.requires.row, count)) c.requires.below (c.is_white.ensures.0 c.if-is_white.true);
       within = omega (arith, c.requires.below.within, count);
     }
 

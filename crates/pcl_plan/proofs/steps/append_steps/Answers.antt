@@ -8,13 +8,9 @@ pub best_step-step-requires-clause-row : goal.best_step-step-requires-clause-row
 best_step-step-requires-clause-row g c =
     let rows = c.args.rows.now in
     let node = c.loop-node.node in
-    let r = c.loop-node.invariant in
-    let ink = r.inked (omega (arith, c.loop-node-test.true, c.number.ensures)) in
-    omega (
-      arith,
-      row_left (right_table rows c.requires.right) node.row node.method r.within ink,
-      length_rows rows.count rows.width rows.bytes.now,
-    )
+    let ink = c.loop-node.invariant.inked (omega (arith, c.loop-node-test.true, c.number.ensures)) in
+    let left = row_left (right_table rows c.requires.right) node.row node.method c.loop-node.invariant.within ink in
+    omega (arith, length_rows rows.count rows.width rows.bytes.now)
 
 pub next_node-node-requires-clause-row : goal.next_node-node-requires-clause-row
 next_node-node-requires-clause-row g c =
@@ -34,5 +30,4 @@ loop-node-preserved g c =
 
 pub returns : goal.returns
 returns g c =
-    read_all (right_table c.args.rows.now c.requires.right) c.loop-node.invariant
-    (omega (arith, c.loop-node-test.false, c.number.ensures))
+    read_all (right_table c.args.rows.now c.requires.right) c.loop-node.invariant (omega (arith, c.loop-node-test.false, c.number.ensures))
