@@ -40,8 +40,7 @@ walk_more width {b} token l w e = (token ∷ w.0, (b, l, w.1), omega (arith, w.2
 skippable_rest : (rows : List (List ℕ)) (row : ℕ) {count : ℕ} → AreSkippable rows row (suc (suc count))
     → AreSkippable rows (row + 1) (suc count)
 skippable_rest rows row {count} can =
-    let white = rw (drop_more rows row [] (omega (arith, can.1))) at can.2 in
-    (omega arith, omega (arith, can.1), white.1)
+    let white = rw (drop_more rows row [] (omega (arith, can.1))) at can.2 in (omega arith, omega (arith, can.1), white.1)
 
 module _ {width : ℕ} {rows : List (List ℕ)} {number : Node → ℕ} {row : ℕ} (is : IsInkedRow width rows number row) where
   -- ---- tokens from the row

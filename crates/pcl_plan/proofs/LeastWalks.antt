@@ -27,8 +27,7 @@ module _ (width : ℕ) {rows : List (List ℕ)} {number : Node → ℕ} (feasibl
   step_is_least a {b} token rest l there w t =
       let below = feasible_bounds feasible b rest w in
       let step = feasible.steps a token b l in
-      let same = ap number there in
-      (omega arith, subst (λ (n : Node). Walk (Leads width rows) (Ends rows) n rest) there w, omega arith)
+      let same = ap number there in (omega arith, subst (λ (n : Node). Walk (Leads width rows) (Ends rows) n rest) there w, omega arith)
 
   pub few_commands : length rows ≤ 9999 → (tokens : List Token) {row : ℕ} {current : Method} (is_open : Bool)
       → Walk (Leads width rows) (Ends rows) (node row current is_open) tokens → total cost tokens ≡ number (node row current is_open)

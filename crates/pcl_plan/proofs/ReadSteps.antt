@@ -74,44 +74,39 @@ module _ {width : ℕ} {rows : List (List ℕ)} {table : List RowNumbers} (is : 
   next_number step {at} p stays within =
       rw (← p.row_is, ← p.method_is) (rest_is at.method at.inside within (λ goes. (p.goes_on goes).1) (λ ended. p.ends ended stays))
 
+  next_by : {row : ℕ} {current : Method} {step : Step} {at there : Node} (token : Token) → node at.row at.method at.inside ≡ there
+      → at.row ≤ length rows → Leads width rows (node row current true) token there
+      → inside (node_number table) row current ≡ cost token + node_number table at
+      → ((ends : Bool) → (stays_inside step ≡ true → not at.inside ≡ ends) → IsTokenOf step ends token)
+      → IsNext width rows (node_number table) row current step at
+  next_by {row} {current} token same within leads number_is is_of = record {
+    token = token;
+    is_of = is_of;
+    leads = subst (Leads width rows (node row current true) token) (sym same) leads;
+    number_is = number_is;
+    within = within;
+  }
+
   next_is : {row : ℕ} {current : Method} (step : Step) {at : Node} → row ≤ length rows
       → IsBestStep width rows (node_number table) row current step → IsNextNode (node_number table) row current step at
       → IsNext width rows (node_number table) row current step at
   next_is {row} {current} (Skip count) {at} before best p =
       let there : at.row ≤ length rows = omega (arith, p.row_is, best.0.1) in
       let s = skip_leads width rows row current (not at.inside) (omega (arith, is.few)) best.0 in
-      let same : node at.row at.method at.inside ≡ node (row + count) current (not (not at.inside)) =
-      cc (p.row_is, p.method_is, not_not at.inside) in
-      record {
-        token = skip_token count (not at.inside);
-        is_of = λ ends e. (refl, refl, e refl);
-        leads = subst (Leads width rows (node row current true) (skip_token count (not at.inside))) (sym same) s.0;
-        number_is = omega (arith, best.1, s.1, next_number (Skip count) p refl there);
-        within = there;
-      }
+      next_by (skip_token count (not at.inside)) (cc (p.row_is, p.method_is, not_not at.inside)) there s.0
+      (omega (arith, best.1, s.1, next_number (Skip count) p refl there)) (λ ends e. (refl, refl, e refl))
   next_is {row} {current} (Switch next) {at} before best p =
       let there : at.row ≤ length rows = omega (arith, p.row_is, before) in
       let s = switch_leads width rows row current next (not at.inside) in
-      let same : node at.row at.method at.inside ≡ node row next (not (not at.inside)) = cc (p.row_is, p.method_is, not_not at.inside) in
-      record {
-        token = switch_token next (not at.inside);
-        is_of = λ ends e. (refl, refl, e refl);
-        leads = subst (Leads width rows (node row current true) (switch_token next (not at.inside))) (sym same) s.0;
-        number_is = omega (arith, best, s.1, next_number (Switch next) p refl there);
-        within = there;
-      }
+      next_by (switch_token next (not at.inside)) (cc (p.row_is, p.method_is, not_not at.inside)) there s.0
+      (omega (arith, best, s.1, next_number (Switch next) p refl there)) (λ ends e. (refl, refl, e refl))
   next_is {row} {current} (Row bytes) {at} before best p =
       let whole = best.1.attained in
       let s = row_leads width rows row current whole.0 best.0 whole.1 in
       let closed : at.inside ≡ false = false_from_ne_true at.inside (λ goes. cc ((p.goes_on goes).0)) in
       let same : node at.row at.method at.inside ≡ node (row + 1) current false = cc (p.row_is, p.method_is, closed) in
-      record {
-        token = row_token whole.0;
-        is_of = λ ends e. (whole.2, ap least_spelling whole.2);
-        leads = subst (Leads width rows (node row current true) (row_token whole.0)) (sym same) s.0;
-        number_is = omega (arith, best.2, ap (node_number table) same, s.1, ap row_cost whole.2);
-        within = omega (arith, p.row_is, best.0);
-      }
+      next_by (row_token whole.0) same (omega (arith, p.row_is, best.0)) s.0
+      (omega (arith, best.2, ap (node_number table) same, s.1, ap row_cost whole.2)) (λ ends e. (whole.2, ap least_spelling whole.2))
 
   -- a sequence is opened where none is open
   opened_walk : {row : ℕ} (current : Method) (is_open : Bool) (tokens : List Token) → row ≤ length rows
@@ -177,11 +172,8 @@ module _ {width : ℕ} {rows : List (List ℕ)} {table : List RowNumbers} (is : 
             let f = followed next.within p none others in
             let o = opened_walk at.method at.inside (next.token ∷ tail) r.within (r.inked some) (behind, next.leads, walk)
             (omega (arith, t, next.number_is)) in
-            rw (
-              append_assoc steps (step ∷ []) more,
-              append_assoc r.tokens (opened at.inside (next.token ∷ [])) tail,
-              ← opened_more at.inside next.token tail,
-            )
+            let spelled = append_assoc r.tokens (opened at.inside (next.token ∷ [])) tail in
+            rw (append_assoc steps (step ∷ []) more, spelled, ← opened_more at.inside next.token tail)
             (r.goes_on (step ∷ more) (opened at.inside (next.token ∷ tail)) (λ zero. absurd (omega (arith, zero, some))) (λ _. refl)
             (next.token, tail, next.is_of (is_last more) f, refl, spells_followed more tail f p spells) o.0 o.1);
       }

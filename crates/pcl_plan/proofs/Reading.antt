@@ -128,8 +128,7 @@ module _ {width : ℕ} {rows : List (List ℕ)} {table : List RowNumbers} (is : 
   pub opens : {row : ℕ} (current : Method) → row ≤ length rows → 0 < outside (node_number table) row current
       → outside (node_number table) row current ≡ 3 + inside (node_number table) row current
   opens {row} current within some =
-      let w = (row_right row within).attained (node row current false) refl in
-      opens_with row current w.0 w.1 w.2 some
+      let w = (row_right row within).attained (node row current false) refl in opens_with row current w.0 w.1 w.2 some
 
   ends_with : (a : Node) (es : List Token) → Walk (Leads width rows) (Ends rows) a es → total cost es ≡ 0 → Ends rows a
   ends_with a [] w t = w

@@ -44,8 +44,7 @@ pub least_skip_is : {table : List RowNumbers} {row : ℕ} {method : Method} {run
     → IsLeastSkip (node_number table) row method run best
 least_skip_is {table} {row} {method} {run} is best n4 n3 n2 n1 = record {
   bound = λ count one_row within.
-      let most = λ (k : ℕ). most_of method count k is one_row within in
-      grind (arith, most 0, most 1, most 2, most 3, is.within, is.few);
+      let most = λ (k : ℕ). most_of method count k is one_row within in grind (arith, most 0, most 1, most 2, most 3, is.within, is.few);
   some = best.some;
   within = best.within;
   number_is = best.number_is;

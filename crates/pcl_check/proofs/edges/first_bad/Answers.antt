@@ -57,13 +57,11 @@ module _ {rows : List (List ℕ)} {ends : List ℕ} (number : Node → ℕ) (met
 
   start_of_outside : IsGoodOutside rows number method row → IsGoodStart ends number method row
   start_of_outside good =
-      let is = are.runs row (omega arith) le in
-      (good.opens, λ end. good.ends (white_to_end is.1 (omega (arith, is.0, end, are.size))))
+      let is = are.runs row (omega arith) le in (good.opens, λ end. good.ends (white_to_end is.1 (omega (arith, is.0, end, are.size))))
 
   skips_of_ends : AreGoodSkipsTo ends number method row → AreGoodSkips rows number method row
   skips_of_ends good = λ count inside some within white.
-      let is = are.runs row (omega arith) le in
-      good count inside some (omega (arith, skippable_within is.1 (some, within, white), is.0))
+      let is = are.runs row (omega arith) le in good count inside some (omega (arith, skippable_within is.1 (some, within, white), is.0))
 
   ends_of_skips : AreGoodSkips rows number method row → AreGoodSkipsTo ends number method row
   ends_of_skips good = λ count inside some within.

@@ -90,8 +90,7 @@ other_page {picture} start begun may only is =
     let body = body_at start begun (record { few = is.few_copies; text_is = printed.1 }) printed.2 in
     let same : all ≡ only.rows = only.only all body.2 in
     let front : only.rows ≡ take (length only.rows) all = rw (sym same) (sym (take_all (length all) all (omega arith))) in
-    let yes : false ≡ true = only.same.1 (may.1 (body.1, body.0), front) in
-    cc
+    let yes : false ≡ true = only.same.1 (may.1 (body.1, body.0), front) in cc
 
 -- the start is that of the page where size and copies are
 may_by_size : (page : Page) (start : Start) {test may_be : Bool} → test ≡ sameb the_type start.size page.size → test ≡ false → may_be ≡ test

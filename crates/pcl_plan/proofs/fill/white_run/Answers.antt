@@ -6,8 +6,7 @@ use Rattle.pcl_plan.proofs.fill.white_run.Goals as goal
 
 pub overflow_add-result : goal.overflow_add-result
 overflow_add-result c =
-    let rows = c.args.rows.now in
-    omega (arith, c.requires.below.within, length_rows rows.count rows.width rows.bytes.now, rows.few)
+    let rows = c.args.rows.now in omega (arith, c.requires.below.within, length_rows rows.count rows.width rows.bytes.now, rows.few)
 
 pub returns-then-is_white : goal.returns-then-is_white
 returns-then-is_white c =

@@ -14,8 +14,7 @@ best_step-step-requires-clause-row g c =
 
 pub next_node-node-requires-clause-row : goal.next_node-node-requires-clause-row
 next_node-node-requires-clause-row g c =
-    let rows = c.args.rows.now in
-    omega (arith, c.loop-node.invariant.within, length_rows rows.count rows.width rows.bytes.now, rows.few)
+    let rows = c.args.rows.now in omega (arith, c.loop-node.invariant.within, length_rows rows.count rows.width rows.bytes.now, rows.few)
 
 pub loop-node-smaller : goal.loop-node-smaller
 loop-node-smaller g c =

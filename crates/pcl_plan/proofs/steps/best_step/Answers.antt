@@ -22,8 +22,7 @@ beginning_skip-requires-clause-least g c = λ count some within.
 
 pub returns-in-Some : goal.returns-in-Some
 returns-in-Some g c =
-    let some = c.in-Some.ensures.some in
-    (skippable c.white_run-run.ensures.run some.0 some.1, sym c.number-least.ensures ∙ some.2)
+    let some = c.in-Some.ensures.some in (skippable c.white_run-run.ensures.run some.0 some.1, sym c.number-least.ensures ∙ some.2)
 
 pub number-sent-requires : goal.number-sent-requires
 number-sent-requires g c = omega (arith, c.requires.right.size, inside_page c.args.rows.now c.requires.row)
@@ -43,8 +42,7 @@ pub overflow_cast-result-in_default-beginning_switch : goal.overflow_cast-result
 overflow_cast-result-in_default-beginning_switch g c =
     let row = row_begins (right_table c.args.rows.now c.requires.right) (inside_page c.args.rows.now c.requires.row)
     c.white_run-run.ensures.run c.number-least.ensures c.in_default.ensures.none c.in_default-beginning_switch.ensures.none in
-    let small = length_small row.1 in
-    omega (arith, small, c.data_len.ensures row.0 small (omega (arith, row.2, c.number-sent.ensures)))
+    let small = length_small row.1 in omega (arith, small, c.data_len.ensures row.0 small (omega (arith, row.2, c.number-sent.ensures)))
 
 pub returns-in_default-beginning_switch : goal.returns-in_default-beginning_switch
 returns-in_default-beginning_switch g c =

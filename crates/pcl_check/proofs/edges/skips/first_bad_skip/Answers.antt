@@ -36,8 +36,7 @@ all_digits number method {row = row} are le good = λ same here count inside som
     let one = good.0.0 same here count inside some in
     let two = good.0.1 same here count inside some in
     let three = good.1.0 same here count inside some in
-    let four = good.1.1 same here count inside some in
-    grind (arith, count_is 0 count, count_is 1 count, count_is 2 count, count_is 3 count)
+    let four = good.1.1 same here count inside some in grind (arith, count_is 0 count, count_is 1 count, count_is 2 count, count_is 3 count)
 
 pub returns : goal.returns
 returns c =

@@ -26,8 +26,7 @@ painted size dpi method above bytes row true makes pads =
     ((makes.width, pads.0 refl), record { whole = makes.whole; decodes = makes.decodes; fits = makes.fits })
 painted size dpi method above bytes row false makes pads = λ other is made.
     let same : other ≡ row = decoded_is method above bytes other made.decodes ∙ sym (decoded_is method above bytes row makes.decodes) in
-    let yes : false ≡ true = pads.1 (subst (HasClearPads size dpi) same is.1) in
-    cc
+    let yes : false ≡ true = pads.1 (subst (HasClearPads size dpi) same is.1) in cc
 
 pub returns-then-is_whole : goal.returns-then-is_whole
 returns-then-is_whole c =

@@ -22,8 +22,7 @@ least_of_page page {method} {seed} {row} {y} {least} lt s r is =
     rw (sym page.size_is, sym page.dpi_is, sym s, bytes, sym r) is
 
 pub returns-clause-counts : goal.returns-clause-counts
-returns-clause-counts c =
-    least_of_page c.args.page.now c.requires.row c.row_above-seed.ensures.row c.row.ensures.bytes c.least.ensures
+returns-clause-counts c = least_of_page c.args.page.now c.requires.row c.row_above-seed.ensures.row c.row.ensures.bytes c.least.ensures
 
 pub returns-clause-alone : goal.returns-clause-alone
 returns-clause-alone c = λ bytes is.
