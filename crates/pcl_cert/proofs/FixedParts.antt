@@ -1,5 +1,5 @@
 -- The length of the fixed part of a page text.
-use Rattle.std.proofs.Common.{◌≡◌, ℕ, ◌+◌, ◌/◌, ◌%◌, ◌<◌, ◌≤◌, [], ◌∷◌, ◌++◌, length, refl, ap, ◌∙◌, arith, lit≤}
+use Rattle.std.proofs.Common.{◌≡◌, ◌++◌, ℕ, ◌+◌, ◌/◌, ◌%◌, ◌<◌, ◌≤◌, [], ◌∷◌, length, refl, ap, ◌∙◌, arith, lit≤}
 use Rattle.std.specs.Prelude.{decimal}
 use Rattle.std.specs.Fmt.{digits}
 use Rattle.std.proofs.lemmas.Fmt.{decimal_digit, decimal_step}
@@ -9,10 +9,10 @@ use Rattle.pcl_base.specs.declared.dpi.Dpi.TheVariants.{Dpi300, Dpi600}
 use Rattle.pcl_base.specs.declared.size.Size.{Size}
 use Rattle.pcl_base.specs.declared.size.Size.TheVariants.{Executive, Letter, Legal, A4}
 use Rattle.pcl_base.specs.Size.{code_of}
-use Rattle.pcl_output.specs.Tokens.{start_bytes}
 use Rattle.pcl_output.specs.LeastTexts.{fixed_bytes}
 use Rattle.pcl_check.specs.inner.Reading.{raster_start}
 use Rattle.pcl_check.proofs.Beginnings.{start_is}
+use Rattle.pcl_output.specs.Tokens.{start_bytes}
 
 raster_length : (size : Size) (dpi : Dpi) → length (raster_start size dpi) ≡ 26
 unfolding digits
@@ -36,19 +36,11 @@ two_digits {n} le lt =
 pub fixed_length : (dpi : Dpi) (size : Size) (copies : ℕ) → fixed_bytes dpi size copies
     ≡ 36 + length (decimal copies) + length (decimal (code_of size))
 fixed_length dpi size copies =
+    let code = length-append (decimal (code_of size)) (97 ∷ (raster_start size dpi ++ [])) in
+    let both = length-append (decimal copies) (120 ∷ (decimal (code_of size) ++ 97 ∷ (raster_start size dpi ++ []))) in
     let whole = ap length (start_is dpi copies size []) in
-    omega (
-      arith,
-      whole,
-      length-append (start_bytes dpi copies size) [],
-      length-append (decimal copies) (120 ∷ (decimal (code_of size) ++ 97 ∷ (raster_start size dpi ++ []))),
-      length-append (decimal (code_of size)) (97 ∷ (raster_start size dpi ++ [])),
-      length-append (raster_start size dpi) [],
-      raster_length size dpi,
-    )
+    omega (arith, length-append (start_bytes dpi copies size) [], length-append (raster_start size dpi) [], raster_length size dpi)
 
 pub code_some : (size : Size) → 1 ≤ code_of size
 code_some Executive = lit≤ tt
-code_some Letter = lit≤ tt
-code_some Legal = lit≤ tt
-code_some A4 = lit≤ tt
+code_some _ = lit≤ tt

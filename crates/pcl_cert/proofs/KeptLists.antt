@@ -36,13 +36,9 @@ table_length n list = omega (arith, length-take {A = ℕ}, length-append {A = �
 
 pub table_number : {n : ℕ} (list : List ℕ) {k : ℕ} → k < n → get_or (table_of n list) k 0 ≡ get_or list k 0
 table_number {n} list {k} lt =
-    get_or-take n (list ++ replicate n 0) k 0 lt ∙ elim (cases_lt k (length list)) [
-      | inl within ↦ get_or_append_left list (replicate n 0) 0 k within
-      | inr past ↦
-          let place : k - length list < n = omega arith in
-          get_or-append_right list (replicate n 0) (length list) k 0 refl past ∙ get_or-replicate n (k - length list) 0 0 place
-          ∙ sym (get_or_past list k 0 past)
-    ]
+    let front = get_or_append_left list (replicate n 0) 0 k in
+    let behind = get_or-append_right list (replicate n 0) (length list) k 0 refl in
+    grind (arith, get_or-take n (list ++ replicate n 0) k 0 lt, get_or-replicate {A = ℕ} n (k - length list) 0 0, get_or_past list k 0)
 
 -- ---- numbers without the zeros at their end
 
@@ -52,9 +48,8 @@ end_of_front (n ∷ numbers) zero within = refl
 end_of_front (n ∷ []) (suc k) within = absurd (omega arith)
 end_of_front (n ∷ m ∷ numbers) (suc k) within = end_of_front (m ∷ numbers) k (omega arith)
 
-pub trimmed_is : {numbers : List ℕ} {len : ℕ} → len ≤ length numbers
-    → ((k : ℕ) → len ≤ k → k < length numbers → get_or numbers k 0 ≡ 0) → (0 < len → nat_eq (get_or numbers (len - 1) 0) 0 ≡ false)
-    → IsTrimmed numbers (take len numbers)
+pub trimmed_is : {numbers : List ℕ} {len : ℕ} → len ≤ length numbers → ((k : ℕ) → len ≤ k → k < length numbers → get_or numbers k 0 ≡ 0)
+    → (0 < len → nat_eq (get_or numbers (len - 1) 0) 0 ≡ false) → IsTrimmed numbers (take len numbers)
 trimmed_is {numbers} {len} within zeros ends = record {
   len = len;
   within = within;
@@ -73,10 +68,9 @@ pub table_of_trimmed : {numbers list : List ℕ} → IsTrimmed numbers list → 
 table_of_trimmed {numbers} {list} is =
     ext_get_or 0 (table_of (length numbers) list) numbers (table_length (length numbers) list) (λ k lt.
     let in_numbers : k < length numbers = omega (arith, table_length (length numbers) list) in
-    table_number list in_numbers ∙ ap (λ (l : List ℕ). get_or l k 0) is.front ∙ elim (cases_lt k is.len) [
-      | inl within ↦ get_or-take is.len numbers k 0 within
-      | inr past ↦ get_or_past (take is.len numbers) k 0 (omega (arith, length-take is.len numbers)) ∙ sym (is.zeros k past in_numbers)
-    ])
+    let front = get_or-take is.len numbers k 0 in
+    let past = get_or_past (take is.len numbers) k 0 in
+    grind (arith, table_number list in_numbers, is.front, length-take is.len numbers, is.zeros k))
 
 -- ---- a list more
 
@@ -107,8 +101,7 @@ lists_stay : (bytes more starts : List ℕ) → AllByRecursion (IsListAt bytes) 
 lists_stay bytes more [] whole = (refl, tt)
 lists_stay bytes more (start ∷ starts) whole =
     let first = list_stays {more = more} whole.0 in
-    let others = lists_stay bytes more starts whole.1 in
-    (rw (first.same, others.0) refl, (first.whole, others.1))
+    let others = lists_stay bytes more starts whole.1 in (rw (first.same, others.0) refl, (first.whole, others.1))
 
 list_at_front : {list : List ℕ} → length list < 2 ^ 16 → AllByRecursion (λ n. n < 2 ^ 16) list
     → (count_of (list_bytes list) ≡ length list) × (list_from (list_bytes list) ≡ list)
@@ -118,9 +111,8 @@ list_at_front {list} few small =
 
 small_front : (numbers : List ℕ) (len : ℕ) → ((k : ℕ) → get_or numbers k 0 < 2 ^ 16) → AllByRecursion (λ n. n < 2 ^ 16) (take len numbers)
 small_front [] zero small = tt
-small_front [] (suc len) small = tt
-small_front (n ∷ numbers) zero small = tt
 small_front (n ∷ numbers) (suc len) small = (small 0, small_front numbers len (λ k. small (suc k)))
+small_front numbers len small = tt
 
 pub list_more : {old new : Lists} {numbers list : List ℕ} → AreWhole old → length numbers < 2 ^ 16
     → ((k : ℕ) → get_or numbers k 0 < 2 ^ 16) → IsTrimmed numbers list → new.bytes.items ≡ old.bytes.items ++ list_bytes list
@@ -135,18 +127,12 @@ list_more {old} {new} {numbers} {list} whole few small is bytes_are starts_are =
     let there : drop start (bytes ++ text) ≡ text = drop_at bytes text start refl in
     let stay = lists_stay bytes text old.starts.items whole in
     let text_size : length text ≡ 2 + 2 * length list = omega (arith, text_len list) in
+    let placed = map_push (λ (s : ℕ). list_from (drop s (bytes ++ text))) old.starts.items start in
     record {
       list = list;
       trimmed = is;
       small = small_list;
-      lists = rw (
-        bytes_are,
-        starts_are,
-        map_push (λ (s : ℕ). list_from (drop s (bytes ++ text))) old.starts.items start,
-        stay.0,
-        there,
-        at_front.1,
-      ) refl;
+      lists = rw (bytes_are, starts_are, placed, stay.0, there, at_front.1);
       whole = rw (bytes_are, starts_are) (all_both (IsListAt (bytes ++ text)) old.starts.items (start ∷ []) stay.1
           (record { whole = rw there (omega (arith, at_front.0, length-append bytes text, text_size)) }, tt));
     }
@@ -154,8 +140,7 @@ list_more {old} {new} {numbers} {list} whole few small is bytes_are starts_are =
 -- ---- a row's list more
 
 pub row_more : {method : Method} {seed row : List ℕ} {old new : Lists} {numbers : List ℕ} → length seed ≡ length row
-    → IsLeastTable method seed row numbers → HasListMore old new numbers
-    → HasRowMore method seed row old new
+    → IsLeastTable method seed row numbers → HasListMore old new numbers → HasRowMore method seed row old new
 row_more {method} {seed} {row} {numbers} same least more =
     let is = more.trimmed in
     let list : List ℕ = more.list in
@@ -230,17 +215,13 @@ one_row_more {width} {rows} {done} {old} {new} holds wide more =
         | inr le ↦
             let last : y ≡ done = omega arith in
             let place : 4 * y + method_code method - 4 * done ≡ method_code method = omega arith in
-            rw (
-              get_or-append_right (listed old) four (4 * done) (4 * y + method_code method) [] before (omega arith),
-              place,
-              last,
-            ) (rw wide at (four_least more method))
+            let behind = get_or-append_right (listed old) four (4 * done) (4 * y + method_code method) [] before (omega arith) in
+            rw (behind, place, last) (rw wide at (four_least more method))
       ]);
     }
 
 -- all rows are there
-pub all_rows : (picture : Picture) {done : ℕ} {lists : Lists} → HoldsRowsOf picture done lists
-    → done ≡ page_height picture.size picture.dpi
+pub all_rows : (picture : Picture) {done : ℕ} {lists : Lists} → HoldsRowsOf picture done lists → done ≡ page_height picture.size picture.dpi
     → AreLeastTables (page_row_bytes picture.size picture.dpi) (bitmap_rows picture) (listed lists)
 all_rows picture {lists} holds all =
     let count : length (bitmap_rows picture) ≡ page_height picture.size picture.dpi =

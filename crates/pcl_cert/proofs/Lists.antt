@@ -60,8 +60,7 @@ pub record IsFound (most : ℕ) (bytes : List ℕ) (numbers rest : List ℕ) : T
   pub few : count_of bytes ≤ most
   pub ends : ends_in_zero numbers ≡ false
 
-pub list_found : {most : ℕ} {bytes numbers rest : List ℕ} → list_at most bytes ≡ Ok (numbers, rest)
-    → IsFound most bytes numbers rest
+pub list_found : {most : ℕ} {bytes numbers rest : List ℕ} → list_at most bytes ≡ Ok (numbers, rest) → IsFound most bytes numbers rest
 unfolding list_at
 list_found {most} {bytes} {numbers} {rest} e =
     let long = (passed (nat_lt (length bytes) 2) Short (step_ok (uint_at w16 bytes) e).1).0 in
@@ -92,8 +91,7 @@ pub next_list : {count most done : ℕ} {bytes rest starts : List ℕ} (numbers 
 next_list {count} {most} {done} {bytes} {rest} {starts} numbers after lt read stands =
     let start : ℕ = length bytes - length rest in
     let found = list_found read in
-    let taken : length after ≡ length rest - (2 + 2 * count_of rest) =
-    ap length found.rest_is ∙ length-drop (2 + 2 * count_of rest) rest in
+    let taken : length after ≡ length rest - (2 + 2 * count_of rest) = ap length found.rest_is ∙ length-drop (2 + 2 * count_of rest) rest in
     let place : start + (2 + 2 * count_of rest) ≡ length bytes - length after = omega (arith, taken, found.whole, stands.within) in
     record {
       read = rw (map_push (λ (s : ℕ). list_from (drop s bytes)) starts start, ← stands.suffix, ← found.numbers_are)

@@ -47,14 +47,8 @@ list_again {most} {numbers} {rest} few is =
     let short : nat_lt most count ≡ false = le-ltb _ _ is.short in
     let there : nat_lt (length (text ++ rest)) (2 * count) ≡ false =
     le-ltb _ _ (omega (arith, length-append text rest, text_len numbers)) in
-    rw (
-      (number_spells two_bytes).again count (text ++ rest) (omega (arith, is.short)),
-      short,
-      there,
-      numbers_again numbers rest is.small,
-      is.ends,
-      drop_at text rest (2 * count) (text_len numbers),
-    ) refl
+    let head = (number_spells two_bytes).again count (text ++ rest) (omega (arith, is.short)) in
+    rw (head, short, there, numbers_again numbers rest is.small, is.ends, drop_at text rest (2 * count) (text_len numbers))
 
 pub list_spells : {most : ℕ} → most < 2 ^ 16 → Spells (list_at most) list_bytes (IsList most)
 list_spells few = record {
@@ -83,8 +77,7 @@ two_again : (rows : ℕ) {most : ℕ} → most < 2 ^ 16 → (places : Option (Li
 unfolding places_at
 two_again rows few None rest is = absurd is
 two_again rows {most} few (Some lists) rest is =
-    let spell = many_spell (lists_are_many most) (list_spells few) (4 * rows) in
-    rw (spell.again lists rest is) refl
+    let spell = many_spell (lists_are_many most) (list_spells few) (4 * rows) in rw (spell.again lists rest is) refl
 
 pub places_spell : (format : Format) (rows : ℕ) {most : ℕ} → most < 2 ^ 16
     → Spells (places_at format rows most) lists_bytes (HasLists format rows most)
@@ -97,7 +90,6 @@ places_spell Two rows {most} few =
     let lists = many_spell (lists_are_many most) (list_spells few) (4 * rows) in
     record {
       found = λ bytes x are e.
-          let a = step_ok (lists_at (4 * rows) most bytes) e in
-          rw (← same_ok a.2) (lists.found bytes a.0 are a.1);
+          let a = step_ok (lists_at (4 * rows) most bytes) e in rw (← same_ok a.2) (lists.found bytes a.0 are a.1);
       again = two_again rows few;
     }

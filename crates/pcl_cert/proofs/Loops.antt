@@ -2,7 +2,7 @@
 use Rattle.std.proofs.Common.{◌≡◌, ℕ, suc, ◌+◌, ◌-◌, ◌<◌, ◌≤◌, List, [], ◌∷◌, ◌++◌, Result, Ok, Err, refl, sym, ap, ◌∙◌, append_assoc, arith}
 use Rattle.std.proofs.lemmas.List.{append-nil}
 use Rattle.pcl_cert.specs.declared.fault.CertFault.{CertFault}
-use Rattle.pcl_cert.specs.declared.fault.CertFault.TheVariants.{BadMagic, Short, Extra, Rows, Places, Memory}
+use Rattle.pcl_cert.specs.declared.fault.CertFault.TheVariants.{Memory}
 use Rattle.pcl_cert.specs.ReadingCertificates.{◌>>=◌, Fails}
 
 -- what reads one thing
@@ -41,11 +41,7 @@ begins {many} {count} {bytes} =
 pub fails_same : {X Y : Type 0} (fault : CertFault) {read : Result X CertFault} {later : Result Y CertFault}
     → (read ≡ Err fault → later ≡ Err fault) → Fails fault read → Fails fault later
 fails_same Memory same e = tt
-fails_same BadMagic same e = same e
-fails_same Short same e = same e
-fails_same Extra same e = same e
-fails_same Rows same e = same e
-fails_same Places same e = same e
+fails_same _ same e = same e
 
 module _ {X : Type 0} {one : Reader X} {many : ℕ → Reader (List X)} {count done : ℕ} {bytes rest : List ℕ} {front : List X}
     (is : IsMany one many) (stands : Stands many count done bytes rest front) where
@@ -62,5 +58,4 @@ module _ {X : Type 0} {one : Reader X} {many : ℕ → Reader (List X)} {count d
 
   pub ends : count ≤ done → many count bytes ≡ Ok (front, rest)
   ends le =
-      let none : count - done ≡ 0 = omega arith in
-      sym (rw (none, is.none, append-nil) at stands.so_far)
+      let none : count - done ≡ 0 = omega arith in sym (rw (none, is.none, append-nil) at stands.so_far)

@@ -1,5 +1,5 @@
 -- Numbers of two bytes, one after the other.
-use Rattle.std.proofs.Common.{◌≡◌, ℕ, zero, suc, ◌+◌, ◌-◌, ◌*◌, ◌<◌, ◌≤◌, false, nat_eq, List, ◌++◌, length, get_or, take, drop, refl, sym, ap, ◌∙◌, arith}
+use Rattle.std.proofs.Common.{◌≡◌, ℕ, zero, suc, ◌+◌, ◌-◌, ◌*◌, ◌<◌, ◌≤◌, false, nat_eq, List, length, get_or, take, drop, refl, ap, arith}
 use Rattle.std.specs.Int.{w16, from_be_bytes, to_be_bytes}
 use Rattle.std.specs.List.{flat_map}
 use Rattle.std.proofs.lemmas.List.{drop-drop, drop-take, take-take, length-drop}
@@ -32,8 +32,7 @@ last_of_numbers : (n : ℕ) (bytes : List ℕ)
 unfolding numbers_from
 last_of_numbers zero bytes = refl
 last_of_numbers (suc n) bytes =
-    let place : 2 + 2 * n ≡ 2 * suc n = omega arith in
-    rw (← place, ← drop-drop (2 * n) 2 bytes) (last_of_numbers n (drop 2 bytes))
+    let place : 2 + 2 * n ≡ 2 * suc n = omega arith in rw (← place, ← drop-drop (2 * n) 2 bytes) (last_of_numbers n (drop 2 bytes))
 
 pub end_of_numbers : (count : ℕ) (bytes : List ℕ) → 0 < count
     → ends_in_zero (numbers_from count bytes) ≡ nat_eq (from_be_bytes w16 (take 2 (drop (2 * (count - 1)) bytes))) 0
@@ -47,8 +46,7 @@ no_numbers_end zero bytes none = refl
 no_numbers_end (suc n) bytes none = absurd (omega arith)
 
 -- number k of them, and 0 after all
-pub number_within : (n k : ℕ) (bytes : List ℕ) → k < n
-    → get_or (numbers_from n bytes) k 0 ≡ from_be_bytes w16 (take 2 (drop (2 * k) bytes))
+pub number_within : (n k : ℕ) (bytes : List ℕ) → k < n → get_or (numbers_from n bytes) k 0 ≡ from_be_bytes w16 (take 2 (drop (2 * k) bytes))
 unfolding numbers_from
 number_within zero k bytes lt = absurd (omega arith)
 number_within (suc n) zero bytes lt = refl
@@ -63,25 +61,18 @@ pub numbers_spelled : (n : ℕ) (bytes : List ℕ) → AreBytes bytes → 2 * n 
 unfolding numbers_from
 numbers_spelled zero bytes are long = refl
 numbers_spelled (suc n) bytes are long =
-    let more : 2 + 2 * n ≡ 2 * suc n = omega arith in
-    let first : ℕ = from_be_bytes w16 (take 2 bytes) in
-    let others : List ℕ = numbers_from n (drop 2 bytes) in
-    flat_map-cons (to_be_bytes w16) first others
-    ∙ ap (λ (text : List ℕ). text ++ flat_map (to_be_bytes w16) others) (front_spelled two_bytes bytes are (omega arith))
-    ∙ ap (λ (rest : List ℕ). take 2 bytes ++ rest)
-    (numbers_spelled n (drop 2 bytes) (rest_bytes 2 bytes are) (omega (arith, length-drop 2 bytes)))
-    ∙ sym (take-add 2 (2 * n) bytes)
-    ∙ ap (λ (m : ℕ). take m bytes) more
+    let more : 2 * suc n ≡ 2 + 2 * n = omega arith in
+    let rest = numbers_spelled n (drop 2 bytes) (rest_bytes 2 bytes are) (omega (arith, length-drop 2 bytes)) in
+    let first : to_be_bytes w16 (from_be_bytes w16 (take 2 bytes)) ≡ take 2 bytes = front_spelled two_bytes bytes are (omega arith) in
+    let both = flat_map-cons (to_be_bytes w16) (from_be_bytes w16 (take 2 bytes)) (numbers_from n (drop 2 bytes)) in
+    let whole = take-add 2 (2 * n) bytes in cc
 
 -- the list at the front of bytes, spelled
 pub list_spelled : (bytes : List ℕ) → AreBytes bytes → 2 + 2 * count_of bytes ≤ length bytes
     → list_bytes (list_from bytes) ≡ take (2 + 2 * count_of bytes) bytes
 list_spelled bytes are long =
     let count : ℕ = count_of bytes in
-    let rest : List ℕ = drop 2 bytes in
-    ap (λ (n : ℕ). to_be_bytes w16 n ++ flat_map (to_be_bytes w16) (list_from bytes)) (length_numbers count rest)
-    ∙ ap (λ (text : List ℕ). text ++ flat_map (to_be_bytes w16) (list_from bytes))
-    (front_spelled two_bytes bytes are (omega arith))
-    ∙ ap (λ (text : List ℕ). take 2 bytes ++ text)
-    (numbers_spelled count rest (rest_bytes 2 bytes are) (omega (arith, length-drop 2 bytes)))
-    ∙ sym (take-add 2 (2 * count) bytes)
+    let numbers = numbers_spelled count (drop 2 bytes) (rest_bytes 2 bytes are) (omega (arith, length-drop 2 bytes)) in
+    let first : to_be_bytes w16 count ≡ take 2 bytes = front_spelled two_bytes bytes are (omega arith) in
+    let size = length_numbers count (drop 2 bytes) in
+    let whole = take-add 2 (2 * count) bytes in cc

@@ -61,22 +61,15 @@ row_spells = record {
       let b = pairs_spell.found plain.0.1 runs.0 a.0.rest_are runs.1 in
       let c = pairs_spell.found runs.0.1 packed.0 b.0.rest_are packed.1 in
       let d = pairs_spell.found packed.0.1 delta.0 c.0.rest_are delta.1 in
-      rw (← same_ok delta.2) (
-        splits_both a.0 (splits_both b.0 (splits_both c.0 d.0)),
-        (a.1.0, a.1.1, b.1.0, b.1.1, c.1.0, c.1.1, d.1.0, d.1.1),
-      );
+      let joined = splits_both a.0 (splits_both b.0 (splits_both c.0 d.0)) in
+      rw (← same_ok delta.2) (joined, (a.1.0, a.1.1, b.1.0, b.1.1, c.1.0, c.1.1, d.1.0, d.1.1));
   again = λ n rest fits.
       let plain : ℕ × ℕ = (n.outside.plain, n.inside.plain) in
       let runs : ℕ × ℕ = (n.outside.runs, n.inside.runs) in
       let packed : ℕ × ℕ = (n.outside.packed, n.inside.packed) in
       let delta : ℕ × ℕ = (n.outside.delta, n.inside.delta) in
-      let last : List ℕ = both_bytes delta ++ rest in
-      rw (
-        pairs_spell.again plain (both_bytes runs ++ (both_bytes packed ++ last)) (fits.0, fits.1),
-        pairs_spell.again runs (both_bytes packed ++ last) (fits.2, fits.3),
-        pairs_spell.again packed last (fits.4, fits.5),
-        pairs_spell.again delta rest (fits.6, fits.7),
-      ) refl;
+      let pair = pairs_spell.again in
+      rw (pair plain _ (fits.0, fits.1), pair runs _ (fits.2, fits.3), pair packed _ (fits.4, fits.5), pair delta rest (fits.6, fits.7));
 }
 
 pub table_spells : (n : ℕ) → Spells (table_at n) table_bytes (λ table. (length table ≡ n) × AllByRecursion AreSmall table)
@@ -103,13 +96,8 @@ size_found dpi =
 
 size_again : (dpi : Dpi) (size : Size) → size_with_height dpi (page_height size dpi) ≡ Some size
 size_again Dpi300 Executive = refl
-size_again Dpi300 Letter = refl
-size_again Dpi300 Legal = refl
-size_again Dpi300 A4 = refl
 size_again Dpi600 Executive = refl
-size_again Dpi600 Letter = refl
-size_again Dpi600 Legal = refl
-size_again Dpi600 A4 = refl
+size_again _ _ = refl
 
 row_bytes_small : (size : Size) (dpi : Dpi) → page_row_bytes size dpi < 2 ^ 16
 row_bytes_small size dpi = omega (arith, row_small size dpi)
@@ -127,17 +115,12 @@ proof_spells {dpi} {format} = record {
       let b = two.found text_len.0.1 rows.0 a.0.rest_are rows.1 in
       let height : page_height size.0 dpi ≡ rows.0.0 = size_found dpi size.1 in
       let c = (table_spells (rows.0.0 + 1)).found rows.0.1 table.0 b.0.rest_are table.1 in
-      let d = (places_spell format rows.0.0 (row_bytes_small size.0 dpi)).found table.0.1
-      places.0 c.0.rest_are places.1 in
+      let d = (places_spell format rows.0.0 (row_bytes_small size.0 dpi)).found table.0.1 places.0 c.0.rest_are places.1 in
       let rows_are : rows.0.0 ≡ rows_in table.0.0 = omega (arith, c.1.0) in
       rw (← same_ok places.2) (
         rw (← rows_are) (splits_both a.0 (splits_both b.0 (splits_both c.0 d.0))),
         record {
-          fits = record {
-            size = size.0;
-            height = omega (arith, c.1.0, height);
-            lists = rw height d.1;
-          };
+          fits = record { size = size.0; height = omega (arith, c.1.0, height); lists = rw height d.1 };
           text_len = a.1;
           numbers = c.1.1;
         },
@@ -146,19 +129,15 @@ proof_spells {dpi} {format} = record {
       let rows : ℕ = rows_in proof.table in
       let height : page_height is.fits.size dpi ≡ rows = omega (arith, is.fits.height) in
       let small : rows < 2 ^ 16 = omega (arith, height, height_small is.fits.size dpi) in
-      let lists : List ℕ = lists_bytes proof.places ++ rest in
-      let table : List ℕ = table_bytes proof.table ++ lists in
+      let table : List ℕ = table_bytes proof.table ++ (lists_bytes proof.places ++ rest) in
       let found : size_with_height dpi rows ≡ Some is.fits.size = ap (size_with_height dpi) (sym height) ∙ size_again dpi is.fits.size in
       let count : length proof.table ≡ rows + 1 = omega (arith, is.fits.height) in
       let has : HasLists format rows (page_row_bytes is.fits.size dpi) proof.places = rw (← height) is.fits.lists in
-      rw (
-        append_assoc (table_bytes proof.table) (lists_bytes proof.places) rest,
-        four.again proof.text_len (to_be_bytes w16 rows ++ table) is.text_len,
-        two.again rows table small,
-        found,
-        (table_spells (rows + 1)).again proof.table lists (count, is.numbers),
-        (places_spell format rows (row_bytes_small is.fits.size dpi)).again proof.places rest has,
-      ) refl;
+      let tables = (table_spells (rows + 1)).again proof.table (lists_bytes proof.places ++ rest) (count, is.numbers) in
+      let places = (places_spell format rows (row_bytes_small is.fits.size dpi)).again proof.places rest has in
+      let joined = append_assoc (table_bytes proof.table) (lists_bytes proof.places) rest in
+      let length_read = four.again proof.text_len (to_be_bytes w16 rows ++ table) is.text_len in
+      rw (joined, length_read, two.again rows table small, found, tables, places);
 }
 
 -- ---- certificates
@@ -212,10 +191,8 @@ pages_again dpi format {proofs} are =
 pub certificate_again : (dpi : Dpi) (format : Format) {proofs : List PageProof} → AreProofs dpi format proofs
     → certificate_at dpi (certificate_bytes format proofs) ≡ Ok (format, proofs)
 unfolding certificate_at
-certificate_again dpi One {proofs} are =
-    rw (four.again (length proofs) (flat_map proof_bytes proofs) are.0, pages_again dpi One are) refl
-certificate_again dpi Two {proofs} are =
-    rw (four.again (length proofs) (flat_map proof_bytes proofs) are.0, pages_again dpi Two are) refl
+certificate_again dpi One {proofs} are = rw (four.again (length proofs) (flat_map proof_bytes proofs) are.0, pages_again dpi One are) refl
+certificate_again dpi Two {proofs} are = rw (four.again (length proofs) (flat_map proof_bytes proofs) are.0, pages_again dpi Two are) refl
 
 -- what a call gives that reads all of the bytes
 pub is_found : (dpi : Dpi) (bytes : List ℕ) (read : Result (Format × Vec PageProof) CertFault) → AreBytes bytes

@@ -1,12 +1,8 @@
 -- The checker's yes: no text that prints the page is shorter.
-use Rattle.std.proofs.Common.{◌≡◌, ℕ, ◌+◌, ◌<◌, ◌≤◌, inl, inr, List, Some, None, length, get_or, sym, ap, ◌∙◌, arith}
-use Rattle.std.proofs.lemmas.Bool.{cases_lt}
-use Rattle.std.proofs.lemmas.List.{get_or_past}
-use Rattle.pcl_base.specs.declared.method.Method.{Method}
+use Rattle.std.proofs.Common.{◌≡◌, ℕ, ◌+◌, ◌<◌, ◌≤◌, List, Some, None, length, get_or, sym, ap, ◌∙◌, arith}
 use Rattle.pcl_base.specs.Size.{page_row_bytes}
 use Rattle.pcl_bitmap.specs.declared.page.Page.{Page}
 use Rattle.pcl_base.specs.Walks.{IsFeasible}
-use Rattle.pcl_coders.specs.RowWalks.{IsRowTable}
 use Rattle.pcl_coders.proofs.Filling.{first_bounds}
 use Rattle.pcl_output.specs.PageText.{PrintsPage, bitmap_rows}
 use Rattle.pcl_output.specs.Nodes.{Leads, Ends, cost, row_at, row_above}
@@ -17,30 +13,12 @@ use Rattle.pcl_output.proofs.Walking.{row_width, above_width}
 use Rattle.pcl_cert.specs.declared.check.Verdict.TheVariants as verdicts
 use Rattle.pcl_cert.specs.RowTables.{list_of, number_at_place}
 use Rattle.pcl_check.specs.Edges.{BoundData}
-use Rattle.pcl_check.specs.Places.{IsGoodPlace}
 use Rattle.pcl_cert.specs.Checking.{Tables, AreOfPage, ArePlacesGood, AreEdgesGood, IsBounded, IsVerdict}
 use Rattle.pcl_cert.specs.PageTables.{table_of}
 use Rattle.pcl_check.proofs.GoodNumbers.{feasible_good, good_feasible, numbers_by_bounds}
 use Rattle.pcl_base.proofs.PageBounds.{height_small}
 use Rattle.pcl_cert.proofs.KeptLists.{table_length, table_number}
-
--- ---- good places make a row table
-
-table_of_good : {method : Method} {seed row numbers : List ℕ} → length numbers ≡ length row + 1
-    → ((place : ℕ) → place ≤ length row → IsGoodPlace method seed row numbers place) → IsRowTable method seed row numbers
-table_of_good {row} {numbers} size good = record {
-  size = size;
-  feasible = record {
-    steps = λ place e next leads. elim (cases_lt (length row) place) [
-      | inl lt ↦ omega (arith, get_or_past numbers place 0 (omega (arith, size, lt)))
-      | inr le ↦ (good place le).steps e next leads
-    ];
-    ends = λ place ends. elim (cases_lt (length row) place) [
-      | inl lt ↦ get_or_past numbers place 0 (omega (arith, size, lt))
-      | inr le ↦ (good place le).ends ends
-    ];
-  };
-}
+use Rattle.pcl_check.proofs.PlaceSteps.{table_of_good}
 
 -- ---- pages
 
@@ -71,16 +49,12 @@ module _ (page : Page) {text : List ℕ} (printed : PrintsPage page text) where
       let good = table_of_good {numbers = numbers} (table_length (width_of page + 1) list ∙ ap (λ (n : ℕ). n + 1) (sym (row_wide lt)))
       (λ place le. places row method place (omega (arith, printed.count)) (omega (arith, row_wide lt))) in
       let first : get_or numbers 0 0 ≡ get_or list 0 0 = table_number list (omega arith) in
-      omega (
-        arith,
-        first_bounds method (row_above (width_of page) (rows_of page) row) (row_at (rows_of page) row) numbers whole
-            (above_wide lt) good has,
-        first,
-      )
+      let bound = first_bounds method (row_above (width_of page) (rows_of page) row) (row_at (rows_of page) row) numbers whole
+      (above_wide lt) good has in
+      omega (arith, first)
 
   feasible_of : (table : List RowNumbers) (tables : Tables) → AreOfPage page table tables → ArePlacesGood page tables
-      → AreEdgesGood page table tables
-      → IsFeasible (Leads (width_of page) (rows_of page)) (Ends (rows_of page)) cost (node_number table)
+      → AreEdgesGood page table tables → IsFeasible (Leads (width_of page) (rows_of page)) (Ends (rows_of page)) cost (node_number table)
   feasible_of table None size places good =
       good_feasible (width_of page) table (omega (arith, few_rows)) (omega (arith, size, printed.count))
       (λ row method inside le. good row method inside (omega (arith, printed.count)))
@@ -101,15 +75,9 @@ proved_bounded page text table tables is = record {
 
 pub bounded_proved : (page : Page) (text : List ℕ) (table : List RowNumbers) → IsBounded page text table None
     → IsVerdict page text table None verdicts.Proved
-bounded_proved page text table is = (
-  is.printed,
-  is.rows_agree,
-  tt,
-  λ row method inside within.
-      feasible_good (width_of page) (node_number table) (omega (arith, few_rows page is.printed)) is.feasible row method inside
-      (omega (arith, within, is.printed.count)),
-  is.of_length,
-)
+bounded_proved page text table is =
+    let good = feasible_good (width_of page) (node_number table) (omega (arith, few_rows page is.printed)) is.feasible in
+    (is.printed, is.rows_agree, tt, λ row method inside le. good row method inside (omega (arith, le, is.printed.count)), is.of_length)
 
 pub proved_least : (page : Page) (text other : List ℕ) (table : List RowNumbers) (tables : Tables)
     → IsVerdict page text table tables verdicts.Proved → PrintsPage page other → length text ≤ length other

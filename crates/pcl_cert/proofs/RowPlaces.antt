@@ -17,8 +17,7 @@ use Rattle.pcl_cert.specs.PageTables.{table_of}
 
 pub good_places : {method : Method} {seed row numbers : List ℕ} → IsRowTable method seed row numbers → {place : ℕ}
     → IsGoodPlace method seed row numbers place
-good_places is {place} =
-    record { steps = λ e next leads. is.feasible.steps place e next leads; ends = λ ends. is.feasible.ends place ends }
+good_places is {place} = record { steps = λ e next leads. is.feasible.steps place e next leads; ends = λ ends. is.feasible.ends place ends }
 
 -- what is found of a row's numbers, as those of the page's row
 pub record IsRowOfTables (page : Page) (lists : List (List ℕ)) (row : ℕ) (method : Method) (seed bytes numbers : List ℕ) : Type 0 where

@@ -14,7 +14,7 @@ use Rattle.pcl_rows.proofs.Readings.{plain_elements, row_of_plain}
 use Rattle.pcl_coders.specs.Coding.{IsCodable}
 use Rattle.pcl_coders.proofs.RowWalks.{length-base}
 use Rattle.pcl_base.specs.Walks.{IsFeasible}
-use Rattle.pcl_output.specs.Tokens.{opening, method, send, AreWhite}
+use Rattle.pcl_output.specs.Tokens.{opening, method, send}
 use Rattle.pcl_output.specs.declared.node.Node.{Node}
 use Rattle.pcl_output.specs.Nodes.{row_at, row_above, Leads, Ends, cost, AreOfWidth}
 use Rattle.pcl_output.specs.Spelling.{least_spelling}
@@ -33,8 +33,7 @@ plain_row {seed} {row} codable =
     let same : length old ≡ length row = length-base Plain seed ∙ codable.same_size in
     let laid : overlaid old 0 row ≡ row =
     overlaid_within old 0 row (omega (arith, same))
-    ∙ ap (λ (behind : List ℕ). row ++ behind) (drop_all (0 + length row) old (omega (arith, same)))
-    ∙ append-nil row in
+    ∙ ap (λ (behind : List ℕ). row ++ behind) (drop_all (0 + length row) old (omega (arith, same))) ∙ append-nil row in
     let elements = plain_elements row in
     record {
       whole = (elements.0, elements.1, elements.2, omega (arith, elements.3));
@@ -46,8 +45,7 @@ plain_row {seed} {row} codable =
 
 module _ {width : ℕ} {rows : List (List ℕ)} {number : Node → ℕ} (are : AreOfWidth width rows) (narrow : width ≤ row_limit)
     (feasible : IsFeasible (Leads width rows) (Ends rows) cost number) where
-  sent_plain : (row : ℕ) → row < length rows
-      → number (node row Plain true) ≤ 65541 + number (node (row + 1) Plain false)
+  sent_plain : (row : ℕ) → row < length rows → number (node row Plain true) ≤ 65541 + number (node (row + 1) Plain false)
   sent_plain row within =
       let bytes : List ℕ = row_at rows row in
       let long : length bytes ≡ width = row_width rows row are within in
@@ -56,48 +54,28 @@ module _ {width : ℕ} {rows : List (List ℕ)} {number : Node → ℕ} (are : A
         small = omega (arith, long);
       } in
       let s = spelled_cost (length bytes) (omega (arith, long)) in
-      omega (
-        arith,
-        feasible.steps (node row Plain true) (send (least_spelling (length bytes)) bytes) (node (row + 1) Plain false)
-            (refl, s.0, within, plain_row codable, refl),
-        cost_send (least_spelling (length bytes)) bytes,
-        s.1,
-        row_cost_small (length bytes) (omega (arith, long)),
-      )
+      let step = feasible.steps (node row Plain true) (send (least_spelling (length bytes)) bytes) (node (row + 1) Plain false)
+      (refl, s.0, within, plain_row codable, refl) in
+      omega (arith, cost_send (least_spelling (length bytes)) bytes, row_cost_small (length bytes) (omega (arith, long)))
 
   -- outside a sequence, where so many rows are left
-  outside_small : (left row : ℕ) (current : Method) → row + left ≡ length rows
-      → number (node row current false) ≤ 65546 * left
+  outside_small : (left row : ℕ) (current : Method) → row + left ≡ length rows → number (node row current false) ≤ 65546 * left
   outside_small zero row current all =
-      omega (
-        arith,
-        feasible.ends (node row current false)
-            (refl, subst AreWhite (sym (drop_all row rows (omega (arith, all)))) tt),
-      )
+      omega (arith, feasible.ends (node row current false) (refl, rw (drop_all row rows (omega (arith, all))) tt))
   outside_small (suc left) row current all =
       let s = spelled_cost (method_code Plain) (omega (arith, method_small Plain)) in
-      omega (
-        arith,
-        feasible.steps (node row current false) opening (node row current true) (refl, refl),
-        cost_opening,
-        feasible.steps (node row current true) (method (least_spelling 0) Plain false) (node row Plain true) (refl, s.0, refl),
-        cost_method (least_spelling 0) Plain false,
-        sent_plain row (omega (arith, all)),
-        outside_small left (row + 1) Plain (omega (arith, all)),
-      )
+      let opened = feasible.steps (node row current false) opening (node row current true) (refl, refl) in
+      let set = feasible.steps (node row current true) (method (least_spelling 0) Plain false) (node row Plain true) (refl, s.0, refl) in
+      let behind = outside_small left (row + 1) Plain (omega (arith, all)) in
+      omega (arith, cost_opening, cost_method (least_spelling 0) Plain false, sent_plain row (omega (arith, all)))
 
   pub number_small : length rows ≤ 9999 → (row : ℕ) (current : Method) (is_open : Bool) → row ≤ length rows
       → number (node row current is_open) ≤ 655394455
-  number_small few row current false within =
-      omega (arith, outside_small (length rows - row) row current (omega arith))
+  number_small few row current false within = omega (arith, outside_small (length rows - row) row current (omega arith))
   number_small few row current true within =
       let s = spelled_cost (method_code Plain) (omega (arith, method_small Plain)) in
-      omega (
-        arith,
-        feasible.steps (node row current true) (method (least_spelling 0) Plain true) (node row Plain false) (refl, s.0, refl),
-        cost_method (least_spelling 0) Plain true,
-        outside_small (length rows - row) row Plain (omega arith),
-      )
+      let set = feasible.steps (node row current true) (method (least_spelling 0) Plain true) (node row Plain false) (refl, s.0, refl) in
+      omega (arith, cost_method (least_spelling 0) Plain true, outside_small (length rows - row) row Plain (omega arith))
 
 -- ---- numbers of a table
 

@@ -44,19 +44,13 @@ module _ {X : Type 0} {one : Reader X} {many : ℕ → Reader (List X)} {text : 
       let later = step_ok (many n first.0.1) first.2 in
       let one_is = spells.found bytes first.0 are first.1 in
       let many_is = many_found n first.0.1 later.0 one_is.0.rest_are later.1 in
-      rw (← same_ok later.2)
-      (rw flat_map-cons (splits_both one_is.0 many_is.0), (ap suc many_is.1.0, (one_is.1, many_is.1.1)))
+      rw (← same_ok later.2) (rw flat_map-cons (splits_both one_is.0 many_is.0), (ap suc many_is.1.0, (one_is.1, many_is.1.1)))
 
   many_again : (xs : List X) (rest : List ℕ) → AllByRecursion Fits xs → many (length xs) (flat_map text xs ++ rest) ≡ Ok (xs, rest)
   many_again [] rest fits = is.none rest
   many_again (x ∷ xs) rest fits =
-      rw (
-        flat_map-cons,
-        append_assoc,
-        is.more,
-        spells.again x (flat_map text xs ++ rest) fits.0,
-        many_again xs rest fits.1,
-      ) refl
+      let first = spells.again x (flat_map text xs ++ rest) fits.0 in
+      rw (flat_map-cons, append_assoc, is.more, first, many_again xs rest fits.1)
 
   -- so many things
   pub many_spell : (n : ℕ) → Spells (many n) (flat_map text) (λ xs. (length xs ≡ n) × AllByRecursion Fits xs)

@@ -1,7 +1,6 @@
 -- A table of a page is answered Proved on a least text, and can be written as a certificate.
-use Rattle.std.proofs.Common.{◌≡◌, ℕ, ◌+◌, ◌<◌, ◌≤◌, inl, inr, true, false, List, Option, Some, None, length, get_or, arith}
+use Rattle.std.proofs.Common.{◌≡◌, ℕ, ◌+◌, ◌<◌, ◌≤◌, true, false, List, Option, Some, None, length, get_or, arith}
 use Rattle.std.specs.Prelude.{decimal}
-use Rattle.std.proofs.lemmas.Bool.{cases_lt}
 use Rattle.pcl_base.specs.Limits.{row_limit}
 use Rattle.pcl_base.specs.declared.method.Method.{Method}
 use Rattle.pcl_base.specs.Size.{page_height, code_of}
@@ -35,11 +34,7 @@ use Rattle.pcl_cert.proofs.SmallNumbers.{number_small, numbers_small}
 -- ---- the text
 
 few_digits : (n : ℕ) → n < 100 → length (decimal n) ≤ 2
-few_digits n few =
-    elim (cases_lt n 10) [
-      | inl lt ↦ omega (arith, one_digit lt)
-      | inr le ↦ omega (arith, two_digits le few)
-    ]
+few_digits n few = grind (arith, one_digit {n = n}, two_digits {n = n})
 
 module _ (page : Page) {text : List ℕ} {table : List RowNumbers} (is_of : IsTableOf page table) (printed : PrintsPage page text) where
   -- a least text has its fixed part and the number of the first node
@@ -110,27 +105,21 @@ table_proved page text table tables is_of printed short least = (
 )
 
 pub table_certified : (page : Page) (text : List ℕ) (table : List RowNumbers) (format : Format) (places : Option (List (List ℕ)))
-    → IsTableOf page table → PrintsPage page text
-    → IsLeastText page.dpi page.size page.copies (rows_of page) (length text) → HasLeastLists page format places
-    → IsProof page.dpi format record { text_len = length text; table = table; places = places }
+    → IsTableOf page table → PrintsPage page text → IsLeastText page.dpi page.size page.copies (rows_of page) (length text)
+    → HasLeastLists page format places → IsProof page.dpi format record { text_len = length text; table = table; places = places }
 table_certified page text table format places is_of printed short has =
     let are = widths page.size page.dpi (rows_of page) printed.rows_are in
     let narrow : width_of page ≤ row_limit = row_small page.size page.dpi in
     let few = few_rows page printed in
+    let copies = few_digits page.copies printed.few_copies in
+    let code = few_digits (code_of page.size) (code_few page.size) in
+    let first = number_small are narrow is_of.feasible few 0 start.method false (omega arith) in
     record {
       fits = record {
         size = page.size;
         height = omega (arith, is_of.size, printed.count);
         lists = lists_of page is_of printed format places has;
       };
-      text_len =
-          omega (
-            arith,
-            text_length page is_of printed short,
-            fixed_length page.dpi page.size page.copies,
-            few_digits page.copies printed.few_copies,
-            few_digits (code_of page.size) (code_few page.size),
-            number_small are narrow is_of.feasible few 0 start.method false (omega arith),
-          );
+      text_len = omega (arith, text_length page is_of printed short, fixed_length page.dpi page.size page.copies);
       numbers = numbers_small table are narrow few is_of.size is_of.feasible;
     }

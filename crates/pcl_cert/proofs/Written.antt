@@ -1,6 +1,7 @@
 -- Writing certificates: one thing after the other.
 use Rattle.std.proofs.Common.{◌≡◌, ℕ, zero, suc, ◌+◌, ◌*◌, ◌<◌, ◌≤◌, List, [], ◌∷◌, length, take, drop, get_or, refl, sym, ap, arith}
 use Rattle.std.specs.List.{AllByRecursion}
+use Rattle.std.proofs.lemmas.List.Elements.{All-from_recursion}
 use Rattle.std.specs.Int.{w16, from_be_bytes}
 use Rattle.std.proofs.lemmas.List.{get_or_past, drop-drop, length-map}
 use Rattle.pcl_base.specs.declared.dpi.Dpi.{Dpi}
@@ -40,13 +41,8 @@ pub number_there : (bytes starts : List ℕ) {k start place : ℕ} → k < lengt
 number_there bytes starts {k} {start} {place} lt is within =
     let list : List ℕ = drop start bytes in
     let from_start : start + (2 + 2 * place) ≡ start + 2 + 2 * place = omega arith in
-    rw (
-      listed_number bytes starts k lt is,
-      number_within (count_of list) place (drop 2 list) within,
-      drop-drop (2 * place) 2 list,
-      drop-drop (2 + 2 * place) start bytes,
-      from_start,
-    ) refl
+    let number = number_within (count_of list) place (drop 2 list) within in
+    rw (listed_number bytes starts k lt is, number, drop-drop (2 * place) 2 list, drop-drop (2 + 2 * place) start bytes, from_start)
 
 pub number_past : (bytes starts : List ℕ) {k start place : ℕ} → k < length starts → start ≡ get_or starts k start
     → count_of (drop start bytes) ≤ place → get_or (get_or (lists_within bytes starts) k []) place 0 ≡ 0
@@ -58,9 +54,7 @@ number_past bytes starts {k} {start} {place} lt is past =
 -- a list of row tables is whole
 pub list_there : {bytes : List ℕ} (starts : List ℕ) (k : ℕ) → AllByRecursion (IsListAt bytes) starts → k < length starts
     → (d : ℕ) → IsListAt bytes (get_or starts k d)
-list_there [] k whole lt d = absurd (omega arith)
-list_there (s ∷ starts) zero whole lt d = whole.0
-list_there (s ∷ starts) (suc k) whole lt d = list_there starts k whole.1 (omega arith) d
+list_there {bytes} starts k whole lt d = All-from_recursion (IsListAt bytes) starts whole k d lt
 
 -- a method's list is one of four
 pub list_within : {self : List (List ℕ)} (bytes starts : List ℕ) (row : ℕ) (method : Method) {code : ℕ} → self ≡ lists_within bytes starts
@@ -70,9 +64,8 @@ list_within bytes starts row method view there is =
 
 -- the list of a row and a method, by the place where it begins
 pub list_kept : {self : List (List ℕ)} (bytes starts : List ℕ) (row : ℕ) (method : Method) {code start : ℕ}
-    → self ≡ lists_within bytes starts
-    → 4 * row + 4 ≤ length self → code ≡ method_code method → start ≡ get_or starts (4 * row + code) start
-    → list_of self row method ≡ list_from (drop start bytes)
+    → self ≡ lists_within bytes starts → 4 * row + 4 ≤ length self → code ≡ method_code method
+    → start ≡ get_or starts (4 * row + code) start → list_of self row method ≡ list_from (drop start bytes)
 list_kept bytes starts row method {code} view there is at =
     rw (view, ← is, listed_number bytes starts (4 * row + code) (list_within bytes starts row method view there is) at) refl
 
@@ -86,11 +79,9 @@ proof_of_format Two is = is
 proofs_of_format : (dpi : Dpi) (format : Format) (proofs : List PageProof) → AllByRecursion (IsProof dpi format) proofs
     → AllByRecursion (FitsFormat dpi format) (proofs_in format proofs)
 proofs_of_format dpi format [] are = tt
-proofs_of_format dpi format (proof ∷ proofs) are =
-    (proof_of_format format are.0.fits, proofs_of_format dpi format proofs are.1)
+proofs_of_format dpi format (proof ∷ proofs) are = (proof_of_format format are.0.fits, proofs_of_format dpi format proofs are.1)
 
 -- what is read can be written again
 pub can_be_written : (dpi : Dpi) (format : Format) (proofs : List PageProof) → AreProofs dpi format proofs
     → FitFormat dpi format (proofs_in format proofs)
-can_be_written dpi format proofs are =
-    (omega (arith, are.0, length-map proofs (proof_in format)), proofs_of_format dpi format proofs are.1)
+can_be_written dpi format proofs are = (omega (arith, are.0, length-map proofs (proof_in format)), proofs_of_format dpi format proofs are.1)

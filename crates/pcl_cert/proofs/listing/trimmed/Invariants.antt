@@ -6,5 +6,4 @@ abbrev pub decreases-loop-len : goal.decreases-loop-len
 decreases-loop-len l = l.len
 
 abbrev pub invariant-loop-len : goal.invariant-loop-len
-invariant-loop-len l =
-    (l.len ≤ length l.numbers) × ((k : ℕ) → l.len ≤ k → k < length l.numbers → slice_index l.numbers k ≡ 0)
+invariant-loop-len l = (l.len ≤ length l.numbers) × ((k : ℕ) → l.len ≤ k → k < length l.numbers → slice_index l.numbers k ≡ 0)

@@ -1,5 +1,4 @@
-use Rattle.std.proofs.Common.{◌≡◌, ℕ, ◌+◌, ◌/◌, ◌<◌, ◌≤◌, List, length, get_or, set, sym, ◌∙◌, inl, inr, arith}
-use Rattle.std.proofs.lemmas.Bool.{cases_lt}
+use Rattle.std.proofs.Common.{◌≡◌, ℕ, ◌+◌, ◌/◌, ◌<◌, ◌≤◌, List, length, get_or, set, sym, ◌∙◌, arith, below_more}
 use Rattle.std.proofs.lemmas.List.{ext_get_or, get_or-set_same, get_or-set_other, get_or_past, length-set}
 use Rattle.pcl_cert.specs.RowTables.{numbers_from}
 use Rattle.pcl_cert.specs.PageTables.{table_of}
@@ -10,12 +9,10 @@ use Rattle.pcl_cert.proofs.tables.copy_numbers.Goals as goal
 -- a number more is the list's
 number_more : (list out : List ℕ) {place number : ℕ} → place < length out → ((k : ℕ) → k < place → get_or out k 0 ≡ get_or list k 0)
     → number ≡ get_or list place 0 → (k : ℕ) → k < place + 1 → get_or (set out place number) k 0 ≡ get_or list k 0
-number_more list out {place} {number} inside same is k lt =
-    elim (cases_lt k place) [
-      | inl before ↦ get_or-set_other out place k number 0 (λ e. absurd (omega arith)) ∙ same k before
-      | inr at ↦
-          let here : k ≡ place = omega arith in rw here (get_or-set_same out place number 0 inside ∙ is)
-    ]
+number_more list out {place} {number} inside same is =
+    below_more (λ k. get_or (set out place number) k 0 ≡ get_or list k 0) place
+    (λ k before. get_or-set_other out place k number 0 (λ e. absurd (omega arith)) ∙ same k before)
+    (get_or-set_same out place number 0 inside ∙ is)
 
 pub loop-place-preserved : goal.loop-place-preserved
 loop-place-preserved c =

@@ -19,7 +19,6 @@ returns c =
     let same : list_of c.args.self.now c.args.row c.args.method ≡ numbers_from (length numbers / 2) numbers =
     rw (list, ← c.as_slice.ensures, ← c.numbers_at.ensures.numbers) refl in (
       λ said. same ∙ no_numbers numbers (nil_from_length numbers (eqb-true (length numbers) 0 (sym c.is_empty.ensures ∙ said))),
-      λ none. c.is_empty.ensures
-          ∙ eq-eqb (length numbers) 0
+      λ none. c.is_empty.ensures ∙ eq-eqb (length numbers) 0
           (omega (arith, c.numbers_at.ensures.size, length_numbers (length numbers / 2) numbers, ap length (sym same ∙ none))),
     )
