@@ -23,9 +23,7 @@ number_below (d ∷ digits) n are =
 decimal_above : (n : ℕ) → n < 2 ^ 64 → n < 10 ^ length (decimal n)
 decimal_above n lt =
     decimal_by_steps (λ (m : ℕ) (digits : List ℕ). m < 10 ^ length digits)
-    (λ m small. omega arith)
-    (λ m digits large below. rw (length-append, add-one, pow-succ' 10 (length digits)) (omega arith))
-    n lt
+    (λ m small. omega arith) (λ m digits large below. rw (length-append, add-one, pow-succ' 10 (length digits)) (omega arith)) n lt
 
 pub count_below : (n : ℕ) → n < 2 ^ 64 → n < 10 ^ digit_count n
 unfolding digit_count

@@ -1,5 +1,5 @@
 -- A number in decimal is spelled as the grammar wants it.
-use Rattle.std.proofs.Common.{◌≡◌, ℕ, ◌+◌, ◌-◌, ◌*◌, ◌%◌, ◌^◌, ◌<◌, true, List, [], ◌∷◌, ◌++◌, fold, refl, ap, ◌∙◌, arith}
+use Rattle.std.proofs.Common.{◌≡◌, ℕ, ◌+◌, ◌-◌, ◌*◌, ◌%◌, ◌^◌, ◌<◌, true, List, [], ◌∷◌, ◌++◌, fold, refl, arith}
 use Rattle.std.specs.Prelude.{decimal}
 use Rattle.std.proofs.lemmas.Fmt.{decimal_by_steps}
 use Rattle.std.proofs.lemmas.Bool.Decides.{nat_tests}
@@ -21,10 +21,7 @@ number_after n (first ∷ digits) digit = number_after (n * 10 + (first - 48)) d
 
 pub decimal_spelled : (n : ℕ) → n < 2 ^ 64 → IsSpelled (decimal n) n
 decimal_spelled n lt =
-    decimal_by_steps (λ (m : ℕ) (digits : List ℕ). IsSpelled digits m)
-    (λ m small. ((digit_is m small, tt), omega arith))
-    (λ m digits large spelled. (
-      digits_push digits (48 + m % 10) spelled.0 (digit_is (m % 10) (omega arith)),
-      number_after 0 digits (48 + m % 10) ∙ ap (λ (k : ℕ). k * 10 + ((48 + m % 10) - 48)) spelled.1 ∙ omega arith,
-    ))
-    n lt
+    decimal_by_steps (λ (m : ℕ) (digits : List ℕ). IsSpelled digits m) (λ m small. ((digit_is m small, tt), omega arith))
+    (λ m digits large spelled.
+    let number = number_after 0 digits (48 + m % 10) in
+    (digits_push digits (48 + m % 10) spelled.0 (digit_is (m % 10) (omega arith)), omega (arith, spelled.1))) n lt

@@ -30,8 +30,7 @@ length_rows zero width bytes = refl
 length_rows (suc n) width bytes = ap suc (length_rows n width (drop width bytes))
 
 pub no_rows : (y n width : ℕ) (bytes : List ℕ) → n ≤ y → drop y (rows_from n width bytes) ≡ []
-no_rows y n width bytes le =
-    drop_of_length-le (rows_from n width bytes) (omega (arith, length_rows n width bytes))
+no_rows y n width bytes le = drop_of_length-le (rows_from n width bytes) (omega (arith, length_rows n width bytes))
 
 pub row_of_bytes : (y n width : ℕ) (bytes : List ℕ) → y < n → row_at (rows_from n width bytes) y ≡ take width (drop (y * width) bytes)
 row_of_bytes y n width bytes lt = row_at_first y (rows_from n width bytes) (rows_at width bytes lt)

@@ -27,9 +27,8 @@ pub record IsLeastSwitch (direct : ByMethod) (switched : ℕ) : Type 0 where
   pub bound : (next : Method) → switched ≤ switch_cost next + by_method direct next
   pub attained : (next : Method) × (switched ≡ switch_cost next + by_method direct next)
 
-pub least_switch : {direct : ByMethod} {first others switched : ℕ} → first ≡ min direct.runs direct.packed → others
-    ≡ min first direct.delta → switched ≡ min (direct.plain + 1) (others + 2)
-    → IsLeastSwitch direct switched
+pub least_switch : {direct : ByMethod} {first others switched : ℕ} → first ≡ min direct.runs direct.packed → others ≡ min first direct.delta
+    → switched ≡ min (direct.plain + 1) (others + 2) → IsLeastSwitch direct switched
 least_switch {direct} {first} {others} f o s = record {
   bound = λ next. grind arith;
   attained =
@@ -38,10 +37,8 @@ least_switch {direct} {first} {others} f o s = record {
         | inl low ↦
             elim (cases_lt first direct.delta) [
               | inr more ↦ (Delta, omega arith)
-              | inl less ↦ elim (cases_lt direct.runs direct.packed) [
-                | inl runs ↦ (Runs, omega arith)
-                | inr packed ↦ (Packed, omega arith)
-              ]
+              | inl less ↦
+                  elim (cases_lt direct.runs direct.packed) [ inl runs ↦ (Runs, omega arith) | inr packed ↦ (Packed, omega arith) ]
             ]
       ];
 }

@@ -27,8 +27,7 @@ widths size dpi (row ∷ rows) are = (are.0.0, widths size dpi rows are.1)
 
 pub walk_of_prints : (width : ℕ) (rows : List (List ℕ)) (tokens : List Token) → AreOfWidth width rows
     → PrintsRows false Plain (replicate width 0) tokens rows → Walk (Leads width rows) (Ends rows) start tokens
-walk_of_prints width rows tokens are p = walk_of_tokens width rows are tokens false Plain rows (omega arith) refl
-    refl p
+walk_of_prints width rows tokens are p = walk_of_tokens width rows are tokens false Plain rows (omega arith) refl refl p
 
 pub prints_of_walk : (width : ℕ) (rows : List (List ℕ)) (tokens : List Token) → AreOfWidth width rows
     → Walk (Leads width rows) (Ends rows) start tokens → PrintsRows false Plain (replicate width 0) tokens rows
@@ -43,13 +42,11 @@ text_length dpi size copies tokens =
     omega (arith, length-append (begin ++ body) end_bytes, length-append begin body, total_is tokens)
 
 pub printed_length : {dpi : Dpi} {size : Size} {copies : ℕ} {rows : List (List ℕ)} {text : List ℕ}
-    → (printed : IsPageText dpi size copies rows text)
-    → length text ≡ fixed_bytes dpi size copies + total cost printed.tokens
+    → (printed : IsPageText dpi size copies rows text) → length text ≡ fixed_bytes dpi size copies + total cost printed.tokens
 printed_length {dpi} {size} {copies} printed = ap length printed.spelled ∙ text_length dpi size copies printed.tokens
 
 pub printed_walk : {dpi : Dpi} {size : Size} {copies : ℕ} {rows : List (List ℕ)} {text : List ℕ}
-    → (printed : IsPageText dpi size copies rows text)
-    → Walk (Leads (page_row_bytes size dpi) rows) (Ends rows) start printed.tokens
+    → (printed : IsPageText dpi size copies rows text) → Walk (Leads (page_row_bytes size dpi) rows) (Ends rows) start printed.tokens
 printed_walk {dpi} {size} {rows} printed =
     walk_of_prints (page_row_bytes size dpi) rows printed.tokens (widths size dpi rows printed.rows_are) printed.prints
 
@@ -64,19 +61,17 @@ pub text_of_least : (dpi : Dpi) (size : Size) (copies : ℕ) (rows : List (List 
     → AllByRecursion (IsRowOf size dpi) rows → IsLeastCost (Leads (page_row_bytes size dpi) rows) (Ends rows) cost start number
     → IsLeastText dpi size copies rows (fixed_bytes dpi size copies + number)
 text_of_least dpi size copies rows number some few count are least =
-    let width : ℕ = page_row_bytes size dpi in
     let w = least.attained in
-    let text : List ℕ = start_bytes dpi copies size ++ flat_map token_bytes w.0 ++ end_bytes in
-    let printed : IsPageText dpi size copies rows text = record {
+    let printed : IsPageText dpi size copies rows (start_bytes dpi copies size ++ flat_map token_bytes w.0 ++ end_bytes) = record {
       some_copies = some;
       few_copies = few;
       count = count;
       rows_are = are;
       tokens = w.0;
       spelled = refl;
-      prints = prints_of_walk width rows w.0 (widths size dpi rows are) w.1;
+      prints = prints_of_walk (page_row_bytes size dpi) rows w.0 (widths size dpi rows are) w.1;
     } in
     record {
-      attained = (text, printed, text_length dpi size copies w.0 ∙ ap (λ (n : ℕ). fixed_bytes dpi size copies + n) w.2);
+      attained = (_, printed, omega (arith, text_length dpi size copies w.0, w.2));
       shortest = λ other is. omega (arith, printed_length is, least.least is.tokens (printed_walk is));
     }

@@ -1,6 +1,5 @@
 -- Runs of white rows.
-use Rattle.std.proofs.Common.{◌≡◌, ℕ, zero, suc, ◌+◌, ◌<◌, ◌≤◌, List, [], ◌∷◌, length, take, drop, sym, subst, inl, inr, arith, add-one}
-use Rattle.std.proofs.lemmas.Bool.{cases_lt}
+use Rattle.std.proofs.Common.{◌≡◌, ℕ, zero, suc, ◌+◌, ◌<◌, ◌≤◌, List, [], ◌∷◌, length, take, drop, sym, subst, arith, add-one}
 use Rattle.std.proofs.lemmas.List.{drop_more, length-drop, get_or-drop, take_all}
 use Rattle.pcl_output.specs.Tokens.{IsWhite, AreWhite}
 use Rattle.pcl_output.specs.Nodes.{row_at}
@@ -8,10 +7,9 @@ use Rattle.pcl_output.specs.inner.WhiteRows.{AreSkippable, IsWhiteRun}
 use Rattle.pcl_output.proofs.Walking.{white_at}
 
 pub white_front : (run count : ℕ) (rows : List (List ℕ)) → AreWhite (take run rows) → count ≤ run → AreWhite (take count rows)
-white_front run zero rows w le = tt
 white_front zero (suc count) rows w le = absurd (omega arith)
-white_front (suc run) (suc count) [] w le = tt
 white_front (suc run) (suc count) (row ∷ rows) w le = (w.0, white_front run count rows w.1 (omega arith))
+white_front run count rows w le = tt
 
 -- a row among white ones
 pub white_below : (rows : List (List ℕ)) (row : ℕ) {run : ℕ} (place : ℕ) → AreWhite (take run (drop row rows)) → place < run
@@ -22,10 +20,7 @@ white_below rows row {run} place white lt within =
 -- what can be skipped is within the run
 pub skippable_within : {rows : List (List ℕ)} {row run count : ℕ} → IsWhiteRun rows row run → AreSkippable rows row count → count ≤ run
 skippable_within {rows} {row} {run} {count} is can =
-    elim (cases_lt run count) [
-      | inr within ↦ within
-      | inl past ↦ absurd (is.longest (omega (arith, can.1)) (white_below rows row run can.2 past can.1))
-    ]
+    grind (arith, can.1, λ (past : run < count). is.longest (omega (arith, can.1)) (white_below rows row run can.2 past can.1))
 
 -- the run of a row that is white, and of one that isn't
 pub run_more : {rows : List (List ℕ)} {row run : ℕ} → row < length rows → IsWhiteRun rows (row + 1) run → IsWhite (row_at rows row)

@@ -1,4 +1,4 @@
-use Rattle.std.proofs.Common.{◌≡◌, ◌-◌, ◌<◌, sym, ◌∙◌, arith}
+use Rattle.std.proofs.Common.{◌≡◌, ◌-◌, sym, ◌∙◌, arith}
 use Rattle.std.proofs.lemmas.List.{take-replicate}
 use Rattle.pcl_base.specs.Size.{page_height, page_row_bytes}
 use Rattle.pcl_output.specs.PageText.{bitmap_rows}
@@ -10,11 +10,10 @@ use Rattle.pcl_output.proofs.bitmap_rows.row_above.Goals as goal
 pub returns-then-y-gt0-clause-row : goal.returns-then-y-gt0-clause-row
 returns-then-y-gt0-clause-row c =
     let picture = c.args.bitmap.now in
-    let width = page_row_bytes picture.size picture.dpi in
     let y = c.args.y in
-    let inside : y - 1 < page_height picture.size picture.dpi = omega (arith, c.requires.row) in
-    c.row.ensures.bytes ∙ sym (row_of_bytes (y - 1) (page_height picture.size picture.dpi) width picture.bytes inside)
-    ∙ sym (row_above_is width (bitmap_rows picture) y c.if-y-gt0.true)
+    let width = page_row_bytes picture.size picture.dpi in
+    let at = row_of_bytes (y - 1) (page_height picture.size picture.dpi) width picture.bytes (omega (arith, c.requires.row)) in
+    c.row.ensures.bytes ∙ sym at ∙ sym (row_above_is width (bitmap_rows picture) y c.if-y-gt0.true)
 
 pub returns-else-y-gt0-clause-row : goal.returns-else-y-gt0-clause-row
 returns-else-y-gt0-clause-row c =

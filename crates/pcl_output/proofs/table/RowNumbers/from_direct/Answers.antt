@@ -11,7 +11,5 @@ overflow_add-others c = omega (arith, c.requires Runs, c.min.ensures, c.min-othe
 
 pub returns : goal.returns
 returns c =
-    let direct = c.args.direct in
-    let least = least_switch c.min.ensures c.min-others.ensures
-    c.min-switched.ensures in
+    let least = least_switch c.min.ensures c.min-others.ensures c.min-switched.ensures in
     switched_numbers least c.at_most-inside.ensures c.plus-outside.ensures
