@@ -43,10 +43,9 @@ table_number {n} list {k} lt =
 -- ---- numbers without the zeros at their end
 
 end_of_front : (numbers : List ℕ) (k : ℕ) → k < length numbers → ends_in_zero (take (suc k) numbers) ≡ nat_eq (get_or numbers k 0) 0
-end_of_front [] k within = absurd (omega arith)
 end_of_front (n ∷ numbers) zero within = refl
-end_of_front (n ∷ []) (suc k) within = absurd (omega arith)
 end_of_front (n ∷ m ∷ numbers) (suc k) within = end_of_front (m ∷ numbers) k (omega arith)
+end_of_front numbers k within = absurd (omega arith)
 
 pub trimmed_is : {numbers : List ℕ} {len : ℕ} → len ≤ length numbers → ((k : ℕ) → len ≤ k → k < length numbers → get_or numbers k 0 ≡ 0)
     → (0 < len → nat_eq (get_or numbers (len - 1) 0) 0 ≡ false) → IsTrimmed numbers (take len numbers)
@@ -79,29 +78,23 @@ numbers_stay n bytes more long =
     sym (numbers_of_front n (bytes ++ more)) ∙ ap (numbers_from n) (take-append-le (2 * n) bytes more long) ∙ numbers_of_front n bytes
 
 -- a list that is whole stays where more bytes come
-pub record Stays (bytes more : List ℕ) (start : ℕ) : Type 0 where
-  pub same : list_from (drop start (bytes ++ more)) ≡ list_from (drop start bytes)
-  pub whole : IsListAt (bytes ++ more) start
-
-list_stays : {bytes more : List ℕ} {start : ℕ} → IsListAt bytes start → Stays bytes more start
-list_stays {bytes} {more} {start} is =
+list_stays : {bytes : List ℕ} (more : List ℕ) {start : ℕ} → IsListAt bytes start
+    → (list_from (drop start (bytes ++ more)) ≡ list_from (drop start bytes)) × IsListAt (bytes ++ more) start
+list_stays {bytes} more {start} is =
     let list : List ℕ = drop start bytes in
     let room : 2 + 2 * count_of list ≤ length list = omega (arith, is.whole, length-drop start bytes) in
     let moved : drop start (bytes ++ more) ≡ list ++ more = drop-append-le start bytes more (omega (arith, is.whole)) in
-    record {
-      same = rw (moved, take-append-le 2 list more (omega (arith, room)), drop-append-le 2 list more (omega (arith, room)))
-          (numbers_stay (count_of list) (drop 2 list) more (omega (arith, room, length-drop 2 list)));
-      whole = record {
-        whole = rw (moved, take-append-le 2 list more (omega (arith, room))) (omega (arith, is.whole, length-append bytes more));
-      };
-    }
+    let front = take-append-le 2 list more (omega (arith, room)) in
+    let numbers = numbers_stay (count_of list) (drop 2 list) more (omega (arith, room, length-drop 2 list)) in
+    let whole = length-append bytes more in
+    (rw (moved, front, drop-append-le 2 list more (omega (arith, room))) numbers, record { whole = rw (moved, front) (omega arith) })
 
 lists_stay : (bytes more starts : List ℕ) → AllByRecursion (IsListAt bytes) starts
     → (lists_within (bytes ++ more) starts ≡ lists_within bytes starts) × AllByRecursion (IsListAt (bytes ++ more)) starts
 lists_stay bytes more [] whole = (refl, tt)
 lists_stay bytes more (start ∷ starts) whole =
-    let first = list_stays {more = more} whole.0 in
-    let others = lists_stay bytes more starts whole.1 in (rw (first.same, others.0) refl, (first.whole, others.1))
+    let first = list_stays more whole.0 in
+    let others = lists_stay bytes more starts whole.1 in (rw (first.0, others.0), (first.1, others.1))
 
 list_at_front : {list : List ℕ} → length list < 2 ^ 16 → AllByRecursion (λ n. n < 2 ^ 16) list
     → (count_of (list_bytes list) ≡ length list) × (list_from (list_bytes list) ≡ list)
@@ -143,21 +136,21 @@ pub row_more : {method : Method} {seed row : List ℕ} {old new : Lists} {number
     → IsLeastTable method seed row numbers → HasListMore old new numbers → HasRowMore method seed row old new
 row_more {method} {seed} {row} {numbers} same least more =
     let is = more.trimmed in
-    let list : List ℕ = more.list in
     let size : length numbers ≡ length row + 1 = least.table_is.size in
     let width : ℕ = length row in
     let last : get_or numbers width 0 ≡ 0 = least.table_is.feasible.ends width
     (drop_of_length-le row (omega arith) ∙ sym (drop_of_length-le (base method seed) (omega (arith, length-base method seed, same)))) in
-    let len_is : length list ≡ is.len = omega (arith, ap length is.front, length-take is.len numbers, is.within) in
+    let len_is : length more.list ≡ is.len = omega (arith, ap length is.front, length-take is.len numbers, is.within) in
     record {
-      list = list;
+      list = more.list;
       lists = more.lists;
       whole = more.whole;
       is_list = record {
         short = elim (cases_lt width is.len) [
           | inl full ↦
               let all : is.len ≡ suc width = omega (arith, is.within, size) in
-              let ends : ends_in_zero list ≡ true = rw (is.front, all) (end_of_front numbers width (omega (arith, size)) ∙ rw last refl) in
+              let ends : ends_in_zero more.list ≡ true =
+              rw (is.front, all) (end_of_front numbers width (omega (arith, size)) ∙ rw last refl) in
               absurd cc
           | inr shorter ↦ omega (arith, len_is, shorter)
         ];

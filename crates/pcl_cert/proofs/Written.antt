@@ -1,7 +1,6 @@
 -- Writing certificates: one thing after the other.
 use Rattle.std.proofs.Common.{◌≡◌, ℕ, zero, suc, ◌+◌, ◌*◌, ◌<◌, ◌≤◌, List, [], ◌∷◌, length, take, drop, get_or, refl, sym, ap, arith}
 use Rattle.std.specs.List.{AllByRecursion}
-use Rattle.std.proofs.lemmas.List.Elements.{All-from_recursion}
 use Rattle.std.specs.Int.{w16, from_be_bytes}
 use Rattle.std.proofs.lemmas.List.{get_or_past, drop-drop, length-map}
 use Rattle.pcl_base.specs.declared.dpi.Dpi.{Dpi}
@@ -13,7 +12,7 @@ use Rattle.pcl_cert.specs.declared.format.Format.TheVariants.{One, Two}
 use Rattle.pcl_cert.specs.declared.page_proof.PageProof.{PageProof}
 use Rattle.pcl_cert.specs.Certificates.{FitsFormat, FitFormat, IsProof, AreProofs, proof_in, proofs_in}
 use Rattle.pcl_cert.specs.RowTables.{list_of}
-use Rattle.pcl_cert.specs.TablesModel.{count_of, list_from, lists_within, IsListAt}
+use Rattle.pcl_cert.specs.TablesModel.{count_of, list_from, lists_within}
 use Rattle.pcl_cert.proofs.Numbers.{length_numbers, number_within}
 
 -- ---- pages
@@ -50,11 +49,6 @@ number_past bytes starts {k} {start} {place} lt is past =
     let list : List ℕ = drop start bytes in
     rw (listed_number bytes starts k lt is)
     (get_or_past (list_from list) place 0 (omega (arith, length_numbers (count_of list) (drop 2 list))))
-
--- a list of row tables is whole
-pub list_there : {bytes : List ℕ} (starts : List ℕ) (k : ℕ) → AllByRecursion (IsListAt bytes) starts → k < length starts
-    → (d : ℕ) → IsListAt bytes (get_or starts k d)
-list_there {bytes} starts k whole lt d = All-from_recursion (IsListAt bytes) starts whole k d lt
 
 -- a method's list is one of four
 pub list_within : {self : List (List ℕ)} (bytes starts : List ℕ) (row : ℕ) (method : Method) {code : ℕ} → self ≡ lists_within bytes starts
