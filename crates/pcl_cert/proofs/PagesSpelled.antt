@@ -1,8 +1,8 @@
 -- Certificates: whatever is read is spelled so, and what is spelled is read.
-use Rattle.std.proofs.Common.{◌≡◌, ℕ, ◌+◌, ◌^◌, ◌<◌, Bool, true, false, cond, eqb, List, [], ◌++◌, length, take, drop, Some, Result, Ok, Err, refl, sym, ap, ◌∙◌, append_assoc, arith, inl, inr}
+use Rattle.std.proofs.Common.{◌≡◌, ℕ, ◌+◌, ◌^◌, ◌<◌, Bool, true, false, cond, eqb, List, [], ◌++◌, length, take, drop, Some, Result, Ok, Err, refl, sym, ap, ◌∙◌, append_assoc, arith}
 use Rattle.std.specs.Int.{w16, w32, to_be_bytes}
 use Rattle.std.specs.List.{flat_map, AllByRecursion, starts_with}
-use Rattle.std.specs.Prelude.{nat_eq, if◌then◌else◌, IfOk, Option, ◌⊎◌}
+use Rattle.std.specs.Prelude.{nat_eq, if◌then◌else◌, IfOk, Option}
 use Rattle.std.specs.Global.{Vec}
 use Rattle.std.proofs.lemmas.Bool.{eqb-true}
 use Rattle.std.proofs.lemmas.List.{append-nil, nil_from_length, take-append-drop}
@@ -142,24 +142,22 @@ proof_spells {dpi} {format} = record {
 
 -- ---- certificates
 
-which_format : (one two : Bool) {rest : List ℕ} {x : Format × List ℕ}
-    → (if one then Ok (One, rest) else (if two then Ok (Two, rest) else Err BadMagic)) ≡ Ok x
-    → ((one ≡ true) × ((One, rest) ≡ x)) ⊎ ((two ≡ true) × ((Two, rest) ≡ x))
-which_format true two e = inl (refl, same_ok e)
-which_format false true e = inr (refl, same_ok e)
-which_format false false e = absurd cc
-
 begins_with : {format : Format} {bytes : List ℕ} {x : Format × List ℕ} → AreBytes bytes → magic format ≡ take 8 bytes
     → (format, drop 8 bytes) ≡ x → Splits bytes (magic x.0) x.1
 begins_with {bytes} are is made =
     rw (← made) (record { joined = rw is (sym (take-append-drop 8 bytes)); rest_are = rest_bytes 8 bytes are })
 
+format_by : (one two : Bool) {bytes : List ℕ} {x : Format × List ℕ} → AreBytes bytes → (one ≡ true → magic One ≡ take 8 bytes)
+    → (two ≡ true → magic Two ≡ take 8 bytes)
+    → (if one then Ok (One, drop 8 bytes) else (if two then Ok (Two, drop 8 bytes) else Err BadMagic)) ≡ Ok x → Splits bytes (magic x.0) x.1
+format_by true two are is other e = begins_with are (is refl) (same_ok e)
+format_by false true are is other e = begins_with are (other refl) (same_ok e)
+format_by false false are is other e = absurd cc
+
 format_found : {bytes : List ℕ} {x : Format × List ℕ} → AreBytes bytes → format_at bytes ≡ Ok x → Splits bytes (magic x.0) x.1
 format_found {bytes} are e =
-    elim (which_format (starts_with nat_eq bytes (magic One)) (starts_with nat_eq bytes (magic Two)) e) [
-      | inl is ↦ begins_with are (same_text (magic One) (take 8 bytes) (sym is.0)) is.1
-      | inr is ↦ begins_with are (same_text (magic Two) (take 8 bytes) (sym is.0)) is.1
-    ]
+    format_by (starts_with nat_eq bytes (magic One)) (starts_with nat_eq bytes (magic Two)) are
+    (λ is. same_text (magic One) (take 8 bytes) (sym is)) (λ is. same_text (magic Two) (take 8 bytes) (sym is)) e
 
 ended : {A : Type 0} (b : Bool) (fault : CertFault) {x y : A} → cond b (Ok x) (Err fault) ≡ Ok y → (b ≡ true) × (x ≡ y)
 ended true fault e = (refl, same_ok e)
@@ -178,10 +176,7 @@ certificate_found dpi {bytes} are e =
     let c = pages.found count.0.1 proofs.0 b.0.rest_are proofs.1 in
     let end = ended (eqb (length proofs.0.1) 0) Extra proofs.2 in
     let none : proofs.0.1 ≡ [] = nil_from_length proofs.0.1 (eqb-true _ _ end.0) in
-    rw (← end.1) (
-      (omega (arith, c.1.0, b.1), c.1.1),
-      rw c.1.0 ((splits_both (splits_both a b.0) c.0).joined ∙ rw (none, append-nil) refl),
-    )
+    rw (← end.1) ((omega (arith, c.1.0, b.1), c.1.1), rw c.1.0 ((splits_both (splits_both a b.0) c.0).joined ∙ rw (none, append-nil) refl))
 
 pages_again : (dpi : Dpi) (format : Format) {proofs : List PageProof} → AreProofs dpi format proofs
     → proofs_at (length proofs) dpi format (flat_map proof_bytes proofs) ≡ Ok (proofs, [])

@@ -24,7 +24,7 @@ use Rattle.pcl_cert.specs.declared.format.Format.TheVariants.{One, Two}
 use Rattle.pcl_cert.specs.RowTables.{list_of, number_at_place}
 use Rattle.pcl_cert.specs.PageTables.{table_of, AreLeastTablesOf}
 use Rattle.pcl_cert.specs.Certificates.{IsProof, HasLists}
-use Rattle.pcl_cert.specs.Checking.{Tables, AreLeastOf, HasLeastLists, AreOfPage, ArePlacesGood, AreEdgesGood, IsVerdict}
+use Rattle.pcl_cert.specs.Checking.{Tables, AreLeastOf, HasLeastLists, AreEdgesGood, IsVerdict}
 use Rattle.pcl_cert.proofs.FixedParts.{one_digit, two_digits, fixed_length}
 use Rattle.pcl_cert.proofs.KeptLists.{table_number}
 use Rattle.pcl_cert.proofs.ProvedLeast.{rows_of, width_of, few_rows, row_wide, above_wide}
@@ -47,15 +47,6 @@ module _ (page : Page) {text : List ℕ} {table : List RowNumbers} (is_of : IsTa
 
   -- ---- the tables
 
-  of_page : (tables : Tables) → AreLeastOf page tables → AreOfPage page table tables
-  of_page None least = omega (arith, is_of.size, printed.count)
-  of_page (Some lists) least = (omega (arith, is_of.size, printed.count), omega (arith, least.size, printed.count))
-
-  places_good : (tables : Tables) → AreLeastOf page tables → ArePlacesGood page tables
-  places_good None least = tt
-  places_good (Some lists) least = λ row method place within in_row.
-      good_places (least.least row method (omega (arith, printed.count))).table_is
-
   -- the length that a row is counted with is the least one
   first_least : {lists : List (List ℕ)} → AreLeastTablesOf page lists → {row : ℕ} {method : Method} {bytes : ℕ}
       → row < length (rows_of page) → bytes ≡ number_at_place lists row method 0
@@ -74,10 +65,9 @@ module _ (page : Page) {text : List ℕ} {table : List RowNumbers} (is_of : IsTa
   good_numbers : AreGoodNumbers (rows_of page) (IsLeastOfRow (width_of page) (rows_of page)) (node_number table)
   good_numbers = feasible_good (width_of page) (node_number table) (omega (arith, few_rows page printed)) is_of.feasible
 
-  edges_good : (tables : Tables) → AreLeastOf page tables → AreEdgesGood page table tables
-  edges_good None least row method inside within = good_numbers row method inside (omega (arith, printed.count))
-  edges_good (Some lists) least row method false within = good_numbers row method false (omega (arith, printed.count))
-  edges_good (Some lists) least row method true within =
+  edges_good : {lists : List (List ℕ)} → AreLeastTablesOf page lists → AreEdgesGood page table (Some lists)
+  edges_good least row method false within = good_numbers row method false (omega (arith, printed.count))
+  edges_good least row method true within =
       let good = good_numbers row method true (omega (arith, printed.count)) in
       record {
         switches = good.switches;
@@ -96,11 +86,15 @@ module _ (page : Page) {text : List ℕ} {table : List RowNumbers} (is_of : IsTa
 pub table_proved : (page : Page) (text : List ℕ) (table : List RowNumbers) (tables : Tables) → IsTableOf page table → PrintsPage page text
     → IsLeastText page.dpi page.size page.copies (rows_of page) (length text) → AreLeastOf page tables
     → IsVerdict page text table tables verdicts.Proved
-table_proved page text table tables is_of printed short least = (
+table_proved page text table None is_of printed short least =
+    let good = good_numbers page is_of printed in
+    let many : length table ≡ page_height page.size page.dpi + 1 = omega (arith, is_of.size, printed.count) in
+    (printed, many, tt, λ row method inside le. good row method inside (omega (arith, printed.count)), text_length page is_of printed short)
+table_proved page text table (Some lists) is_of printed short least = (
   printed,
-  of_page page is_of printed tables least,
-  places_good page is_of printed tables least,
-  edges_good page is_of printed tables least,
+  (omega (arith, is_of.size, printed.count), omega (arith, least.size, printed.count)),
+  λ row method place within in_row. good_places (least.least row method (omega (arith, printed.count))).table_is,
+  edges_good page is_of printed least,
   text_length page is_of printed short,
 )
 

@@ -5,6 +5,7 @@ use Rattle.std.specs.List.{prefix_len}
 use Rattle.std.proofs.lemmas.List.{append-nil, nil_from_length}
 use Rattle.pcl_base.specs.Digits.{is_digit, number_of, AreDigits}
 use Rattle.pcl_base.proofs.Fronts.{front_split}
+use Rattle.pcl_output.specs.Tokens.{IsSpelled}
 use Rattle.pcl_output.proofs.Numbers.{decimal_spelled}
 use Rattle.pcl_check.specs.declared.reading.parameter.Parameter.{Parameter}
 use Rattle.pcl_check.specs.inner.Reading.{IsParameter}
@@ -20,18 +21,15 @@ all_digits text {behind} e none =
 
 -- ---- decimals
 
-pub decimal_digits : {n : ℕ} → n ≤ 65536 → AreDigits (decimal n)
-decimal_digits {n} le = (decimal_spelled n (omega arith)).0
-
-pub decimal_number : {n : ℕ} → n ≤ 65536 → number_of (decimal n) ≡ n
-decimal_number {n} le = (decimal_spelled n (omega arith)).1
+decimal_is : {n : ℕ} → n ≤ 65536 → IsSpelled (decimal n) n
+decimal_is {n} le = decimal_spelled n (omega arith)
 
 -- decimals with the same byte after them
 pub same_front : {m n : ℕ} (byte : ℕ) {x y : List ℕ} → m ≤ 65536 → n ≤ 65536 → is_digit byte ≡ false
     → decimal m ++ byte ∷ x ≡ decimal n ++ byte ∷ y → (m ≡ n) × (x ≡ y)
 same_front {m} {n} byte a b off e =
-    let parts = one_split is_digit (decimal m) (decimal n) (decimal_digits a) (decimal_digits b) off off e in
-    (sym (decimal_number a) ∙ ap number_of parts.0 ∙ decimal_number b, parts.2)
+    let parts = one_split is_digit (decimal m) (decimal n) (decimal_is a).0 (decimal_is b).0 off off e in
+    (sym (decimal_is a).1 ∙ ap number_of parts.0 ∙ (decimal_is b).1, parts.2)
 
 -- a number that is spelled as a decimal is one without leading zeros
 pub record IsDecimal (found : Parameter) (byte n : ℕ) : Type 0 where
@@ -42,6 +40,6 @@ pub decimal_found : {text : List ℕ} {found : Parameter} {byte n : ℕ} (rest :
     → n ≤ 65535 → text ≡ decimal n ++ byte ∷ rest → IsDecimal found byte n
 decimal_found {found} {n} rest is off le e =
     let few : n ≤ 65536 = omega arith in
-    let parts = one_split is_digit found.digits.now (decimal n) is.are_digits (decimal_digits few) is.no_digit off (sym is.spelled ∙ e) in
-    let same : found.number ≡ n = omega (arith, is.number_is, ap number_of parts.0, decimal_number few) in
+    let parts = one_split is_digit found.digits.now (decimal n) is.are_digits (decimal_is few).0 is.no_digit off (sym is.spelled ∙ e) in
+    let same : found.number ≡ n = omega (arith, is.number_is, ap number_of parts.0, (decimal_is few).1) in
     record { digits = ap decimal same ∙ sym parts.0; letter = parts.1 }

@@ -83,35 +83,32 @@ start_cost numbers sums ends {place} offset kept small within =
     let stop : ℕ = place + offset + 1 in
     grind (arith, kept.0.0 stop, kept.0.1 stop, kept.1.0 stop, kept.1.1 stop, near_bytes offset, far_bytes offset)
 
-pub replacements_by_windows : {old row numbers : List ℕ} (sums : List ℕ) {ends : List ℕ} {place : ℕ} → length row ≤ row_limit
-    → length numbers ≡ length row + 1 → AreStartEnds old row ends 0 → AreBehindStarts numbers sums → AreKeptStarts numbers sums ends place
-    → AreGoodReplacements old row numbers place
-replacements_by_windows {numbers = numbers} sums {ends} {place} small size are behind kept = λ offset len some few within alike.
-    let start : ℕ = place + offset in
-    let least = (behind start (omega (arith, size))).1.least len (omega arith) (omega (arith, size)) in
-    let cost = start_cost numbers sums ends offset kept (omega arith) (start_reached place offset are some within alike) in
-    grind (arith, cost, least, get_or-drop start numbers len 0)
+module _ {old row numbers : List ℕ} (sums : List ℕ) {ends : List ℕ} {place : ℕ} (size : length numbers ≡ length row + 1)
+    (are : AreStartEnds old row ends 0) (behind : AreBehindStarts numbers sums) where
+  pub replacements_by_windows : length row ≤ row_limit → AreKeptStarts numbers sums ends place → AreGoodReplacements old row numbers place
+  replacements_by_windows small kept = λ offset len some few within alike.
+      let start : ℕ = place + offset in
+      let least = (behind start (omega (arith, size))).1.least len (omega arith) (omega (arith, size)) in
+      let cost = start_cost numbers sums ends offset kept (omega arith) (start_reached place offset are some within alike) in
+      grind (arith, cost, least, get_or-drop start numbers len 0)
 
-pub window_by_replacements : {old row numbers : List ℕ} (sums : List ℕ) {ends : List ℕ} {cost most place : ℕ} → length old ≡ length row
-    → length numbers ≡ length row + 1 → AreStartEnds old row ends 0 → AreBehindStarts numbers sums → place ≤ length row
-    → ((offset : ℕ) → offset < most → replacement_bytes offset ≤ cost) → AreGoodReplacements old row numbers place
-    → IsNotUndercut numbers sums ends cost most place
-window_by_replacements {row = row} {numbers} sums {ends} {place = place} same size are behind le spelled good = λ stop past few within.
-    let inside : place < length row = grind (arith, are.last) in
-    let is = are.starts place (omega arith) inside in
-    let offset : ℕ = stop - 1 - place in
-    let b = behind (place + offset) (omega (arith, is.within, size)) in
-    let len : ℕ = b.0 in
-    let alike = same_before_start offset same are inside (omega arith) in
-    let kept = good offset len (omega (arith, b.1.above)) (omega (arith, b.1.below)) (omega (arith, b.1.below, size, is.within)) alike in
-    grind (arith, kept, b.1.sum_is, get_or-drop (place + offset) numbers len 0, spelled offset)
+  window_by_replacements : {cost most : ℕ} → length old ≡ length row → place ≤ length row
+      → ((offset : ℕ) → offset < most → replacement_bytes offset ≤ cost) → AreGoodReplacements old row numbers place
+      → IsNotUndercut numbers sums ends cost most place
+  window_by_replacements same le spelled good = λ stop past few within.
+      let inside : place < length row = grind (arith, are.last) in
+      let is = are.starts place (omega arith) inside in
+      let offset : ℕ = stop - 1 - place in
+      let b = behind (place + offset) (omega (arith, is.within, size)) in
+      let alike = same_before_start offset same are inside (omega arith) in
+      let kept = good offset b.0 (omega (arith, b.1.above)) (omega (arith, b.1.below)) (omega (arith, b.1.below, size, is.within)) alike in
+      grind (arith, kept, b.1.sum_is, get_or-drop (place + offset) numbers b.0 0, spelled offset)
 
-pub kept_starts : {old row numbers : List ℕ} (sums : List ℕ) {ends : List ℕ} {place : ℕ} → length old ≡ length row
-    → length numbers ≡ length row + 1 → AreStartEnds old row ends 0 → AreBehindStarts numbers sums → place ≤ length row
-    → AreGoodReplacements old row numbers place → AreKeptStarts numbers sums ends place
-kept_starts sums same size are behind le good =
-    let kept = λ (cost most : ℕ) (few : (offset : ℕ) → offset < most → replacement_bytes offset ≤ cost).
-    window_by_replacements sums {cost = cost} {most = most} same size are behind le few good in (
-      (kept 1 31 (λ k few. grind (arith, near_bytes k)), kept 2 286 (λ k few. grind (arith, near_bytes k, far_bytes k))),
-      (kept 3 541 (λ k few. grind (arith, near_bytes k, far_bytes k)), kept 4 796 (λ k few. grind (arith, near_bytes k, far_bytes k))),
-    )
+  pub kept_starts : length old ≡ length row → place ≤ length row → AreGoodReplacements old row numbers place
+      → AreKeptStarts numbers sums ends place
+  kept_starts same le good =
+      let kept = λ (cost most : ℕ) (few : (offset : ℕ) → offset < most → replacement_bytes offset ≤ cost).
+      window_by_replacements {cost = cost} {most = most} same le few good in (
+        (kept 1 31 (λ k few. grind (arith, near_bytes k)), kept 2 286 (λ k few. grind (arith, near_bytes k, far_bytes k))),
+        (kept 3 541 (λ k few. grind (arith, near_bytes k, far_bytes k)), kept 4 796 (λ k few. grind (arith, near_bytes k, far_bytes k))),
+      )

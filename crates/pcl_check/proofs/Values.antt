@@ -33,11 +33,6 @@ pub no_values : (value : ℕ → ℕ) (from : ℕ) {count : ℕ} → count ≡ 0
 unfolding values
 no_values value from none = rw none
 
--- one value more
-pub values_more : (value : ℕ → ℕ) (from count : ℕ) → values value from (count + 1) ≡ values value from count ++ value (from + count) ∷ []
-unfolding values
-values_more value from count = values_joined value from count 1
-
 -- values put behind others, one after the other
 pub put_none : (value : ℕ → ℕ) (before : List ℕ) (from : ℕ) → before ≡ before ++ values value from (from - from)
 put_none value before from = rw (no_values value from {count = from - from} (omega arith)) (sym (append-nil before))
@@ -45,8 +40,9 @@ put_none value before from = rw (no_values value from {count = from - from} (ome
 pub put_more : (value : ℕ → ℕ) (before : List ℕ) {numbers new : List ℕ} {from place number : ℕ} → from ≤ place
     → numbers ≡ before ++ values value from (place - from) → new ≡ numbers ++ number ∷ [] → number ≡ value place
     → new ≡ before ++ values value from (place + 1 - from)
+unfolding values
 put_more value before {from = from} {place} {number} order so_far put is =
     let there : from + (place - from) ≡ place = omega arith in
     let count : place - from + 1 ≡ place + 1 - from = omega arith in
-    let more = values_more value from (place - from) in
+    let more = values_joined value from (place - from) 1 in
     let joined = append_assoc before (values value from (place - from)) (number ∷ []) in cc

@@ -36,10 +36,7 @@ module _ (width : ℕ) {rows : List (List ℕ)} {number : Node → ℕ} (feasibl
   few_commands few (opening ∷ tokens) {row} {current} is_open w t =
       let s = step_is_least (node row current is_open) opening tokens w.1 w.1.1 w.2 t in
       let r = few_commands few tokens true s.1 s.2 in
-      record {
-        bound = omega (arith, r.bound);
-        behind_switch = λ first h. omega (arith, r.behind_switch first (omega (arith, s.0, h)));
-      }
+      record { bound = omega (arith, r.bound); behind_switch = λ first h. omega (arith, r.behind_switch first (omega (arith, s.0, h))) }
   few_commands few (method digits next ends ∷ tokens) false w t = absurd (cc w.1.0)
   few_commands few (method digits next ends ∷ tokens) {row} {current} true w t =
       let s = step_is_least (node row current true) (method digits next ends) tokens w.1 w.1.2 w.2 t in

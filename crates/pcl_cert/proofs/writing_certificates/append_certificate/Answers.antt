@@ -8,10 +8,7 @@ use Rattle.pcl_cert.proofs.Written.{proof_is}
 use Rattle.pcl_cert.proofs.writing_certificates.append_certificate.Goals as goal
 
 pub append_proof-requires : goal.append_proof-requires
-append_proof-requires c = (
-  c.requires.0,
-  rw c.proof-item.is (proof_is c.args.proofs.now _ _ c.requires.1.1 c.loop-proof-test.true),
-)
+append_proof-requires c = (c.requires.0, rw c.proof-item.is (proof_is c.args.proofs.now _ _ c.requires.1.1 c.loop-proof-test.true))
 
 pub returns-in_err-append_proof-clause-front : goal.returns-in_err-append_proof-clause-front
 returns-in_err-append_proof-clause-front c =

@@ -14,8 +14,8 @@ returns c =
     let last : length numbers - 1 ≡ length row = omega (arith, c.requires.size) in
     let Kept : ℕ → ℕ → ℕ → Type 0 = λ cost most. IsNotUndercut numbers sums ends cost most in
     finds_place_too (AreKeptStarts numbers sums ends) (AreGoodReplacements old row numbers) c.first_place-3.result
-    (λ place le. replacements_by_windows sums c.requires.small c.requires.size c.fill_start_ends.ensures c.fill_behind_starts.ensures)
-    (λ place le. kept_starts sums c.requires.same c.requires.size c.fill_start_ends.ensures c.fill_behind_starts.ensures le)
+    (λ place le. replacements_by_windows sums c.requires.size c.fill_start_ends.ensures c.fill_behind_starts.ensures c.requires.small)
+    (λ place le. kept_starts sums c.requires.size c.fill_start_ends.ensures c.fill_behind_starts.ensures c.requires.same le)
     (first_of_four (Kept 1 31) (Kept 2 286) (Kept 3 541) (Kept 4 796) (length row) c.first_undercut-one.result c.first_undercut-two.result
     c.first_undercut-three.result c.first_undercut-four.result
     (rw (c.widen.ensures, last) at c.first_undercut-one.ensures) (rw (c.widen.ensures, last) at c.first_undercut-two.ensures)

@@ -4,10 +4,7 @@ use Rattle.pcl_check.proofs.Values.{put_none, put_more}
 use Rattle.pcl_check.proofs.places.windows.put_sums.Goals as goal
 
 pub loop-place-init : goal.loop-place-init
-loop-place-init c = record {
-  numbers = put_none (slice_index c.args.sums.now) c.args.window.now.numbers c.args.from;
-  room = omega arith;
-}
+loop-place-init c = record { numbers = put_none (slice_index c.args.sums.now) c.args.window.now.numbers c.args.from; room = omega arith }
 
 pub loop-place-preserved : goal.loop-place-preserved
 loop-place-preserved c = record {
