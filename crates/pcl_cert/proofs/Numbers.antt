@@ -27,18 +27,14 @@ numbers_of_front (suc n) bytes =
     rw (first, others, numbers_of_front n (drop 2 bytes)) refl
 
 -- the last of the numbers
-last_of_numbers : (n : ℕ) (bytes : List ℕ)
-    → ends_in_zero (numbers_from (suc n) bytes) ≡ nat_eq (from_be_bytes w16 (take 2 (drop (2 * n) bytes))) 0
-unfolding numbers_from
-last_of_numbers zero bytes = refl
-last_of_numbers (suc n) bytes =
-    let place : 2 + 2 * n ≡ 2 * suc n = omega arith in rw (← place, ← drop-drop (2 * n) 2 bytes) (last_of_numbers n (drop 2 bytes))
-
 pub end_of_numbers : (count : ℕ) (bytes : List ℕ) → 0 < count
     → ends_in_zero (numbers_from count bytes) ≡ nat_eq (from_be_bytes w16 (take 2 (drop (2 * (count - 1)) bytes))) 0
+unfolding numbers_from
 end_of_numbers zero bytes some = absurd (omega arith)
-end_of_numbers (suc n) bytes some =
-    let before : suc n - 1 ≡ n = omega arith in rw before (last_of_numbers n bytes)
+end_of_numbers (suc zero) bytes some = refl
+end_of_numbers (suc (suc n)) bytes some =
+    let place : 2 + 2 * (suc n - 1) ≡ 2 * (suc (suc n) - 1) = omega arith in
+    rw (← place, ← drop-drop (2 * (suc n - 1)) 2 bytes) (end_of_numbers (suc n) (drop 2 bytes) (omega arith))
 
 pub no_numbers_end : (count : ℕ) (bytes : List ℕ) → count ≡ 0 → false ≡ ends_in_zero (numbers_from count bytes)
 unfolding numbers_from

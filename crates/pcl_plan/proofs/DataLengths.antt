@@ -1,6 +1,5 @@
 -- What a row costs tells how many bytes of data it has.
-use Rattle.std.proofs.Common.{◌≡◌, ℕ, ◌+◌, ◌^◌, ◌<◌, ◌≤◌, arith, inl, inr}
-use Rattle.std.proofs.lemmas.Bool.{cases_lt}
+use Rattle.std.proofs.Common.{◌≡◌, ℕ, ◌+◌, ◌^◌, ◌<◌, ◌≤◌, arith}
 use Rattle.pcl_output.specs.Spelling.{row_cost}
 use Rattle.pcl_output.proofs.DigitCounts.{count_le, count_above, count_is}
 
@@ -11,12 +10,4 @@ cost_of_none bytes small low = omega arith
 -- of some bytes, whose number has one digit more than k
 pub cost_of_some : (k bytes : ℕ) → bytes ≤ 65535 → 10 ^ k + k < row_cost bytes → row_cost bytes ≤ 10 ^ (k + 1) + k + 1
     → bytes + k + 2 ≡ row_cost bytes
-cost_of_some k bytes small above below =
-    elim (cases_lt bytes (10 ^ k)) [
-      | inl few ↦ absurd (omega (arith, count_le k bytes few (omega arith)))
-      | inr some ↦
-          elim (cases_lt bytes (10 ^ (k + 1))) [
-            | inl few ↦ omega (arith, count_is k bytes some few (omega arith))
-            | inr more ↦ absurd (omega (arith, count_above (k + 1) bytes more (omega arith)))
-          ]
-    ]
+cost_of_some k bytes small above below = grind (arith, count_le k bytes, count_is k bytes, count_above (k + 1) bytes)

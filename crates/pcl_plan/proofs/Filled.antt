@@ -58,8 +58,7 @@ direct_of_start {rows} {row} {run} {bytes} is length_is start = record {
   is_length = length_is;
   sent = start.sent;
   skipped = λ count can. start.skipped count can.0 (skippable_within is can);
-  attained =
-      elim start.attained [ inl sent ↦ inl sent | inr skipped ↦ inr (skipped.0, skippable is skipped.1 skipped.2, skipped.3) ];
+  attained = elim start.attained [ inl sent ↦ inl sent | inr skipped ↦ inr (skipped.0, skippable is skipped.1 skipped.2, skipped.3) ];
 }
 
 direct_stays : {width : ℕ} {rows : List (List ℕ)} {number other : Node → ℕ} {row : ℕ} {method : Method} {least : ℕ}

@@ -1,7 +1,6 @@
 -- Steps are read off a table that is right.
-use Rattle.std.proofs.Common.{◌≡◌, ℕ, ◌+◌, ◌<◌, ◌≤◌, true, false, List, [], ◌∷◌, length, refl, ap, ◌∙◌, inl, inr, arith}
+use Rattle.std.proofs.Common.{◌≡◌, ℕ, ◌+◌, ◌<◌, ◌≤◌, true, false, List, [], ◌∷◌, length, refl, ap, ◌∙◌, arith}
 use Rattle.std.specs.Prelude.{not}
-use Rattle.std.proofs.lemmas.Bool.{cases_lt}
 use Rattle.std.proofs.Math.ListN.{drop_of_length-le}
 use Rattle.pcl_base.specs.declared.method.Method.{Method}
 use Rattle.pcl_rows.specs.Rows.{IsRowData}
@@ -32,15 +31,11 @@ pub feasible_table : {width : ℕ} {rows : List (List ℕ)} {table : List RowNum
     → IsFeasible (Leads width rows) (Ends rows) cost (node_number table)
 feasible_table {rows} {table} right = record {
   steps = λ a token b l.
-      elim (cases_lt (length rows) a.row) [
-        | inl past ↦ omega (arith, number_past table a (omega (arith, right.size)))
-        | inr within ↦ (right.right a.row (omega arith) within).steps a token b refl l
-      ];
+      let kept = λ (within : a.row ≤ length rows). (right.right a.row (omega arith) within).steps a token b refl l in
+      grind (arith, kept, number_past table a, right.size);
   ends = λ a end.
-      elim (cases_lt (length rows) a.row) [
-        | inl past ↦ number_past table a (omega (arith, right.size))
-        | inr within ↦ (right.right a.row (omega arith) within).ends a refl end
-      ];
+      let kept = λ (within : a.row ≤ length rows). (right.right a.row (omega arith) within).ends a refl end in
+      grind (arith, kept, number_past table a, right.size);
 }
 
 pub least_table : {width : ℕ} {rows : List (List ℕ)} {table : List RowNumbers} → AreRightFrom width rows table 0 → (a : Node)
@@ -142,25 +137,17 @@ module _ {width : ℕ} {rows : List (List ℕ)} {table : List RowNumbers} (is : 
   -- where the rest isn't white, a row is left
   pub row_left : (row : ℕ) (current : Method) → row ≤ length rows → 0 < outside (node_number table) row current → row < length rows
   row_left row current within some =
-      elim (cases_lt row (length rows)) [
-        | inl left ↦ left
-        | inr past ↦
-            let nothing = (row_right row within).ends (node row current false) refl in
-            absurd (omega (arith, nothing (refl, rw (drop_of_length-le rows past) tt)))
-      ]
+      let nothing = (row_right row within).ends (node row current false) refl in
+      grind (arith, some, λ (past : length rows ≤ row). nothing (refl, rw (drop_of_length-le rows past) tt))
 
   -- where the rest isn't white, the run of white rows ends before the rows do
   pub readable_run : {row : ℕ} (current : Method) {run : ℕ} → 0 < outside (node_number table) row current → IsWhiteRun rows row run
       → IsReadable table row run
   readable_run {row} current {run} some white =
+      let nothing = (row_right row (omega (arith, white.within))).ends (node row current false) refl in
       readable width rows table row run is.few
       (record { size = is.right.size; right = λ behind from within. row_right behind within }) white
-      (elim (cases_lt (row + run) (length rows)) [
-        | inl inked ↦ inked
-        | inr past ↦
-            let nothing = (row_right row (omega (arith, white.within))).ends (node row current false) refl in
-            absurd (omega (arith, nothing (refl, white_to_end white (omega (arith, white.within)))))
-      ])
+      (grind (arith, some, λ (past : length rows ≤ row + run). nothing (refl, white_to_end white (omega (arith, white.within)))))
 
   pub small_number : (a : Node) → a.row ≤ length rows → node_number table a ≤ 655374457
   small_number a within = omega (arith, (row_right a.row within).small a refl, is.few)
