@@ -50,16 +50,13 @@ feasible_by_sends : (width : ℕ) {rows : List (List ℕ)} (table : List RowNumb
     → IsFeasible (Leads width rows) (Ends rows) cost (node_number table)
 feasible_by_sends width {rows} table Counts few size sends good = record {
   steps = λ a token b l.
-      elim (cases_lt (length rows) a.row) [
-        | inl past ↦ omega (arith, number_past table a (omega (arith, size)))
-        | inr within ↦
-            steps_from width rows Counts (node_number table) few sends a.inside token b (good a.row a.method a.inside within) l
-      ];
+      let kept = λ (within : a.row ≤ length rows).
+      steps_from width rows Counts (node_number table) few sends a.inside token b (good a.row a.method a.inside within) l in
+      grind (arith, kept, number_past table a, size);
   ends = λ a end.
-      elim (cases_lt (length rows) a.row) [
-        | inl past ↦ number_past table a (omega (arith, size))
-        | inr within ↦ end_from rows Counts (node_number table) a.inside (good a.row a.method a.inside within) end
-      ];
+      let kept = λ (within : a.row ≤ length rows).
+      end_from rows Counts (node_number table) a.inside (good a.row a.method a.inside within) end in
+      grind (arith, kept, number_past table a, size);
 }
 
 -- ---- lengths

@@ -12,10 +12,7 @@ use Rattle.pcl_check.proofs.edges.are_good_switches.Goals as goal
 -- a number that a switch to no method undercuts
 within_rests : (number : Node → ℕ) (row n : ℕ) → n ≤ 1 + rest number row Plain → n ≤ 2 + rest number row Runs
     → n ≤ 2 + rest number row Packed → n ≤ 2 + rest number row Delta → (next : Method) → n ≤ switch_cost next + rest number row next
-within_rests number row n plain runs packed delta Plain = plain
-within_rests number row n plain runs packed delta Runs = runs
-within_rests number row n plain runs packed delta Packed = packed
-within_rests number row n plain runs packed delta Delta = delta
+within_rests number row n plain runs packed delta next = grind arith
 
 switch_within : (number : Node → ℕ) {row : ℕ} {method : Method} (next : Method) → AreGoodSwitches number method row
     → number_at number row method true ≤ switch_cost next + rest number row next

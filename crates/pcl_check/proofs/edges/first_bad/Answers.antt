@@ -1,6 +1,5 @@
-use Rattle.std.proofs.Common.{◌≡◌, ℕ, ◌+◌, ◌-◌, ◌<◌, ◌≤◌, List, length, sym, inl, inr, arith, Bool, true, false, drop, refl}
+use Rattle.std.proofs.Common.{◌≡◌, ℕ, ◌+◌, ◌-◌, ◌<◌, ◌≤◌, List, length, sym, arith, Bool, true, false, drop, refl}
 use Rattle.std.specs.Prelude.{slice_index}
-use Rattle.std.proofs.lemmas.Bool.{cases_lt}
 use Rattle.pcl_output.proofs.WhiteRows.{white_below, white_front, skippable_within, white_to_end, ink_left}
 use Rattle.pcl_check.specs.inner.EdgePasses.{AreRunEnds, AreEnds, Both, IsGoodStart, AreGoodSkipsTo, IsGoodBy, IsGoodIn}
 use Rattle.pcl_base.specs.declared.method.Method.{Method}
@@ -23,13 +22,10 @@ ends_grow {rows} {ends} row are lt =
     let here = are.runs row (omega arith) (omega arith) in
     let next = are.runs (row + 1) (omega arith) (omega arith) in
     let after : ℕ = slice_index ends (row + 1) in
-    elim (cases_lt after (slice_index ends row)) [
-      | inr grows ↦ grows
-      | inl falls ↦
-          let there : row + (after - row) ≡ row + 1 + (after - (row + 1)) = omega (arith, next.0) in
-          let white = white_below rows row (after - row) here.1.white (omega (arith, next.0)) here.1.within in
-          absurd (next.1.longest (omega (arith, next.0, here.0, here.1.within)) (rw (sym there) white))
-    ]
+    let falls = λ (less : after < slice_index ends row).
+    let there : row + (after - row) ≡ row + 1 + (after - (row + 1)) = omega (arith, next.0) in
+    let white = white_below rows row (after - row) here.1.white (omega (arith, next.0)) here.1.within in
+    next.1.longest (omega (arith, next.0, here.0, here.1.within)) (rw (sym there) white) in grind (arith, falls)
 
 ends_known : {rows : List (List ℕ)} {ends : List ℕ} {last : ℕ} → length rows ≡ last → last ≤ 9999 → AreRunEnds rows ends 0
     → AreEnds ends last
@@ -49,10 +45,8 @@ module _ {rows : List (List ℕ)} {ends : List ℕ} (number : Node → ℕ) (met
       record {
         opens = good.0;
         ends = λ white.
-            elim (cases_lt (slice_index ends row) (length rows)) [
-              | inl ink ↦ absurd (ink_left is.1 (omega (arith, is.0)) white)
-              | inr past ↦ good.1 (omega (arith, is.0, is.1.within, are.size))
-            ];
+            let inked = λ (ink : slice_index ends row < length rows). ink_left is.1 (omega (arith, is.0)) white in
+            grind (arith, inked, good.1, is.0, is.1.within, are.size);
       }
 
   start_of_outside : IsGoodOutside rows number method row → IsGoodStart ends number method row
