@@ -1,7 +1,6 @@
 -- Numbers at the front of bytes: what is read is what is spelled, and the other way round.
-use Rattle.std.proofs.Common.{◌≡◌, ℕ, ◌+◌, ◌^◌, ◌<◌, ◌≤◌, Bool, true, false, cond, List, ◌++◌, length, get_or, take, drop, Result, Ok, Err, refl, sym, ap, ◌∙◌, append_assoc, arith, inl, inr}
+use Rattle.std.proofs.Common.{◌≡◌, ℕ, ◌+◌, ◌^◌, ◌<◌, ◌≤◌, Bool, true, false, cond, List, ◌++◌, length, get_or, take, drop, Result, Ok, Err, refl, sym, ap, ◌∙◌, append_assoc, arith}
 use Rattle.std.specs.Int.{Width, w16, w32, byte_len, from_be_bytes, to_be_bytes}
-use Rattle.std.proofs.lemmas.Bool.{cases_lt}
 use Rattle.std.proofs.lemmas.List.{length-take, get_or-drop, get_or-take, get_or_past}
 use Rattle.std.proofs.lemmas.Nat.{be_bytes_2, be_bytes_4, from_be_bytes-to_be_bytes_2, from_be_bytes-to_be_bytes_4}
 use Rattle.pcl_cert.specs.declared.fault.CertFault.{CertFault}
@@ -16,11 +15,7 @@ pub rest_bytes : (n : ℕ) (bytes : List ℕ) → AreBytes bytes → AreBytes (d
 rest_bytes n bytes are i = rw get_or-drop (are (n + i))
 
 pub front_bytes : (n : ℕ) (bytes : List ℕ) → AreBytes bytes → AreBytes (take n bytes)
-front_bytes n bytes are i =
-    elim (cases_lt i n) [
-      | inl lt ↦ rw (get_or-take n bytes i 0 lt) (are i)
-      | inr le ↦ rw (get_or_past (take n bytes) i 0 (omega (arith, length-take n bytes))) (omega arith)
-    ]
+front_bytes n bytes are i = grind (arith, get_or-take n bytes i 0, get_or_past (take n bytes) i 0, length-take n bytes, are i)
 
 -- the bytes are a text and a rest
 pub record Splits (bytes text rest : List ℕ) : Type 0 where

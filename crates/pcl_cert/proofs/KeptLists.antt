@@ -54,12 +54,7 @@ trimmed_is {numbers} {len} within zeros ends = record {
   within = within;
   front = refl;
   zeros = zeros;
-  ends = elim (cases_lt 0 len) [
-    | inl some ↦
-        let last : len ≡ suc (len - 1) = omega arith in
-        ap (λ (n : ℕ). ends_in_zero (take n numbers)) last ∙ end_of_front numbers (len - 1) (omega arith) ∙ ends some
-    | inr none ↦ let no : len ≡ 0 = omega arith in rw no refl
-  ];
+  ends = grind (arith, end_of_front numbers (len - 1), ends);
 }
 
 -- a trimmed list stands for the numbers

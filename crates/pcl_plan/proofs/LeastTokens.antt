@@ -1,7 +1,6 @@
 -- Tokens in their shortest spelling: where they lead and what they cost, and numbers that no step falls below.
-use Rattle.std.proofs.Common.{◌≡◌, ℕ, ◌+◌, ◌<◌, ◌≤◌, Bool, true, false, List, length, refl, inl, inr, arith}
+use Rattle.std.proofs.Common.{◌≡◌, ℕ, ◌+◌, ◌<◌, ◌≤◌, Bool, true, false, List, length, refl, arith}
 use Rattle.std.specs.Prelude.{not}
-use Rattle.std.proofs.lemmas.Bool.{cases_lt}
 use Rattle.pcl_base.specs.declared.method.Method.{Method}
 use Rattle.pcl_base.specs.Method.{method_code}
 use Rattle.pcl_rows.specs.Rows.{IsRowData}
@@ -52,10 +51,6 @@ module _ (width : ℕ) (rows : List (List ℕ)) (row : ℕ) (current : Method) w
 
 -- ---- a number inside a sequence that no step falls below
 
--- data of fewer bytes costs less
-shorter_data : (short long : List ℕ) → length long ≤ 65535 → length short < length long → row_cost (length short) < row_cost (length long)
-shorter_data short long small less = omega (arith, count_grows (length short) (length long) (omega arith) (omega arith))
-
 module _ (width : ℕ) (rows : List (List ℕ)) (number : Node → ℕ) (row : ℕ) (current : Method)
     (steps : (token : Token) (b : Node) → Leads width rows (node row current true) token b
     → inside number row current ≤ cost token + number b) where
@@ -84,11 +79,7 @@ module _ (width : ℕ) (rows : List (List ℕ)) (number : Node → ℕ) (row : �
       → IsLeastLength current (row_above width rows row) (row_at rows row) (length bytes)
   row_is_least bytes lt has below = record {
     attained = (bytes, has, refl);
-    shortest = λ other also.
-        elim (cases_lt (length other) (length bytes)) [
-          | inl less ↦ absurd (omega (arith, below, shorter_data other bytes has.fits less, row_below other lt also))
-          | inr same ↦ same
-        ];
+    shortest = λ other also. grind (arith, below, count_grows (length other) (length bytes), has.fits, row_below other lt also);
   }
 
 -- ---- no spelling costs less

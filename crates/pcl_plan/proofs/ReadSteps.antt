@@ -142,17 +142,7 @@ module _ {width : ℕ} {rows : List (List ℕ)} {table : List RowNumbers} (is : 
   spells_followed : {row : ℕ} {current : Method} {behind : Node} {step : Step} (more : List Step) (tail : List Token)
       → (stays_inside step ≡ true → not behind.inside ≡ is_last more) → IsNextNode (node_number table) row current step behind
       → Spells behind.inside more tail → Spells (stays_inside step) more tail
-  spells_followed {behind} {step} more tail f p =
-      spells_any more tail
-      (λ others.
-      elim (cases_Bool behind.inside) [
-        | inl goes ↦ goes ∙ sym (p.goes_on goes).0
-        | inr closed ↦
-            elim (cases_Bool (stays_inside step)) [
-              | inr row_ends ↦ closed ∙ sym row_ends
-              | inl stays ↦ absurd (cc (f stays, ap not closed))
-            ]
-      ])
+  spells_followed {behind} {step} more tail f p = spells_any more tail (λ others. grind (arith, f, p.goes_on))
 
   pub read_more : {steps : List Step} {at behind : Node} {step : Step} → IsReadTo width rows table steps at → 0 < node_number table at
       → IsBestStep width rows (node_number table) at.row at.method step → IsNextNode (node_number table) at.row at.method step behind
