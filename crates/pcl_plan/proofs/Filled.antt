@@ -1,5 +1,5 @@
 -- A table that is filled one row upwards.
-use Rattle.std.proofs.Common.{◌≡◌, ℕ, zero, suc, ◌+◌, ◌-◌, ◌<◌, ◌≤◌, Bool, true, false, List, [], length, drop, refl, ap, subst, ◌∙◌, inl, inr, arith}
+use Rattle.std.proofs.Common.{◌≡◌, ℕ, zero, suc, ◌+◌, ◌-◌, ◌<◌, ◌≤◌, Bool, true, false, List, [], length, drop, refl, subst, ◌∙◌, inl, inr, arith}
 use Rattle.std.proofs.lemmas.Bool.{cases_lt}
 use Rattle.std.proofs.lemmas.List.{drop_more}
 use Rattle.pcl_base.specs.declared.method.Method.{Method}
@@ -22,14 +22,12 @@ use Rattle.pcl_plan.proofs.InkedRows.{inked_row_right}
 falls_by : {width : ℕ} {rows : List (List ℕ)} {table : List RowNumbers} {row run : ℕ} → AreRightFrom width rows table (row + 1)
     → IsWhiteRun rows row run → (method : Method) (near gap : ℕ) → 0 < near → near + gap ≤ run
     → rest (node_number table) (row + (near + gap)) method ≤ rest (node_number table) (row + near) method
-falls_by {table} {row} right is method near zero some within =
-    let same : near + 0 ≡ near = omega arith in omega (arith, ap (λ (k : ℕ). rest (node_number table) (row + k) method) same)
+falls_by {table} {row} right is method near zero some within = grind arith
 falls_by {rows} {table} {row} {run} right is method near (suc gap) some within =
     let before = falls_by right is method near gap some (omega arith) in
     let white = white_below rows row (near + gap) is.white (omega arith) is.within in
     let step = (right.right (row + (near + gap)) (omega arith) (omega (arith, is.within))).falls method (omega (arith, is.within)) white in
-    let next : row + (near + gap) + 1 ≡ row + (near + suc gap) = omega arith in
-    omega (arith, ap (λ (r : ℕ). rest (node_number table) r method) next)
+    grind (arith, before, step)
 
 pub readable : (width : ℕ) (rows : List (List ℕ)) (table : List RowNumbers) (row run : ℕ) → length rows ≤ 9999
     → AreRightFrom width rows table (row + 1) → IsWhiteRun rows row run → row + run < length rows → IsReadable table row run
@@ -38,9 +36,7 @@ readable width rows table row run few right is ink = record {
   within = omega (arith, right.size);
   few = omega (arith, right.size);
   falls = λ method near far some le within.
-      let gap : near + (far - near) ≡ far = omega arith in
-      let fall = falls_by right is method near (far - near) some (omega arith) in
-      omega (arith, ap (λ (k : ℕ). rest (node_number table) (row + k) method) gap);
+      grind (arith, falls_by right is method near (far - near) some (omega arith));
   small = λ a below inside. omega (arith, (right.right a.row (omega arith) (omega (arith, right.size))).small a refl, few);
 }
 

@@ -125,10 +125,8 @@ module _ {width : ℕ} {rows : List (List ℕ)} {number : Node → ℕ} {row : �
   skip_falls current zero can = absurd (omega (arith, can.0))
   skip_falls current (suc zero) can = omega arith
   skip_falls current (suc (suc count)) can =
-      let there : row + 1 + suc count ≡ row + suc (suc count) = omega arith in
       let below = skip_below width rows number (row + 1) current (next_steps current) is.few (skippable_rest rows row can) in
-      let grows = count_grows (suc count) (suc (suc count)) (omega arith) (omega (arith, can.1, is.few)) in
-      omega (arith, ap (λ (r : ℕ). rest number r current) there)
+      let grows = count_grows (suc count) (suc (suc count)) (omega arith) (omega (arith, can.1, is.few)) in grind (arith, below, grows)
 
   direct_falls : (current : Method) → rest number (row + 1) current ≤ is.direct current
   direct_falls current =

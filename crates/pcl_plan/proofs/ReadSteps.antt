@@ -1,7 +1,7 @@
 -- The steps that were read so far, and what comes after them, are a walk of least cost.
-use Rattle.std.proofs.Common.{◌≡◌, ℕ, ◌+◌, ◌<◌, ◌≤◌, Bool, true, false, List, [], ◌∷◌, ◌++◌, length, refl, sym, ap, subst, ◌∙◌, inl, inr, arith, append_assoc}
+use Rattle.std.proofs.Common.{◌≡◌, ℕ, ◌+◌, ◌<◌, ◌≤◌, Bool, true, false, List, [], ◌∷◌, ◌++◌, length, refl, sym, ap, subst, inl, inr, arith, append_assoc}
 use Rattle.std.specs.Prelude.{not}
-use Rattle.std.proofs.lemmas.Bool.{cases_lt, cases_Bool, false_from_ne_true}
+use Rattle.std.proofs.lemmas.Bool.{cases_Bool, false_from_ne_true}
 use Rattle.std.proofs.lemmas.List.{append-nil}
 use Rattle.pcl_base.specs.declared.method.Method.{Method}
 use Rattle.pcl_base.specs.Walks.{Walk, total}
@@ -128,16 +128,8 @@ module _ {width : ℕ} {rows : List (List ℕ)} {table : List RowNumbers} (is : 
       → IsNextNode (node_number table) row current step behind → (node_number table behind ≡ 0 → more ≡ [])
       → (0 < node_number table behind → is_last more ≡ false) → stays_inside step ≡ true → not behind.inside ≡ is_last more
   followed {behind} within p none some stays =
-      elim (cases_Bool behind.inside) [
-        | inl goes ↦
-            elim (cases_lt 0 (node_number table behind)) [
-              | inl more ↦ ap not goes ∙ sym (some more)
-              | inr zero ↦ absurd (cc ((ends is behind within (omega arith)).0))
-            ]
-        | inr closed ↦
-            let zero = ap (λ (i : Bool). node_number table (node behind.row behind.method i)) closed in
-            ap not closed ∙ sym (ap is_last (none (zero ∙ p.ends closed stays)))
-      ]
+      let zero = λ (closed : behind.inside ≡ false). ap (λ (i : Bool). node_number table (node behind.row behind.method i)) closed in
+      grind (arith, zero, p.ends, none, some, ends is behind within)
 
   spells_followed : {row : ℕ} {current : Method} {behind : Node} {step : Step} (more : List Step) (tail : List Token)
       → (stays_inside step ≡ true → not behind.inside ≡ is_last more) → IsNextNode (node_number table) row current step behind
