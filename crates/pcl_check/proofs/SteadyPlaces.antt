@@ -1,5 +1,5 @@
 -- Places of rows whose numbers never grow.
-use Rattle.std.proofs.Common.{◌≡◌, ◌≢◌, ℕ, zero, suc, ◌+◌, ◌-◌, ◌<◌, ◌≤◌, min, List, length, take, drop, replicate, refl, sym, ap, ◌∙◌, arith}
+use Rattle.std.proofs.Common.{◌≡◌, ◌≢◌, ℕ, zero, suc, ◌+◌, ◌-◌, ◌<◌, ◌≤◌, min, List, length, take, drop, replicate, refl, arith}
 use Rattle.std.specs.Prelude.{slice_index}
 use Rattle.std.proofs.lemmas.List.{get_or-take, length-take-le}
 use Rattle.pcl_base.proofs.Lists.{alike_at, rest_of_alike, run_byte, rest_of_run, falls_on, start_within}
@@ -124,8 +124,5 @@ replacements_before {numbers = numbers} {place = place} front before falls next 
     grind (arith, replaced_here front before falls next len some few (omega arith), near_bytes 0)
 replacements_before {old} {row} {numbers} {place = place} front before falls next (suc offset) len some few within alike =
     let more : suc offset ≡ 1 + offset = omega arith in
-    let here : place + 0 ≡ place = omega arith in
-    let same : slice_index old place ≡ slice_index row place =
-    ap (slice_index old) (sym here) ∙ sym (alike_at old row place {count = suc offset} 0 alike (omega arith)) ∙ ap (slice_index row) here in
     let kept = next offset len some few (omega arith) (rest_of_alike old row place offset (rw more at alike)) in
-    grind (arith, falls.same same, kept, bytes_grow offset)
+    grind (arith, falls.same, alike_at old row place {count = suc offset} 0 alike, kept, bytes_grow offset)

@@ -18,8 +18,7 @@ value_in value from (suc count) (suc k) lt = value_in value (from + 1) count k (
 pub values_joined : (value : ℕ → ℕ) (from one other : ℕ) → values value from (one + other)
     ≡ values value from one ++ values value (from + one) other
 unfolding values
-values_joined value from zero other =
-    let count : 0 + other ≡ other = omega arith in let start : from ≡ from + 0 = omega arith in cc
+values_joined value from zero other = grind arith
 values_joined value from (suc one) other =
     let count : suc one + other ≡ suc (one + other) = omega arith in
     let start : from + 1 + one ≡ from + suc one = omega arith in let rest = values_joined value (from + 1) one other in cc
@@ -42,7 +41,5 @@ pub put_more : (value : ℕ → ℕ) (before : List ℕ) {numbers new : List ℕ
     → new ≡ before ++ values value from (place + 1 - from)
 unfolding values
 put_more value before {from = from} {place} {number} order so_far put is =
-    let there : from + (place - from) ≡ place = omega arith in
-    let count : place - from + 1 ≡ place + 1 - from = omega arith in
-    let more = values_joined value from (place - from) 1 in
-    let joined = append_assoc before (values value from (place - from)) (number ∷ []) in cc
+    let joined = append_assoc before (values value from (place - from)) (number ∷ []) in
+    grind (arith, values_joined value from (place - from) 1)

@@ -14,17 +14,14 @@ good_for {old} {row} {numbers} {place} is steady need steps = rw is (record { en
 
 pub returns-in-Plain : goal.returns-in-Plain
 returns-in-Plain c said place le =
-    let need = c.is_need_end.ensures c.if-not-is_need_end.false in
-    let steady = c.is_steady.ensures c.if-not-is_steady.false in
-    good_for c.in-Plain.is steady need
+    good_for c.in-Plain.is (c.is_steady.ensures c.if-not-is_steady.false) (c.is_need_end.ensures c.if-not-is_need_end.false)
     (steps_plain c.args.numbers.now c.requires.same c.requires.size le
     (λ inside. omega (arith, c.greatest_fall.ensures place inside, leb-true c.greatest_fall.result 1 said)))
 
 pub returns-in-Runs : goal.returns-in-Runs
 returns-in-Runs c said place le =
-    let need = c.is_need_end.ensures c.if-not-is_need_end.false in
-    let steady = c.is_steady.ensures c.if-not-is_steady.false in
-    good_for c.in-Runs.is steady need (steps_runs c.args.numbers.now c.requires.same le (c.are_good_runs.ensures said place))
+    good_for c.in-Runs.is (c.is_steady.ensures c.if-not-is_steady.false) (c.is_need_end.ensures c.if-not-is_need_end.false)
+    (steps_runs c.args.numbers.now c.requires.same le (c.are_good_runs.ensures said place))
 
 pub returns-then-are_good_runs : goal.returns-then-are_good_runs
 returns-then-are_good_runs c said place le =
@@ -38,6 +35,5 @@ returns-then-are_good_runs c said place le =
 
 pub returns-in-Delta : goal.returns-in-Delta
 returns-in-Delta c said place le =
-    let need = c.is_need_end.ensures c.if-not-is_need_end.false in
-    let steady = c.is_steady.ensures c.if-not-is_steady.false in
-    good_for c.in-Delta.is steady need (steps_delta c.args.numbers.now c.requires.same le (c.are_good_replacements.ensures said place))
+    good_for c.in-Delta.is (c.is_steady.ensures c.if-not-is_steady.false) (c.is_need_end.ensures c.if-not-is_need_end.false)
+    (steps_delta c.args.numbers.now c.requires.same le (c.are_good_replacements.ensures said place))
