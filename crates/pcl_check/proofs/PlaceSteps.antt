@@ -26,90 +26,85 @@ copies_front wanted {e} r none gives =
     let size : length (given e) ≡ r.count = ap length r.given_is ∙ length-replicate r.count r.byte in
     (size, sym (rw (size, none) at gives) ∙ r.given_is)
 
-pub steps_plain : {old row : List ℕ} (numbers : List ℕ) {place : ℕ} → length old ≡ length row → length numbers ≡ length row + 1
-    → place ≤ length row → IsGoodByte numbers place → AreGoodSteps Plain old row numbers place
-steps_plain {old} {row} numbers {place} same size le good = λ e next l.
-    let s = plain_shape e.head l.element.head_is.method_is l.element.complete in
-    let g = agrees_gives (drop place old) (omega (arith, length-drop place old, length-drop place row)) l.element l.agrees in
-    grind (arith, good, g.0, s.0, s.1.above, s.1.below, s.1.bytes_are, l.next_is, length-drop place row, size)
+module _ {old row : List ℕ} (numbers : List ℕ) {place : ℕ} where
+  pub steps_plain : length old ≡ length row → length numbers ≡ length row + 1
+      → place ≤ length row → IsGoodByte numbers place → AreGoodSteps Plain old row numbers place
+  steps_plain same size le good = λ e next l.
+      let s = plain_shape e.head l.element.head_is.method_is l.element.complete in
+      let g = agrees_gives (drop place old) (omega (arith, length-drop place old, length-drop place row)) l.element l.agrees in
+      grind (arith, good, g.0, s.0, s.1.above, s.1.below, s.1.bytes_are, l.next_is, length-drop place row, size)
 
-pub steps_runs : {old row : List ℕ} (numbers : List ℕ) {place : ℕ} → length old ≡ length row → place ≤ length row
-    → AreGoodRuns row numbers 256 place → AreGoodSteps Runs old row numbers place
-steps_runs {old} {row} numbers {place} same le good = λ e next l.
-    let s = runs_shape e.head l.element.head_is.method_is l.element.head_is.in_range l.element.complete in
-    let g = agrees_gives (drop place old) (omega (arith, length-drop place old, length-drop place row)) l.element l.agrees in
-    let f = copies_front (drop place row) s.1 s.0 g.2 in
-    let kept = good s.1.count s.1.byte (omega (arith, s.1.above)) s.1.below (omega (arith, g.0, s.0, f.0, length-drop place row)) f.1 in
-    grind (arith, kept, s.1.bytes_are, l.next_is, s.0, f.0)
+  pub steps_runs : length old ≡ length row → place ≤ length row
+      → AreGoodRuns row numbers 256 place → AreGoodSteps Runs old row numbers place
+  steps_runs same le good = λ e next l.
+      let s = runs_shape e.head l.element.head_is.method_is l.element.head_is.in_range l.element.complete in
+      let g = agrees_gives (drop place old) (omega (arith, length-drop place old, length-drop place row)) l.element l.agrees in
+      let f = copies_front (drop place row) s.1 s.0 g.2 in
+      let kept = good s.1.count s.1.byte (omega (arith, s.1.above)) s.1.below (omega (arith, g.0, s.0, f.0, length-drop place row)) f.1 in
+      grind (arith, kept, s.1.bytes_are, l.next_is, s.0, f.0)
 
-pub steps_packed : {old row : List ℕ} (numbers : List ℕ) {place : ℕ} → length old ≡ length row → length numbers ≡ length row + 1
-    → place ≤ length row → AreGoodLiterals numbers place → AreGoodRuns row numbers 128 place → AreGoodSteps Packed old row numbers place
-steps_packed {old} {row} numbers {place} same size le literals runs = λ e next l.
-    let g = agrees_gives (drop place old) (omega (arith, length-drop place old, length-drop place row)) l.element l.agrees in
-    elim (cases_lt 0 (stop e)) [
-      | inr none ↦ grind (arith, l.next_is)
-      | inl some ↦
-          let s = packed_shape e.head e.bytes l.element.head_is.method_is l.element.head_is.in_range l.element.complete some in
-          elim s.1 [
-            | inl r ↦
-                let f = copies_front (drop place row) r s.0 g.2 in
-                let kept = runs r.count r.byte (omega (arith, r.above)) r.below (omega (arith, g.0, s.0, f.0, length-drop place row)) f.1 in
-                grind (arith, kept, r.bytes_are, l.next_is, s.0, f.0)
-            | inr b ↦
-                grind (arith, literals (length (given e)), g.0, length-drop place row, b.above, b.below, b.bytes_are, l.next_is, s.0)
-          ]
-    ]
+  pub steps_packed : length old ≡ length row → length numbers ≡ length row + 1
+      → place ≤ length row → AreGoodLiterals numbers place → AreGoodRuns row numbers 128 place → AreGoodSteps Packed old row numbers place
+  steps_packed same size le literals runs = λ e next l.
+      let g = agrees_gives (drop place old) (omega (arith, length-drop place old, length-drop place row)) l.element l.agrees in
+      elim (cases_lt 0 (stop e)) [
+        | inr none ↦ grind (arith, l.next_is)
+        | inl some ↦
+            let s = packed_shape e.head e.bytes l.element.head_is.method_is l.element.head_is.in_range l.element.complete some in
+            elim s.1 [
+              | inl r ↦
+                  let f = copies_front (drop place row) r s.0 g.2 in
+                  let kept = runs r.count r.byte (omega (arith, r.above)) r.below in
+                  grind (arith, kept (omega (arith, g.0, s.0, f.0, length-drop place row)) f.1, r.bytes_are, l.next_is, s.0, f.0)
+              | inr b ↦
+                  grind (arith, literals (length (given e)), g.0, length-drop place row, b.above, b.below, b.bytes_are, l.next_is, s.0)
+            ]
+      ]
 
-pub steps_delta : {old row : List ℕ} (numbers : List ℕ) {place : ℕ} → length old ≡ length row → place ≤ length row
-    → AreGoodReplacements old row numbers place → AreGoodSteps Delta old row numbers place
-steps_delta {old} {row} numbers {place} same le good = λ e next l.
-    let s = delta_shape e.head l.element.head_is.method_is l.element.head_is.in_range l.element.complete in
-    let g = agrees_gives (drop place old) (omega (arith, length-drop place old, length-drop place row)) l.element l.agrees in
-    let kept = good (offset_of e.head) (length (given e)) (omega (arith, s.above)) s.below in
-    grind (arith, kept (omega (arith, g.0, length-drop place row)) g.1, s.bytes_are, l.next_is)
+  pub steps_delta : length old ≡ length row → place ≤ length row
+      → AreGoodReplacements old row numbers place → AreGoodSteps Delta old row numbers place
+  steps_delta same le good = λ e next l.
+      let s = delta_shape e.head l.element.head_is.method_is l.element.head_is.in_range l.element.complete in
+      let g = agrees_gives (drop place old) (omega (arith, length-drop place old, length-drop place row)) l.element l.agrees in
+      let kept = good (offset_of e.head) (length (given e)) (omega (arith, s.above)) s.below in
+      grind (arith, kept (omega (arith, g.0, length-drop place row)) g.1, s.bytes_are, l.next_is)
 
--- ---- from elements to kinds
+  -- ---- from elements to kinds
 
--- an element of a shape undercuts no number
-shape_kept : {method : Method} {old row : List ℕ} (numbers : List ℕ) {place : ℕ} {shape : Shape} {bytes : ℕ}
-    → IsShapeElement method (drop place old) (drop place row) shape bytes → AreGoodSteps method old row numbers place
-    → slice_index numbers place ≤ bytes + slice_index numbers (place + shape_stop shape)
-shape_kept {row} numbers {place} {shape} is good =
-    let e : Element = element_of shape (drop place row) in
-    let kept = good e (place + stop e) (record { element = is.element; agrees = is.agrees; next_is = refl }) in
-    grind (arith, kept, is.bytes_are, is.stop_is)
+  -- an element of a shape undercuts no number
+  shape_kept : {method : Method} {shape : Shape} {bytes : ℕ} → IsShapeElement method (drop place old) (drop place row) shape bytes
+      → AreGoodSteps method old row numbers place → slice_index numbers place ≤ bytes + slice_index numbers (place + shape_stop shape)
+  shape_kept {shape} is good =
+      let e : Element = element_of shape (drop place row) in
+      let kept = good e (place + stop e) (record { element = is.element; agrees = is.agrees; next_is = refl }) in
+      grind (arith, kept, is.bytes_are, is.stop_is)
 
-pub bytes_of_steps : (old : List ℕ) {row : List ℕ} (numbers : List ℕ) {place : ℕ} → length numbers ≡ length row + 1
-    → AreGoodSteps Plain old row numbers place → IsGoodByte numbers place
-bytes_of_steps old {row} numbers {place} size good = λ inside.
-    shape_kept numbers (byte_step (drop place old) (drop place row) (omega (arith, length-drop place row, size))) good
+  pub bytes_of_steps : length numbers ≡ length row + 1 → AreGoodSteps Plain old row numbers place → IsGoodByte numbers place
+  bytes_of_steps size good = λ inside.
+      shape_kept (byte_step (drop place old) (drop place row) (omega (arith, length-drop place row, size))) good
 
-pub runs_of_steps : (old : List ℕ) {row : List ℕ} (numbers : List ℕ) {place : ℕ} → AreGoodSteps Runs old row numbers place
-    → AreGoodRuns row numbers 256 place
-runs_of_steps old {row} numbers {place} good = λ count byte some few within alike.
-    shape_kept numbers (run_step (drop place old) (omega arith) few (omega (arith, length-drop place row))
-    (first_of_run (drop place row) byte some alike)) good
+  pub runs_of_steps : AreGoodSteps Runs old row numbers place → AreGoodRuns row numbers 256 place
+  runs_of_steps good = λ count byte some few within alike.
+      shape_kept (run_step (drop place old) (omega arith) few (omega (arith, length-drop place row))
+      (first_of_run (drop place row) byte some alike)) good
 
-pub literals_of_steps : {old row : List ℕ} (numbers : List ℕ) {place : ℕ} → length numbers ≡ length row + 1
-    → AreGoodSteps Packed old row numbers place → AreGoodLiterals numbers place
-literals_of_steps {old} {row} numbers {place} size good = λ count some few within.
-    shape_kept numbers (literal_step (drop place old) (drop place row) count (omega arith) few
-    (omega (arith, length-drop place row, size))) good
+  pub literals_of_steps : length numbers ≡ length row + 1 → AreGoodSteps Packed old row numbers place → AreGoodLiterals numbers place
+  literals_of_steps size good = λ count some few within.
+      shape_kept (literal_step (drop place old) (drop place row) count (omega arith) few
+      (omega (arith, length-drop place row, size))) good
 
--- a literal of one byte costs as much as its repeat would
-pub repeats_of_steps : {old row : List ℕ} (numbers : List ℕ) {place : ℕ} → length numbers ≡ length row + 1
-    → AreGoodSteps Packed old row numbers place → AreGoodRuns row numbers 128 place
-repeats_of_steps {old} {row} numbers {place} size good = λ count byte some few within alike.
-    let literal = literals_of_steps numbers size good in
-    let repeated = λ (more : 1 < count). shape_kept numbers (repeat_step (drop place old) (omega arith) few
-    (omega (arith, length-drop place row)) (first_of_run (drop place row) byte some alike)) good in
-    grind (arith, literal count some few, repeated)
+  -- a literal of one byte costs as much as its repeat would
+  pub repeats_of_steps : length numbers ≡ length row + 1 → AreGoodSteps Packed old row numbers place → AreGoodRuns row numbers 128 place
+  repeats_of_steps size good = λ count byte some few within alike.
+      let literal = literals_of_steps size good in
+      let repeated = λ (more : 1 < count). shape_kept (repeat_step (drop place old) (omega arith) few
+      (omega (arith, length-drop place row)) (first_of_run (drop place row) byte some alike)) good in
+      grind (arith, literal count some few, repeated)
 
-pub replacements_of_steps : {old row : List ℕ} (numbers : List ℕ) {place : ℕ} → AreGoodSteps Delta old row numbers place
-    → AreGoodReplacements old row numbers place
-replacements_of_steps {old} {row} numbers {place} good = λ offset len some few within alike.
-    shape_kept numbers
-    (replace_step (drop place old) (drop place row) offset len (omega arith) few (omega (arith, length-drop place row)) alike) good
+  pub replacements_of_steps : AreGoodSteps Delta old row numbers place → AreGoodReplacements old row numbers place
+  replacements_of_steps good = λ offset len some few within alike.
+      shape_kept
+      (replace_step (drop place old) (drop place row) offset len (omega arith) few (omega (arith, length-drop place row)) alike) good
 
 -- ---- row tables
 

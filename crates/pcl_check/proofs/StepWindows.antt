@@ -36,13 +36,10 @@ pub window_next : {ends : List ℕ} {last : ℕ} {value : ℕ → ℕ} {most : �
 window_next {ends} {value = value} {most} {numbers} {filled} {taken} {place} {stop} {far} are le some is farthest put took =
     let above = are.above place le in
     let grows : stop ≤ far + 1 = omega (arith, is.before (omega (arith, are.size)), is.near, farthest) in
-    let start : place + (stop - place) ≡ stop = omega (arith, is.order) in
-    let count : stop - place + (far + 1 - stop) ≡ far + 1 - place = omega (arith, is.order, grows) in
     let joined = values_joined value place (stop - place) (far + 1 - stop) in
-    let all : filled ≡ values value place (far + 1 - place) = cc in
+    let all : filled ≡ values value place (far + 1 - place) = grind (arith, joined, put, is.numbers_are, is.order, grows) in
     let rest = values_rest value place (far + 1 - place) (omega (arith, above, farthest)) in
-    let less : far + 1 - place - 1 ≡ far + 1 - (place + 1) = omega arith in
-    let now : taken ≡ values value (place + 1) (far + 1 - (place + 1)) = cc in
+    let now : taken ≡ values value (place + 1) (far + 1 - (place + 1)) = grind (arith, rest, took, all) in
     record {
       some = omega (arith, ap length all, length_values value place (far + 1 - place), above, farthest);
       grows = grows;

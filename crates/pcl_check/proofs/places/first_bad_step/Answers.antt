@@ -11,7 +11,7 @@ returns-in-Plain c =
     let last : length numbers - 1 ≡ length c.args.row.now = omega (arith, c.requires.size) in
     rw c.in-Plain.is
     (finds_place_too (IsGoodByte numbers) (AreGoodSteps Plain c.args.old.now c.args.row.now numbers) c.first_bad_byte.result
-    (λ place le. steps_plain numbers c.requires.same c.requires.size le) (λ place le. bytes_of_steps c.args.old.now numbers c.requires.size)
+    (λ place le. steps_plain numbers c.requires.same c.requires.size le) (λ place le. bytes_of_steps numbers c.requires.size)
     (rw last at c.first_bad_byte.ensures))
 
 pub returns-in-Runs : goal.returns-in-Runs
@@ -21,7 +21,7 @@ returns-in-Runs c =
     rw c.in-Runs.is
     (finds_place_too (AreGoodRuns row numbers 256) (AreGoodSteps Runs c.args.old.now row numbers) c.first_bad_run.result
     (λ place le. steps_runs numbers c.requires.same le)
-    (λ place le. runs_of_steps c.args.old.now numbers) c.first_bad_run.ensures)
+    (λ place le. runs_of_steps numbers) c.first_bad_run.ensures)
 
 pub returns-in-Packed : goal.returns-in-Packed
 returns-in-Packed c =
