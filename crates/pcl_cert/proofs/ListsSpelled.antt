@@ -1,5 +1,5 @@
 -- Lists of row tables: whatever is read is spelled so, and what is spelled is read.
-use Rattle.std.proofs.Common.{◌≡◌, ℕ, zero, suc, ◌+◌, ◌*◌, ◌^◌, ◌<◌, false, List, [], ◌∷◌, ◌++◌, length, take, drop, Option, Some, None, Ok, refl, sym, ap, ◌∙◌, arith}
+use Rattle.std.proofs.Common.{◌≡◌, ℕ, zero, suc, ◌+◌, ◌*◌, ◌^◌, ◌<◌, false, List, [], ◌∷◌, ◌++◌, length, take, drop, Option, Some, None, Ok, refl, ap, ◌∙◌, arith}
 use Rattle.std.specs.Int.{w16, to_be_bytes}
 use Rattle.std.specs.List.{flat_map, AllByRecursion}
 use Rattle.std.specs.Prelude.{nat_lt}
@@ -57,8 +57,7 @@ list_spells few = record {
       let text : list_bytes x.0 ≡ take (2 + 2 * count_of bytes) bytes =
       ap list_bytes found.numbers_are ∙ list_spelled bytes are found.whole in (
         record {
-          joined = rw found.rest_is (sym (ap (λ (t : List ℕ). t ++ drop (2 + 2 * count_of bytes) bytes) text
-              ∙ take-append-drop (2 + 2 * count_of bytes) bytes));
+          joined = cc (found.rest_is, text, take-append-drop (2 + 2 * count_of bytes) bytes);
           rest_are = rw found.rest_is (rest_bytes (2 + 2 * count_of bytes) bytes are);
         },
         record {

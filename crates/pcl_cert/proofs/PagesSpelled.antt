@@ -2,7 +2,7 @@
 use Rattle.std.proofs.Common.{◌≡◌, ℕ, ◌+◌, ◌^◌, ◌<◌, Bool, true, false, cond, eqb, List, [], ◌++◌, length, take, drop, Some, Result, Ok, Err, refl, sym, ap, ◌∙◌, append_assoc, arith}
 use Rattle.std.specs.Int.{w16, w32, to_be_bytes}
 use Rattle.std.specs.List.{flat_map, AllByRecursion, starts_with}
-use Rattle.std.specs.Prelude.{nat_eq, if◌then◌else◌, IfOk, Option}
+use Rattle.std.specs.Prelude.{nat_eq, if◌then◌else◌, IfOk}
 use Rattle.std.specs.Global.{Vec}
 use Rattle.std.proofs.lemmas.Bool.{eqb-true}
 use Rattle.std.proofs.lemmas.List.{append-nil, nil_from_length, take-append-drop}
@@ -10,7 +10,7 @@ use Rattle.std.specs.Cmp.Lexicographic.{same_text}
 use Rattle.pcl_base.specs.declared.dpi.Dpi.{Dpi}
 use Rattle.pcl_base.specs.declared.dpi.Dpi.TheVariants.{Dpi300, Dpi600}
 use Rattle.pcl_base.specs.declared.size.Size.{Size}
-use Rattle.pcl_base.specs.declared.size.Size.TheVariants.{Executive, Letter, Legal, A4}
+use Rattle.pcl_base.specs.declared.size.Size.TheVariants.{Executive}
 use Rattle.pcl_base.specs.Size.{page_height, page_row_bytes}
 use Rattle.pcl_base.proofs.PageBounds.{row_small, height_small}
 use Rattle.pcl_cert.specs.declared.fault.CertFault.{CertFault}
@@ -25,6 +25,7 @@ use Rattle.pcl_cert.proofs.FieldsRead.{AreBytes, rest_bytes, Splits, splits_both
 use Rattle.pcl_cert.proofs.PagesRead.{tables_are_many, proofs_are_many}
 use Rattle.pcl_cert.proofs.Spelled.{Spells, number_spells, many_spell}
 use Rattle.pcl_cert.proofs.ListsSpelled.{places_spell}
+use Rattle.std.proofs.lemmas.Bool.Decides.{nat_tests}
 
 -- ---- tables
 
@@ -81,18 +82,8 @@ two : Spells (uint_at w16) (to_be_bytes w16) (λ n. n < 2 ^ 16)
 two = number_spells two_bytes
 
 -- a size is found by its height, and has it
-size_or_other : (test : Bool) (dpi : Dpi) {rows : ℕ} (first : Size) {size : Size} (other : Option Size)
-    → (test ≡ true → page_height first dpi ≡ rows) → (sized other ≡ Ok size → page_height size dpi ≡ rows)
-    → sized (if test then Some first else other) ≡ Ok size → page_height size dpi ≡ rows
-size_or_other true dpi first other is later e = rw (← same_ok e) (is refl)
-size_or_other false dpi first other is later e = later e
-
 size_found : (dpi : Dpi) {rows : ℕ} {size : Size} → sized (size_with_height dpi rows) ≡ Ok size → page_height size dpi ≡ rows
-size_found dpi =
-    size_or_other _ dpi Executive _ (λ is. sym (eqb-true _ _ is)) (
-    size_or_other _ dpi Letter _ (λ is. sym (eqb-true _ _ is)) (
-    size_or_other _ dpi Legal _ (λ is. sym (eqb-true _ _ is)) (
-    size_or_other _ dpi A4 _ (λ is. sym (eqb-true _ _ is)) (λ e. absurd cc))))
+size_found dpi {rows} {size} e = grind (arith, nat_tests)
 
 size_again : (dpi : Dpi) (size : Size) → size_with_height dpi (page_height size dpi) ≡ Some size
 size_again Dpi300 Executive = refl

@@ -1,5 +1,5 @@
 -- The numbers of a plan are small: each row can be sent as it is.
-use Rattle.std.proofs.Common.{◌≡◌, ℕ, zero, suc, ◌+◌, ◌-◌, ◌*◌, ◌^◌, ◌<◌, ◌≤◌, Bool, true, false, List, [], ◌∷◌, ◌++◌, length, refl, sym, ap, subst, ◌∙◌, arith}
+use Rattle.std.proofs.Common.{◌≡◌, ℕ, zero, suc, ◌+◌, ◌-◌, ◌*◌, ◌^◌, ◌<◌, ◌≤◌, Bool, true, false, List, [], ◌∷◌, length, refl, sym, subst, ◌∙◌, arith}
 use Rattle.std.specs.Prelude.{slice_index_or}
 use Rattle.std.specs.List.{AllByRecursion}
 use Rattle.std.proofs.lemmas.List.{append-nil, drop_all}
@@ -31,9 +31,9 @@ plain_row : {seed row : List ℕ} → IsCodable seed row → IsRowData Plain see
 plain_row {seed} {row} codable =
     let old : List ℕ = base Plain seed in
     let same : length old ≡ length row = length-base Plain seed ∙ codable.same_size in
-    let laid : overlaid old 0 row ≡ row =
-    overlaid_within old 0 row (omega (arith, same))
-    ∙ ap (λ (behind : List ℕ). row ++ behind) (drop_all (0 + length row) old (omega (arith, same))) ∙ append-nil row in
+    let within = overlaid_within old 0 row (omega (arith, same)) in
+    let none = drop_all (0 + length row) old (omega (arith, same)) in
+    let laid : overlaid old 0 row ≡ row = cc (within, none, append-nil row) in
     let elements = plain_elements row in
     record {
       whole = (elements.0, elements.1, elements.2, omega (arith, elements.3));

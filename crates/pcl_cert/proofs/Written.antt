@@ -34,34 +34,30 @@ listed_number bytes (s ∷ starts) (suc k) lt is = listed_number bytes starts k 
 listed_number bytes [] k lt is = absurd (omega arith)
 
 -- the number of a place, and 0 after the list
-pub number_there : (bytes starts : List ℕ) {k start place : ℕ} → k < length starts → start ≡ get_or starts k start
-    → place < count_of (drop start bytes)
-    → get_or (get_or (lists_within bytes starts) k []) place 0 ≡ from_be_bytes w16 (take 2 (drop (start + 2 + 2 * place) bytes))
-number_there bytes starts {k} {start} {place} lt is within =
-    let list : List ℕ = drop start bytes in
-    let from_start : start + (2 + 2 * place) ≡ start + 2 + 2 * place = omega arith in
-    let number = number_within (count_of list) place (drop 2 list) within in
-    rw (listed_number bytes starts k lt is, number, drop-drop (2 * place) 2 list, drop-drop (2 + 2 * place) start bytes, from_start)
+module _ (bytes starts : List ℕ) {k start place : ℕ} (lt : k < length starts) (is : start ≡ get_or starts k start) where
+  pub number_there : place < count_of (drop start bytes)
+      → get_or (get_or (lists_within bytes starts) k []) place 0 ≡ from_be_bytes w16 (take 2 (drop (start + 2 + 2 * place) bytes))
+  number_there within =
+      let list : List ℕ = drop start bytes in
+      let from_start : start + (2 + 2 * place) ≡ start + 2 + 2 * place = omega arith in
+      let number = number_within (count_of list) place (drop 2 list) within in
+      rw (listed_number bytes starts k lt is, number, drop-drop (2 * place) 2 list, drop-drop (2 + 2 * place) start bytes, from_start)
 
-pub number_past : (bytes starts : List ℕ) {k start place : ℕ} → k < length starts → start ≡ get_or starts k start
-    → count_of (drop start bytes) ≤ place → get_or (get_or (lists_within bytes starts) k []) place 0 ≡ 0
-number_past bytes starts {k} {start} {place} lt is past =
-    let list : List ℕ = drop start bytes in
-    rw (listed_number bytes starts k lt is)
-    (get_or_past (list_from list) place 0 (omega (arith, length_numbers (count_of list) (drop 2 list))))
+  pub number_past : count_of (drop start bytes) ≤ place → get_or (get_or (lists_within bytes starts) k []) place 0 ≡ 0
+  number_past past =
+      let list : List ℕ = drop start bytes in
+      rw (listed_number bytes starts k lt is)
+      (get_or_past (list_from list) place 0 (omega (arith, length_numbers (count_of list) (drop 2 list))))
 
 -- a method's list is one of four
-pub list_within : {self : List (List ℕ)} (bytes starts : List ℕ) (row : ℕ) (method : Method) {code : ℕ} → self ≡ lists_within bytes starts
-    → 4 * row + 4 ≤ length self → code ≡ method_code method → 4 * row + code < length starts
-list_within bytes starts row method view there is =
-    omega (arith, ap length view, length-map starts (λ (s : ℕ). list_from (drop s bytes)), there, is, method_small method)
+module _ {self : List (List ℕ)} (bytes starts : List ℕ) (row : ℕ) (method : Method) {code : ℕ} (view : self ≡ lists_within bytes starts)
+    (there : 4 * row + 4 ≤ length self) (is : code ≡ method_code method) where
+  pub list_within : 4 * row + code < length starts
+  list_within = omega (arith, ap length view, length-map starts (λ (s : ℕ). list_from (drop s bytes)), there, is, method_small method)
 
--- the list of a row and a method, by the place where it begins
-pub list_kept : {self : List (List ℕ)} (bytes starts : List ℕ) (row : ℕ) (method : Method) {code start : ℕ}
-    → self ≡ lists_within bytes starts → 4 * row + 4 ≤ length self → code ≡ method_code method
-    → start ≡ get_or starts (4 * row + code) start → list_of self row method ≡ list_from (drop start bytes)
-list_kept bytes starts row method {code} view there is at =
-    rw (view, ← is, listed_number bytes starts (4 * row + code) (list_within bytes starts row method view there is) at) refl
+  -- the list of a row and a method, by the place where it begins
+  pub list_kept : {start : ℕ} → start ≡ get_or starts (4 * row + code) start → list_of self row method ≡ list_from (drop start bytes)
+  list_kept at = rw (view, ← is, listed_number bytes starts (4 * row + code) list_within at)
 
 -- ---- proofs of pages in the format that they were read in
 
