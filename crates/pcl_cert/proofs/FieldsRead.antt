@@ -1,5 +1,5 @@
 -- Numbers at the front of bytes: what is read is what is spelled, and the other way round.
-use Rattle.std.proofs.Common.{◌≡◌, ℕ, ◌+◌, ◌^◌, ◌<◌, ◌≤◌, Bool, true, false, cond, List, ◌++◌, length, get_or, take, drop, Result, Ok, Err, refl, sym, ap, ◌∙◌, append_assoc, arith}
+use Rattle.std.proofs.Common.{◌≡◌, ℕ, ◌+◌, ◌^◌, ◌<◌, ◌≤◌, Bool, false, cond, List, ◌++◌, length, get_or, take, drop, Result, Ok, Err, refl, sym, ap, ◌∙◌, append_assoc, arith}
 use Rattle.std.specs.Int.{Width, w16, w32, byte_len, from_be_bytes, to_be_bytes}
 use Rattle.std.proofs.lemmas.List.{length-take, get_or-drop, get_or-take, get_or_past}
 use Rattle.std.proofs.lemmas.Nat.{be_bytes_2, be_bytes_4, from_be_bytes-to_be_bytes_2, from_be_bytes-to_be_bytes_4}
@@ -35,8 +35,7 @@ step_ok (Err fault) e = absurd cc
 
 pub passed : {A : Type 0} (b : Bool) (fault : CertFault) {r : Result A CertFault} {y : A} → cond b (Err fault) r ≡ Ok y
     → (b ≡ false) × (r ≡ Ok y)
-passed true fault e = absurd cc
-passed false fault e = (refl, e)
+passed b fault e = grind arith
 
 abbrev answered : {A : Type 0} → A → Result A CertFault
 answered x = Ok x

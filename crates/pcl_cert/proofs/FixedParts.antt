@@ -1,18 +1,18 @@
 -- The length of the fixed part of a page text.
-use Rattle.std.proofs.Common.{◌≡◌, ◌++◌, ℕ, ◌+◌, ◌/◌, ◌%◌, ◌<◌, ◌≤◌, [], ◌∷◌, length, refl, ap, ◌∙◌, arith, lit≤}
+use Rattle.std.proofs.Common.{◌≡◌, refl, ◌++◌, ℕ, ◌+◌, ◌/◌, ◌%◌, ◌<◌, ◌≤◌, [], ◌∷◌, length, ap, ◌∙◌, arith}
 use Rattle.std.specs.Prelude.{decimal}
 use Rattle.std.specs.Fmt.{digits}
 use Rattle.std.proofs.lemmas.Fmt.{decimal_digit, decimal_step}
 use Rattle.std.proofs.lemmas.List.{length-append}
 use Rattle.pcl_base.specs.declared.dpi.Dpi.{Dpi}
-use Rattle.pcl_base.specs.declared.dpi.Dpi.TheVariants.{Dpi300, Dpi600}
 use Rattle.pcl_base.specs.declared.size.Size.{Size}
-use Rattle.pcl_base.specs.declared.size.Size.TheVariants.{Executive, Letter, Legal, A4}
 use Rattle.pcl_base.specs.Size.{code_of}
 use Rattle.pcl_output.specs.LeastTexts.{fixed_bytes}
 use Rattle.pcl_check.specs.inner.Reading.{raster_start}
 use Rattle.pcl_check.proofs.Beginnings.{start_is}
 use Rattle.pcl_output.specs.Tokens.{start_bytes}
+use Rattle.pcl_base.specs.declared.dpi.Dpi.TheVariants.{Dpi300, Dpi600}
+use Rattle.pcl_base.specs.declared.size.Size.TheVariants.{Executive, Letter, Legal, A4}
 
 raster_length : (size : Size) (dpi : Dpi) → length (raster_start size dpi) ≡ 26
 unfolding digits
@@ -42,5 +42,4 @@ fixed_length dpi size copies =
     omega (arith, length-append (start_bytes dpi copies size) [], length-append (raster_start size dpi) [], raster_length size dpi)
 
 pub code_some : (size : Size) → 1 ≤ code_of size
-code_some Executive = lit≤ tt
-code_some _ = lit≤ tt
+code_some size = grind arith

@@ -1,5 +1,5 @@
 -- Reading row tables: where the lists stand in the bytes.
-use Rattle.std.proofs.Common.{◌≡◌, ℕ, ◌+◌, ◌-◌, ◌*◌, ◌<◌, ◌≤◌, Bool, true, false, List, [], ◌∷◌, ◌++◌, length, take, drop, Result, Ok, Err, refl, sym, ap, ◌∙◌, arith}
+use Rattle.std.proofs.Common.{◌≡◌, ℕ, ◌+◌, ◌-◌, ◌*◌, ◌<◌, ◌≤◌, Bool, false, List, [], ◌∷◌, ◌++◌, length, take, drop, Result, Ok, Err, sym, ap, ◌∙◌, arith}
 use Rattle.std.specs.Int.{w16}
 use Rattle.std.specs.List.{AllByRecursion}
 use Rattle.pcl_cert.specs.RowTables.{numbers_from}
@@ -37,8 +37,7 @@ behind_fails fault (Err other) = fails_same fault (λ e. cc)
 
 behind_either : (b : Bool) (numbers rest : List ℕ)
     → behind (if b then Err Places else Ok (numbers, rest)) ≡ (if b then Err Places else Ok rest)
-behind_either true numbers rest = refl
-behind_either false numbers rest = refl
+behind_either b numbers rest = grind arith
 
 -- what is found where the count is good and the numbers are there
 pub list_checked : {most : ℕ} (bytes : List ℕ) {count : ℕ} {rest : List ℕ} → uint_at w16 bytes ≡ Ok (count, rest)

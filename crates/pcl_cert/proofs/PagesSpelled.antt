@@ -8,9 +8,7 @@ use Rattle.std.proofs.lemmas.Bool.{eqb-true}
 use Rattle.std.proofs.lemmas.List.{append-nil, nil_from_length, take-append-drop}
 use Rattle.std.specs.Cmp.Lexicographic.{same_text}
 use Rattle.pcl_base.specs.declared.dpi.Dpi.{Dpi}
-use Rattle.pcl_base.specs.declared.dpi.Dpi.TheVariants.{Dpi300, Dpi600}
 use Rattle.pcl_base.specs.declared.size.Size.{Size}
-use Rattle.pcl_base.specs.declared.size.Size.TheVariants.{Executive}
 use Rattle.pcl_base.specs.Size.{page_height, page_row_bytes}
 use Rattle.pcl_base.proofs.PageBounds.{row_small, height_small}
 use Rattle.pcl_cert.specs.declared.fault.CertFault.{CertFault}
@@ -86,9 +84,7 @@ size_found : (dpi : Dpi) {rows : ℕ} {size : Size} → sized (size_with_height 
 size_found dpi {rows} {size} e = grind (arith, nat_tests)
 
 size_again : (dpi : Dpi) (size : Size) → size_with_height dpi (page_height size dpi) ≡ Some size
-size_again Dpi300 Executive = refl
-size_again Dpi600 Executive = refl
-size_again _ _ = refl
+size_again dpi size = grind (arith, nat_tests)
 
 row_bytes_small : (size : Size) (dpi : Dpi) → page_row_bytes size dpi < 2 ^ 16
 row_bytes_small size dpi = omega (arith, row_small size dpi)
@@ -151,8 +147,7 @@ format_found {bytes} are e =
     (λ is. same_text (magic One) (take 8 bytes) (sym is)) (λ is. same_text (magic Two) (take 8 bytes) (sym is)) e
 
 ended : {A : Type 0} (b : Bool) (fault : CertFault) {x y : A} → cond b (Ok x) (Err fault) ≡ Ok y → (b ≡ true) × (x ≡ y)
-ended true fault e = (refl, same_ok e)
-ended false fault e = absurd cc
+ended b fault e = grind arith
 
 pub certificate_found : (dpi : Dpi) {bytes : List ℕ} {x : Format × List PageProof} → AreBytes bytes → certificate_at dpi bytes ≡ Ok x
     → AreProofs dpi x.0 x.1 × (bytes ≡ certificate_bytes x.0 x.1)

@@ -1,11 +1,10 @@
 -- The start of a page text, number by number.
-use Rattle.std.proofs.Common.{◌≡◌, ℕ, ◌<◌, ◌≤◌, List, [], ◌∷◌, ◌++◌, Some, None, refl, sym, ◌∙◌, append_assoc, arith, lit<}
+use Rattle.std.proofs.Common.{◌≡◌, ℕ, ◌<◌, ◌≤◌, List, [], ◌∷◌, ◌++◌, Some, None, refl, sym, ◌∙◌, append_assoc, arith}
 use Rattle.std.specs.Prelude.{decimal, codes}
 use Rattle.std.proofs.lemmas.Bool.Decides.{nat_tests}
 use Rattle.std.proofs.lemmas.List.{append_cancel_left}
 use Rattle.pcl_base.specs.declared.dpi.Dpi.{Dpi}
 use Rattle.pcl_base.specs.declared.size.Size.{Size}
-use Rattle.pcl_base.specs.declared.size.Size.TheVariants.{Executive}
 use Rattle.pcl_base.specs.Dpi.{dots_per_inch}
 use Rattle.pcl_base.specs.Size.{code_of, size_with_code, page_width}
 use Rattle.pcl_output.specs.Tokens.{start_bytes}
@@ -29,12 +28,10 @@ start_is dpi copies size rest =
     regroup (decimal copies) (decimal (code_of size)) (decimal (dots_per_inch dpi)) (decimal (page_width size dpi)) rest
 
 pub code_few : (size : Size) → code_of size < 100
-code_few Executive = lit< tt
-code_few _ = lit< tt
+code_few size = grind arith
 
 pub size_coded : (size : Size) → size_with_code (code_of size) ≡ Some size
-size_coded Executive = refl
-size_coded _ = refl
+size_coded size = grind (arith, nat_tests)
 
 -- what is read up to the copies, and up to the size
 pub record IsCopies (text : List ℕ) (copies : ℕ) (rest : List ℕ) : Type 0 where

@@ -23,8 +23,7 @@ letter_code capital true = capital
 letter_code capital false = capital + 32
 
 pub letter_is : (capital : ℕ) (ends : Bool) → letter capital ends ≡ letter_code capital ends ∷ []
-letter_is capital true = refl
-letter_is capital false = refl
+letter_is capital ends = grind arith
 
 abbrev pub left_over : Bool → Method → List ℕ → ℕ → List ℕ → LeftOver
 left_over inside current above rows text = record { inside = inside; method = current; above = above; rows = rows; text = text }

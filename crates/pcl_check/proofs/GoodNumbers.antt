@@ -103,8 +103,7 @@ good_feasible width {rows} table few size good =
 
 -- a sequence that goes on or ends
 ends_or : (inside : Bool) → not (not inside) ≡ inside
-ends_or true = refl
-ends_or false = refl
+ends_or inside = grind arith
 
 pub feasible_good : (width : ℕ) {rows : List (List ℕ)} (number : Node → ℕ) → length rows ≤ 65535
     → IsFeasible (Leads width rows) (Ends rows) cost number → AreGoodNumbers rows (IsLeastOfRow width rows) number

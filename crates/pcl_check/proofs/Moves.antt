@@ -8,7 +8,6 @@ use Rattle.pcl_base.proofs.Lists.{same_fronts}
 use Rattle.pcl_coders.proofs.Ends.{white_byte}
 use Rattle.pcl_base.specs.declared.dpi.Dpi.{Dpi}
 use Rattle.pcl_base.specs.declared.method.Method.{Method}
-use Rattle.pcl_base.specs.declared.method.Method.TheVariants.{Plain}
 use Rattle.pcl_base.specs.declared.size.Size.{Size}
 use Rattle.pcl_base.specs.Method.{method_code, method_with_code}
 use Rattle.pcl_base.specs.Size.{page_row_bytes}
@@ -20,6 +19,7 @@ use Rattle.pcl_output.specs.PageText.{IsRowOf}
 use Rattle.pcl_check.specs.inner.Reading.{LeftOver, RestPrints, GivesRows}
 use Rattle.pcl_check.proofs.Splits.{no_split}
 use Rattle.pcl_check.proofs.Fronts.{letter_code, letter_is, left_over, white_rows, white_front, Told, front_at, is_method, is_skip, is_send, no_digit}
+use Rattle.std.proofs.lemmas.Bool.Decides.{nat_tests}
 
 -- ---- letters and methods
 
@@ -27,8 +27,7 @@ pub same_case : (capital : ℕ) (a b : Bool) → letter_code capital a ≡ lette
 same_case capital a b e = grind arith
 
 pub with_code : (m : Method) → method_with_code (method_code m) ≡ Some m
-with_code Plain = refl
-with_code _ = refl
+with_code m = grind (arith, nat_tests)
 
 pub same_method : {a b : Method} → method_code a ≡ method_code b → a ≡ b
 same_method {a} {b} e = let s : Some a ≡ Some b = sym (with_code a) ∙ ap method_with_code e ∙ with_code b in cc

@@ -17,10 +17,7 @@ switch_cost Packed = 2
 switch_cost Delta = 2
 
 pub switching_is : (next : Method) → switching next ≡ switch_cost next
-switching_is Plain = omega (arith, count_of_none)
-switching_is Runs = omega (arith, count_is 0 1 (omega arith) (omega arith) (omega arith))
-switching_is Packed = omega (arith, count_is 0 2 (omega arith) (omega arith) (omega arith))
-switching_is Delta = omega (arith, count_is 0 3 (omega arith) (omega arith) (omega arith))
+switching_is next = grind (arith, count_of_none, count_is 0 1, count_is 0 2, count_is 0 3)
 
 -- the least that comes after a switch
 pub record IsLeastSwitch (direct : ByMethod) (switched : ℕ) : Type 0 where

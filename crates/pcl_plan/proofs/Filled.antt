@@ -3,7 +3,6 @@ use Rattle.std.proofs.Common.{◌≡◌, ℕ, zero, suc, ◌+◌, ◌-◌, ◌<�
 use Rattle.std.proofs.lemmas.Bool.{cases_lt}
 use Rattle.std.proofs.lemmas.List.{drop_more}
 use Rattle.pcl_base.specs.declared.method.Method.{Method}
-use Rattle.pcl_base.specs.declared.method.Method.TheVariants.{Plain}
 use Rattle.pcl_coders.specs.Coding.{IsLeastLength}
 use Rattle.pcl_output.specs.declared.table.RowNumbers.{RowNumbers}
 use Rattle.pcl_output.specs.Tokens.{AreWhite}
@@ -117,9 +116,7 @@ module _ {width : ℕ} {rows : List (List ℕ)} {old new : List RowNumbers} {row
 
 -- where the rest is white
 end_is : (method : Method) (is_open : Bool) → number_in end_numbers method is_open ≡ end_number is_open
-end_is Plain true = refl
-end_is Plain false = refl
-end_is _ _ = refl
+end_is method is_open = grind arith
 
 put_end : {old new : List RowNumbers} {row : ℕ} → IsPut old new row end_numbers → (a : Node) → a.row ≡ row
     → node_number new a ≡ end_number a.inside

@@ -32,8 +32,7 @@ pub record IsNext (width : ℕ) (rows : List (List ℕ)) (number : Node → ℕ)
   pub within : at.row ≤ length rows
 
 not_not : (b : Bool) → b ≡ not (not b)
-not_not true = refl
-not_not _ = refl
+not_not b = grind arith
 
 -- ---- what was read
 
@@ -57,16 +56,14 @@ spells_any [] behind same s = s
 spells_any (step ∷ more) behind same s = subst (λ (o : Bool). Spells o (step ∷ more) behind) (same refl) s
 
 pub opened_more : (is_open : Bool) (token : Token) (tail : List Token) → opened is_open (token ∷ tail) ≡ opened is_open (token ∷ []) ++ tail
-opened_more true token tail = refl
-opened_more false token tail = refl
+opened_more is_open token tail = grind arith
 
 module _ {width : ℕ} {rows : List (List ℕ)} {table : List RowNumbers} (is : IsRightTable width rows table) where
   -- after a step that isn't a row, the number is the lesser one
   rest_is : {row : ℕ} (current : Method) (is_open : Bool) → row ≤ length rows
       → (is_open ≡ true → 0 < outside (node_number table) row current) → (is_open ≡ false → outside (node_number table) row current ≡ 0)
       → rest (node_number table) row current ≡ node_number table (node row current is_open)
-  rest_is current true within some none = omega (arith, opens is current within (some refl))
-  rest_is current false within some none = omega (arith, none refl)
+  rest_is current is_open within some none = grind (arith, opens is current within, some, none)
 
   next_number : {row : ℕ} {current : Method} (step : Step) {at : Node} → IsNextNode (node_number table) row current step at
       → stays_inside step ≡ true → at.row ≤ length rows
@@ -120,8 +117,7 @@ module _ {width : ℕ} {rows : List (List ℕ)} {table : List RowNumbers} (is : 
 
   inside_below : (row : ℕ) (current : Method) (is_open : Bool) → row ≤ length rows → 0 < outside (node_number table) row current
       → inside (node_number table) row current ≤ node_number table (node row current is_open)
-  inside_below row current true within some = omega arith
-  inside_below row current false within some = omega (arith, opens is current within some)
+  inside_below row current is_open within some = grind (arith, opens is current within some)
 
   -- a step that isn't a row ends its sequence where no other follows
   followed : {row : ℕ} {current : Method} {behind : Node} {step : Step} {more : List Step} → behind.row ≤ length rows

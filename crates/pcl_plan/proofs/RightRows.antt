@@ -3,7 +3,7 @@ use Rattle.std.proofs.Common.{◌≡◌, ℕ, ◌+◌, ◌<◌, ◌≤◌, Bool,
 use Rattle.std.proofs.lemmas.Bool.{cases_Bool}
 use Rattle.pcl_base.specs.declared.method.Method.{Method}
 use Rattle.pcl_base.specs.declared.method.Method.TheVariants.{Plain}
-use Rattle.pcl_output.specs.Tokens.{Token, opening, method, skip, send, AreWhite}
+use Rattle.pcl_output.specs.Tokens.{Token, method, AreWhite}
 use Rattle.pcl_output.specs.declared.node.Node.{Node}
 use Rattle.pcl_output.specs.Nodes.{Leads}
 use Rattle.pcl_output.specs.Table.{outside}
@@ -15,10 +15,7 @@ use Rattle.pcl_output.proofs.Walking.{node}
 
 -- no token leads upwards
 pub leads_down : (width : ℕ) (rows : List (List ℕ)) (a : Node) (token : Token) (b : Node) → Leads width rows a token b → a.row ≤ b.row
-leads_down width rows a opening b l = omega (arith, ap (λ (n : Node). n.row) l.1)
-leads_down width rows a (method digits next ends) b l = omega (arith, ap (λ (n : Node). n.row) l.2)
-leads_down width rows a (skip digits count ends) b l = omega (arith, ap (λ (n : Node). n.row) l.5)
-leads_down width rows a (send digits bytes) b l = omega (arith, ap (λ (n : Node). n.row) l.4)
+leads_down width rows a token b l = grind arith
 
 -- what holds in each method, inside a sequence and outside, holds of all nodes after so many rows
 pub at_row : (P : Node → Type 0) (row : ℕ) → ((current : Method) (is_open : Bool) → P (node row current is_open)) → (a : Node) → a.row
@@ -48,8 +45,7 @@ end_number true = 1
 end_number false = 0
 
 end_small : (is_open : Bool) → end_number is_open ≤ 1
-end_small true = omega arith
-end_small _ = omega arith
+end_small is_open = grind arith
 
 pub white_row_right : {width : ℕ} {rows : List (List ℕ)} {number : Node → ℕ} {row : ℕ} → AreWhite (drop row rows)
     → ((a : Node) → a.row ≡ row → number a ≡ end_number a.inside)
