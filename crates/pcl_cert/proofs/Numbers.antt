@@ -20,11 +20,7 @@ length_numbers (suc n) bytes = ap suc (length_numbers n (drop 2 bytes))
 pub numbers_of_front : (n : ℕ) (bytes : List ℕ) → numbers_from n (take (2 * n) bytes) ≡ numbers_from n bytes
 unfolding numbers_from
 numbers_of_front zero bytes = refl
-numbers_of_front (suc n) bytes =
-    let more : 2 * suc n ≡ 2 + 2 * n = omega arith in
-    let first : take 2 (take (2 * suc n) bytes) ≡ take 2 bytes = take-take 2 (2 * suc n) bytes (omega arith) in
-    let others : drop 2 (take (2 * suc n) bytes) ≡ take (2 * n) (drop 2 bytes) = rw more (drop-take 2 (2 * n) bytes) in
-    rw (first, others, numbers_of_front n (drop 2 bytes)) refl
+numbers_of_front (suc n) bytes = grind (arith, take-take 2 (2 * suc n) bytes, drop-take 2 (2 * n) bytes, numbers_of_front n (drop 2 bytes))
 
 -- the last of the numbers
 pub end_of_numbers : (count : ℕ) (bytes : List ℕ) → 0 < count
@@ -32,9 +28,7 @@ pub end_of_numbers : (count : ℕ) (bytes : List ℕ) → 0 < count
 unfolding numbers_from
 end_of_numbers zero bytes some = absurd (omega arith)
 end_of_numbers (suc zero) bytes some = refl
-end_of_numbers (suc (suc n)) bytes some =
-    let place : 2 + 2 * (suc n - 1) ≡ 2 * (suc (suc n) - 1) = omega arith in
-    rw (← place, ← drop-drop (2 * (suc n - 1)) 2 bytes) (end_of_numbers (suc n) (drop 2 bytes) (omega arith))
+end_of_numbers (suc (suc n)) bytes some = grind (arith, end_of_numbers (suc n) (drop 2 bytes), drop-drop (2 * n) 2 bytes)
 
 pub no_numbers_end : (count : ℕ) (bytes : List ℕ) → count ≡ 0 → false ≡ ends_in_zero (numbers_from count bytes)
 unfolding numbers_from
@@ -46,9 +40,7 @@ pub number_within : (n k : ℕ) (bytes : List ℕ) → k < n → get_or (numbers
 unfolding numbers_from
 number_within zero k bytes lt = absurd (omega arith)
 number_within (suc n) zero bytes lt = refl
-number_within (suc n) (suc k) bytes lt =
-    let place : 2 + 2 * k ≡ 2 * suc k = omega arith in
-    rw (← place, ← drop-drop (2 * k) 2 bytes) (number_within n k (drop 2 bytes) (omega arith))
+number_within (suc n) (suc k) bytes lt = grind (arith, number_within n k (drop 2 bytes), drop-drop (2 * k) 2 bytes)
 
 -- ---- the bytes that spell them
 

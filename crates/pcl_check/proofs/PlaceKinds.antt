@@ -12,38 +12,35 @@ use Rattle.pcl_check.specs.inner.PlacePasses.{IsNotUndercut, AreGoodRuns, AreGoo
 
 -- ---- runs
 
-pub runs_by_window : {row : List ℕ} (numbers : List ℕ) {ends : List ℕ} {most place : ℕ} → AreRunStops row ends 0
-    → IsNotUndercut numbers numbers ends 2 most place → AreGoodRuns row numbers most place
-runs_by_window {row} numbers {ends} {place} are kept = λ count byte some few within alike.
-    let is = are.runs place (omega arith) (omega arith) in
-    let run = run_len_of (slice_index ends place - place) is (omega (arith, is.after)) in
-    let le = run.longest count byte (omega (arith, length-drop place row)) alike in
-    kept (place + count) (omega arith) (omega arith) (omega (arith, le, is.after))
+module _ {row : List ℕ} (numbers : List ℕ) {ends : List ℕ} {most place : ℕ} (are : AreRunStops row ends 0) where
+  pub runs_by_window : IsNotUndercut numbers numbers ends 2 most place → AreGoodRuns row numbers most place
+  runs_by_window kept = λ count byte some few within alike.
+      let is = are.runs place (omega arith) (omega arith) in
+      let run = run_len_of (slice_index ends place - place) is (omega (arith, is.after)) in
+      let le = run.longest count byte (omega (arith, length-drop place row)) alike in
+      kept (place + count) (omega arith) (omega arith) (omega (arith, le, is.after))
 
-pub window_by_runs : {row : List ℕ} (numbers : List ℕ) {ends : List ℕ} {most place : ℕ} → AreRunStops row ends 0 → place ≤ length row
-    → AreGoodRuns row numbers most place → IsNotUndercut numbers numbers ends 2 most place
-window_by_runs {row} numbers {ends} {place = place} are le good = λ stop past few within.
-    let inside : place < length row = grind (arith, are.last) in
-    let is = are.runs place (omega arith) inside in
-    let byte : ℕ = slice_index (drop place row) 0 in
-    let run = run_len_of (slice_index ends place - place) is (omega (arith, is.after)) in
-    let alike = run_part (drop place row) {len = stop - place} byte (omega arith) run.equal in
-    grind (arith, good (stop - place) byte (omega arith) (omega arith) (omega (arith, is.within)) alike)
+  pub window_by_runs : place ≤ length row → AreGoodRuns row numbers most place → IsNotUndercut numbers numbers ends 2 most place
+  window_by_runs le good = λ stop past few within.
+      let inside : place < length row = grind (arith, are.last) in
+      let is = are.runs place (omega arith) inside in
+      let byte : ℕ = slice_index (drop place row) 0 in
+      let run = run_len_of (slice_index ends place - place) is (omega (arith, is.after)) in
+      let alike = run_part (drop place row) {len = stop - place} byte (omega arith) run.equal in
+      grind (arith, good (stop - place) byte (omega arith) (omega arith) (omega (arith, is.within)) alike)
 
 -- ---- literals
 
-pub literals_by_window : (numbers sums ends : List ℕ) {place : ℕ} → ArePlaced numbers sums → length ends ≡ length numbers
-    → ((k : ℕ) → k < length ends → slice_index ends k ≡ length ends - 1) → IsNotUndercut sums sums ends 1 128 place
-    → AreGoodLiterals numbers place
-literals_by_window numbers sums ends {place} placed size all kept = λ count some few within.
-    let far = kept (place + count) (omega arith) (omega arith) (omega (arith, all place (omega (arith, size)), size)) in
-    omega (arith, placed place (omega arith), placed (place + count) within)
+module _ (numbers sums ends : List ℕ) {place : ℕ} (placed : ArePlaced numbers sums) (size : length ends ≡ length numbers)
+    (all : (k : ℕ) → k < length ends → slice_index ends k ≡ length ends - 1) where
+  pub literals_by_window : IsNotUndercut sums sums ends 1 128 place → AreGoodLiterals numbers place
+  literals_by_window kept = λ count some few within.
+      let far = kept (place + count) (omega arith) (omega arith) (omega (arith, all place (omega (arith, size)), size)) in
+      omega (arith, placed place (omega arith), placed (place + count) within)
 
-pub window_by_literals : (numbers sums ends : List ℕ) {place : ℕ} → ArePlaced numbers sums → length ends ≡ length numbers
-    → ((k : ℕ) → k < length ends → slice_index ends k ≡ length ends - 1) → place < length numbers → AreGoodLiterals numbers place
-    → IsNotUndercut sums sums ends 1 128 place
-window_by_literals numbers sums ends {place} placed size all inside good = λ stop past few within.
-    grind (arith, all place, good (stop - place), placed place, placed stop, size)
+  pub window_by_literals : place < length numbers → AreGoodLiterals numbers place → IsNotUndercut sums sums ends 1 128 place
+  window_by_literals inside good = λ stop past few within.
+      grind (arith, all place, good (stop - place), placed place, placed stop, size)
 
 -- ---- replacements
 
@@ -65,9 +62,9 @@ same_before_start {old} {row} {place} offset size are inside within =
     let other = length-take-le offset (drop place old) (omega (arith, length-drop place old, is.within)) in
     ext_get_or 0 (take offset (drop place row)) (take offset (drop place old)) (one ∙ sym other)
     (λ k below.
-    let same = is.same (place + k) (omega arith) (omega (arith, one)) in
-    let lt : k < offset = omega (arith, one) in
-    simp (get_or-take {A = ℕ}, get_or-drop {A = ℕ}) (sym same))
+    let ours = get_or-take offset (drop place row) k 0 in
+    let theirs = get_or-take offset (drop place old) k 0 in
+    grind (arith, one, is.same (place + k), get_or-drop place row k 0, get_or-drop place old k 0))
 
 -- by the four counts of bytes of a command
 abbrev pub AreKeptStarts : List ℕ → List ℕ → List ℕ → ℕ → Type 0

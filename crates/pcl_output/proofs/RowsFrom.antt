@@ -21,8 +21,7 @@ pub rows_at : {y n : ℕ} (width : ℕ) (bytes : List ℕ) → y < n → drop y 
 unfolding rows_from
 rows_at {y} {n} width bytes lt =
     let one : n - y ≡ suc (n - (y + 1)) = omega arith in
-    let step : drop width (drop (y * width) bytes) ≡ drop ((y + 1) * width) bytes = grind (arith, drop-drop width (y * width) bytes) in
-    rw (drop_rows y n width bytes, one, drop_rows (y + 1) n width bytes, step)
+    grind (arith, drop_rows y n width bytes, drop_rows (y + 1) n width bytes, drop-drop width (y * width) bytes)
 
 pub length_rows : (n width : ℕ) (bytes : List ℕ) → length (rows_from n width bytes) ≡ n
 unfolding rows_from
@@ -37,13 +36,6 @@ row_of_bytes y n width bytes lt = row_at_first y (rows_from n width bytes) (rows
 
 -- ---- rows of bitmaps
 
--- a row has its bytes
-row_room : (k n : ℕ) {width : ℕ} (bytes : List ℕ) {height : ℕ} → length bytes ≡ height * width → k + suc n ≡ height
-    → width ≤ length (drop (k * width) bytes)
-row_room k n {width} bytes {height} whole e =
-    let all : length bytes ≡ k * width + (width + n * width) = rw (whole, ← e) (grind arith) in
-    omega (arith, length-drop (k * width) bytes, all)
-
 rows_from_are : (n k : ℕ) {picture : Picture} → IsPicture picture → k + n ≡ page_height picture.size picture.dpi
     → AllByRecursion (IsRowOf picture.size picture.dpi)
     (rows_from n (page_row_bytes picture.size picture.dpi) (drop (k * page_row_bytes picture.size picture.dpi) picture.bytes))
@@ -53,7 +45,8 @@ rows_from_are (suc n) k {picture} is e =
     let width = page_row_bytes picture.size picture.dpi in
     let bytes = picture.bytes in
     let next : drop width (drop (k * width) bytes) ≡ drop ((k + 1) * width) bytes = grind (arith, drop-drop width (k * width) bytes) in
-    let room : width ≤ length (drop (k * width) bytes) = row_room k n bytes is.whole e in (
+    let all : length bytes ≡ k * width + (width + n * width) = rw (is.whole, ← e) (grind arith) in
+    let room : width ≤ length (drop (k * width) bytes) = omega (arith, length-drop (k * width) bytes, all) in (
       (length-take-le width (drop (k * width) bytes) room, λ x past. is.clear_pads x k past),
       rw next (rows_from_are n (k + 1) is (omega arith)),
     )
