@@ -153,10 +153,7 @@ module _ {width : ℕ} {rows : List (List ℕ)} {number : Node → ℕ} {row : �
       let cost_small = row_cost_small d.bytes (length_small d.is_length) in
       let low : inside number row current ≤ 65544 * (length rows - row) - 2 =
       omega (arith, is.placed current true, is.switched.stays current, d.sent, is.inside_page) in
-      elim is_open as (λ (o : Bool). number (node row current o) ≤ 65544 * (length rows - row) + 1) [
-        | true ↦ omega (arith, low)
-        | false ↦ omega (arith, low, opens current, is.inside_page)
-      ]
+      grind (arith, low, opens current, is.inside_page)
 
   pub inked_row_right : IsRowRight width rows number row
   inked_row_right = record {

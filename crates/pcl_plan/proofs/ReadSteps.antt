@@ -1,7 +1,7 @@
 -- The steps that were read so far, and what comes after them, are a walk of least cost.
-use Rattle.std.proofs.Common.{◌≡◌, ℕ, ◌+◌, ◌<◌, ◌≤◌, Bool, true, false, List, [], ◌∷◌, ◌++◌, length, refl, sym, ap, subst, inl, inr, arith, append_assoc}
+use Rattle.std.proofs.Common.{◌≡◌, ℕ, ◌+◌, ◌<◌, ◌≤◌, Bool, true, false, List, [], ◌∷◌, ◌++◌, length, refl, sym, ap, subst, arith, append_assoc}
 use Rattle.std.specs.Prelude.{not}
-use Rattle.std.proofs.lemmas.Bool.{cases_Bool, false_from_ne_true}
+use Rattle.std.proofs.lemmas.Bool.{false_from_ne_true}
 use Rattle.std.proofs.lemmas.List.{append-nil}
 use Rattle.pcl_base.specs.declared.method.Method.{Method}
 use Rattle.pcl_base.specs.Walks.{Walk, total}
@@ -138,13 +138,10 @@ module _ {width : ℕ} {rows : List (List ℕ)} {table : List RowNumbers} (is : 
   unfolding Spells
   read_more {steps} {at} {behind} {step} r some best p =
       let next = next_is step r.within best p in
+      let zero = λ (closed : behind.inside ≡ false). ap (λ (i : Bool). node_number table (node behind.row behind.method i)) closed in
       record {
         within = next.within;
-        inked = λ left.
-            elim (cases_Bool behind.inside) [
-              | inl goes ↦ (p.goes_on goes).1
-              | inr closed ↦ omega (arith, left, ap (λ (i : Bool). node_number table (node behind.row behind.method i)) closed)
-            ];
+        inked = λ left. grind (arith, left, p.goes_on, zero);
         tokens = r.tokens ++ opened at.inside (next.token ∷ []);
         goes_on = λ more tail none others spells walk t.
             let f = followed next.within p none others in
