@@ -42,8 +42,8 @@ steps_from width rows Counts number few sends is_open token b good l = absurd cc
 
 end_from : (rows : List (List ℕ)) (Counts : ℕ → Method → ℕ → Type 0) (number : Node → ℕ) {row : ℕ} {current : Method} (is_open : Bool)
     → IsGoodNumber rows Counts number row current is_open → Ends rows (node row current is_open) → number (node row current is_open) ≡ 0
-end_from rows Counts number true good end = absurd cc
 end_from rows Counts number false good end = good.ends end.1
+end_from rows Counts number true good end = absurd cc
 
 feasible_by_sends : (width : ℕ) {rows : List (List ℕ)} (table : List RowNumbers) (Counts : ℕ → Method → ℕ → Type 0) → length rows ≤ 65535
     → length table ≡ length rows + 1 → AreGoodSends width rows (node_number table) → AreGoodNumbers rows Counts (node_number table)

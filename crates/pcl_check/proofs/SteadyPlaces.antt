@@ -1,5 +1,5 @@
 -- Places of rows whose numbers never grow.
-use Rattle.std.proofs.Common.{◌≡◌, ◌≢◌, ℕ, zero, suc, ◌+◌, ◌-◌, ◌<◌, ◌≤◌, min, List, length, take, drop, replicate, refl, arith}
+use Rattle.std.proofs.Common.{◌≡◌, ◌≢◌, ℕ, zero, suc, ◌+◌, ◌-◌, ◌<◌, ◌≤◌, min, List, length, take, refl, arith}
 use Rattle.std.specs.Prelude.{slice_index}
 use Rattle.std.proofs.lemmas.List.{get_or-take, length-take-le}
 use Rattle.pcl_base.proofs.Lists.{alike_at, rest_of_alike, run_byte, rest_of_run, falls_on, start_within}
@@ -91,37 +91,23 @@ replacements_by_start old row {place = place} steady front order before differs 
 
 -- ---- from a place to the one before
 
--- the part of a run behind its first byte
-rest_kept : (row numbers : List ℕ) {most : ℕ} (place : ℕ) → AreGoodRuns row numbers most (place + 1) → (count byte : ℕ) → count ≤ most
-    → place + count ≤ length row → take count (drop place row) ≡ replicate count byte → 1 < count
-    → slice_index numbers (place + 1) ≤ 2 + slice_index numbers (place + count)
-rest_kept row numbers place next zero byte few inside alike more = absurd (omega arith)
-rest_kept row numbers place next (suc rest) byte few inside alike more =
-    grind (arith, next rest byte (omega arith) (omega arith) (omega arith) (rest_of_run row place rest alike))
-
 -- a run of some bytes at the place before
 pub runs_before : {row numbers : List ℕ} {most place : ℕ} → IsSteady numbers → FallsByRun row numbers place
     → AreGoodRuns row numbers most (place + 1) → AreGoodRuns row numbers most place
 runs_before {row} {numbers} {place = place} steady falls next = λ count byte some few inside alike.
     let byte_at : (k : ℕ) → k < count → slice_index row (place + k) ≡ byte = λ k. run_byte row place count byte k alike in
-    let rest = rest_kept row numbers place next count byte few inside alike in
-    grind (arith, falls.one, falls.two, falls.more, steady.falls (place + 1) (place + 2), byte_at 0, byte_at 1, byte_at 2)
-
--- a replacement that starts at the place itself
-replaced_here : {old row numbers least : List ℕ} {end place : ℕ} → AreFrontSums numbers least end → place < end
-    → FallsByStart old row numbers least place → AreGoodReplacements old row numbers (place + 1) → (len : ℕ) → 0 < len → len ≤ 8
-    → place + len ≤ length row → slice_index numbers place ≤ 1 + len + slice_index numbers (place + len)
-replaced_here {numbers = numbers} {place = place} front before falls next len some few within =
-    let later : 1 < len → slice_index numbers (place + 1) ≤ len + slice_index numbers (place + len) = λ more.
-    grind (arith, next 0 (len - 1) (omega arith) (omega arith) (omega arith) refl, near_bytes 0) in
-    let front_sum = front_sums (place + 1) (place + len) front (omega arith) (omega arith) (omega arith) in
-    grind (arith, falls.same, falls.differs, later, front_sum)
+    let rest = λ (more : 1 < count).
+    let same : count ≡ suc (count - 1) = omega arith in
+    next (count - 1) byte (omega arith) (omega arith) (omega arith) (rest_of_run row place (count - 1) (rw same at alike)) in
+    grind (arith, falls.one, falls.two, falls.more, steady.falls (place + 1) (place + 2), byte_at 0, byte_at 1, byte_at 2, rest)
 
 -- replacements at the place before
 pub replacements_before : {old row numbers least : List ℕ} {end place : ℕ} → AreFrontSums numbers least end → place < end
     → FallsByStart old row numbers least place → AreGoodReplacements old row numbers (place + 1) → AreGoodReplacements old row numbers place
 replacements_before {numbers = numbers} {place = place} front before falls next zero len some few within alike =
-    grind (arith, replaced_here front before falls next len some few (omega arith), near_bytes 0)
+    let later = λ (more : 1 < len). next 0 (len - 1) (omega arith) (omega arith) (omega arith) refl in
+    let front_sum = front_sums (place + 1) (place + len) front (omega arith) (omega arith) (omega arith) in
+    grind (arith, falls.same, falls.differs, later, front_sum, near_bytes 0)
 replacements_before {old} {row} {numbers} {place = place} front before falls next (suc offset) len some few within alike =
     let more : suc offset ≡ 1 + offset = omega arith in
     let kept = next offset len some few (omega arith) (rest_of_alike old row place offset (rw more at alike)) in
