@@ -9,11 +9,6 @@ use Rattle.pcl_output.specs.declared.node.Node.{Node}
 use Rattle.pcl_check.specs.Edges.{inside_code, place_of, IsFirstBad, FindsBad}
 use Rattle.pcl_check.specs.inner.EdgePasses.{found_place, first_found, At, Both}
 
--- what stands before another number stands in its row or above it
-pub row_before : (row other : ℕ) (method next : Method) (inside is_open : Bool)
-    → place_of row method inside < place_of other next is_open → row ≤ other
-row_before row other method next inside is_open lt = grind (arith, method_small next)
-
 -- the first bad number of one fact is that of another which differs from it at no number up to there
 first_too : (One Other : ℕ → Method → Bool → Type 0) {last : ℕ} {bad : Node}
     → (Other bad.row bad.method bad.inside → One bad.row bad.method bad.inside)
@@ -24,7 +19,7 @@ first_too One Other {bad = bad} back to found = record {
   within = found.within;
   is_bad = λ other. found.is_bad (back other);
   first = λ row method inside before.
-      to row method inside (omega (arith, row_before row bad.row method bad.method inside bad.inside before, found.within)) before
+      to row method inside (grind (arith, method_small method, method_small bad.method, before, found.within)) before
       (found.first row method inside before);
 }
 
