@@ -1,5 +1,5 @@
 -- Numbers at the front of bytes: what is read is what is spelled, and the other way round.
-use Rattle.std.proofs.Common.{◌≡◌, ℕ, ◌+◌, ◌^◌, ◌<◌, ◌≤◌, Bool, false, cond, List, ◌++◌, length, get_or, take, drop, Result, Ok, Err, refl, sym, ap, ◌∙◌, append_assoc, arith}
+use Rattle.std.proofs.Common.{◌≡◌, ℕ, ◌+◌, ◌^◌, ◌<◌, ◌≤◌, Bool, false, cond, List, ◌++◌, length, get_or, take, drop, Result, Ok, Err, refl, append_assoc, arith}
 use Rattle.std.specs.Int.{Width, w16, w32, byte_len, from_be_bytes, to_be_bytes}
 use Rattle.std.proofs.lemmas.List.{length-take, get_or-drop, get_or-take, get_or_past}
 use Rattle.std.proofs.lemmas.Nat.{be_bytes_2, be_bytes_4, from_be_bytes-to_be_bytes_2, from_be_bytes-to_be_bytes_4}
@@ -23,8 +23,7 @@ pub record Splits (bytes text rest : List ℕ) : Type 0 where
   pub rest_are : AreBytes rest
 
 pub splits_both : {a x b y c : List ℕ} → Splits a x b → Splits b y c → Splits a (x ++ y) c
-splits_both {x} {y} {c} p q =
-    record { joined = p.joined ∙ ap (λ (t : List ℕ). x ++ t) q.joined ∙ sym (append_assoc x y c); rest_are = q.rest_are }
+splits_both p q = record { joined = simp (p.joined, q.joined, append_assoc); rest_are = q.rest_are }
 
 -- ---- steps of reading that didn't fail
 

@@ -91,12 +91,6 @@ lists_stay bytes more (start ∷ starts) whole =
     let first = list_stays more whole.0 in
     let others = lists_stay bytes more starts whole.1 in (rw (first.0, others.0), (first.1, others.1))
 
-list_at_front : {list : List ℕ} → length list < 2 ^ 16 → AllByRecursion (λ n. n < 2 ^ 16) list
-    → (count_of (list_bytes list) ≡ length list) × (list_from (list_bytes list) ≡ list)
-list_at_front {list} few small =
-    let count : count_of (list_bytes list) ≡ length list = two_bytes.again (length list) few in
-    (count, rw count (rw append-nil at (numbers_again list [] small)))
-
 small_front : (numbers : List ℕ) (len : ℕ) → ((k : ℕ) → get_or numbers k 0 < 2 ^ 16) → AllByRecursion (λ n. n < 2 ^ 16) (take len numbers)
 small_front [] zero small = tt
 small_front (n ∷ numbers) (suc len) small = (small 0, small_front numbers len (λ k. small (suc k)))
@@ -111,18 +105,18 @@ list_more {old} {new} {numbers} {list} whole few small is bytes_are starts_are =
     let start : ℕ = length bytes in
     let size : length list ≤ length numbers = omega (arith, ap length is.front, length-take is.len numbers) in
     let small_list : AllByRecursion (λ n. n < 2 ^ 16) list = rw is.front (small_front numbers is.len small) in
-    let at_front = list_at_front (omega (arith, size, few)) small_list in
+    let count : count_of text ≡ length list = two_bytes.again (length list) (omega (arith, size, few)) in
+    let front : list_from text ≡ list = rw count (rw append-nil at (numbers_again list [] small_list)) in
     let there : drop start (bytes ++ text) ≡ text = drop_at bytes text start refl in
     let stay = lists_stay bytes text old.starts.items whole in
-    let text_size : length text ≡ 2 + 2 * length list = omega (arith, text_len list) in
     let placed = map_push (λ (s : ℕ). list_from (drop s (bytes ++ text))) old.starts.items start in
     record {
       list = list;
       trimmed = is;
       small = small_list;
-      lists = rw (bytes_are, starts_are, placed, stay.0, there, at_front.1);
+      lists = rw (bytes_are, starts_are, placed, stay.0, there, front);
       whole = rw (bytes_are, starts_are) (all_both (IsListAt (bytes ++ text)) old.starts.items (start ∷ []) stay.1
-          (record { whole = rw there (omega (arith, at_front.0, length-append bytes text, text_size)) }, tt));
+          (record { whole = rw there (omega (arith, count, length-append bytes text, text_len list)) }, tt));
     }
 
 -- ---- a row's list more

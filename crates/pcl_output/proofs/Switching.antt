@@ -46,10 +46,6 @@ pub switched_numbers : {direct : ByMethod} {switched : ℕ} {numbers : RowNumber
 switched_numbers {direct} {switched} least inside outside = record {
   stays = λ method. omega (arith, inside method);
   switches = λ method next. omega (arith, inside method, least.bound next, switching_is next);
-  attained = λ method.
-      elim (cases_lt (by_method direct method) switched) [
-        | inl low ↦ inl (omega (arith, inside method))
-        | inr high ↦ inr (least.attained.0, omega (arith, inside method, least.attained.1, switching_is least.attained.0))
-      ];
+  attained = λ method. grind (arith, inside method, least.attained, switching_is);
   opens = λ method. omega (arith, outside method);
 }

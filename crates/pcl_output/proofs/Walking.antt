@@ -37,8 +37,7 @@ white_at count rows y w lt inside = absurd (omega arith)
 
 -- the row above a row that isn't the topmost
 pub row_above_is : (width : ℕ) (rows : List (List ℕ)) (y : ℕ) → 0 < y → row_above width rows y ≡ row_at rows (y - 1)
-row_above_is width rows zero some = absurd (omega arith)
-row_above_is width rows (suc y) some = let same : y ≡ suc y - 1 = omega arith in ap (row_at rows) same
+row_above_is width rows y some = grind arith
 
 pub above_width : {width : ℕ} (rows : List (List ℕ)) (y : ℕ) → AreOfWidth width rows → y ≤ length rows → length (row_above width rows y)
     ≡ width
