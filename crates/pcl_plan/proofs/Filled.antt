@@ -69,11 +69,7 @@ direct_stays {number} {other} {row} {method} same is =
       is_length = is.is_length;
       sent = omega (arith, is.sent, next);
       skipped = λ count can. omega (arith, is.skipped count can, there count can.0);
-      attained =
-          elim is.attained [
-            | inl sent ↦ inl (omega (arith, sent, next))
-            | inr skipped ↦ inr (skipped.0, skipped.1, omega (arith, skipped.2, there skipped.0 skipped.1.0))
-          ];
+      attained = grind (arith, is.attained, next, there);
     }
 
 -- ---- a row that is put

@@ -52,10 +52,7 @@ module _ {width : ℕ} {rows : List (List ℕ)} {number : Node → ℕ} {row : �
   -- a switch
   switches : (current next : Method) → inside number row current ≤ switching next + inside number row next
   switches current next =
-      elim (is.switched.attained next) [
-        | inl stays ↦ omega (arith, is.placed current true, is.placed next true, is.switched.switches current next, stays)
-        | inr twice ↦ omega (arith, is.placed current true, is.placed next true, is.switched.switches current twice.0, twice.1)
-      ]
+      grind (arith, is.switched.attained next, is.placed current true, is.placed next true, is.switched.switches current)
 
   steps_from : (current : Method) (is_open : Bool) (token : Token) (b : Node) → Leads width rows (node row current is_open) token b
       → number (node row current is_open) ≤ cost token + number b
@@ -129,20 +126,12 @@ module _ {width : ℕ} {rows : List (List ℕ)} {number : Node → ℕ} {row : �
       let grows = count_grows (suc count) (suc (suc count)) (omega arith) (omega (arith, can.1, is.few)) in grind (arith, below, grows)
 
   direct_falls : (current : Method) → rest number (row + 1) current ≤ is.direct current
-  direct_falls current =
-      elim (is.are_direct current).attained [
-        | inl sent ↦ omega (arith, sent)
-        | inr skipped ↦ omega (arith, skipped.2, skip_falls current skipped.0 skipped.1)
-      ]
+  direct_falls current = grind (arith, (is.are_direct current).attained, skip_falls current)
 
   falls_from : (current : Method) → rest number (row + 1) current ≤ rest number row current
   falls_from current =
-      elim (is.switched.attained current) [
-        | inl stays ↦ omega (arith, stays, is.placed current true, direct_falls current, opens current)
-        | inr next ↦
-            let below = switch_below width rows number (row + 1) current (next_steps current) next.0 in
-            omega (arith, next.1, is.placed current true, direct_falls next.0, opens current)
-      ]
+      let below = switch_below width rows number (row + 1) current (next_steps current) in
+      grind (arith, is.switched.attained current, is.placed current true, direct_falls, opens current, below)
 
   -- ---- the row
 
