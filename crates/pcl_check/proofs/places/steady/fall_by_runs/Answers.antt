@@ -1,6 +1,5 @@
-use Rattle.std.proofs.Common.{◌≡◌, ◌≢◌, ℕ, ◌+◌, ◌≤◌, max, below_more, inl, inr, arith}
+use Rattle.std.proofs.Common.{◌≡◌, ◌≢◌, ℕ, ◌+◌, ◌≤◌, max, below_more, arith}
 use Rattle.std.specs.Prelude.{slice_index}
-use Rattle.std.proofs.lemmas.Bool.{cases_eq}
 use Rattle.pcl_check.proofs.places.steady.fall_by_runs.Goals as goal
 
 pub loop-place-preserved : goal.loop-place-preserved
@@ -17,11 +16,8 @@ loop-place-preserved c =
     λ k. byte k ≡ byte (k + 1) → byte (k + 1) ≢ byte (k + 2) → number k ≤ max (number (k + 1)) (2 + number (k + 2)) + excess in
     let More : ℕ → Type 0 = λ k. byte k ≡ byte (k + 1) → byte (k + 1) ≡ byte (k + 2) → number k ≤ number (k + 1) + excess in
     let falls : number (place + 2) ≤ number (place + 1) = c.requires.steady.falls (place + 1) (place + 2) (omega arith) in
-    let one : One place = λ differs. elim (cases_eq (byte (place + 1)) (byte (place + 2))) [
-      | inl goes_on ↦
-          omega (arith, here, falls, c.run_cost.ensures.ends differs, c.run_cost-in-loop-place.ensures.goes_on goes_on)
-      | inr ends ↦ omega (arith, here, falls, c.run_cost.ensures.ends differs, c.run_cost-in-loop-place.ensures.ends ends)
-    ] in
+    let one : One place = λ differs.
+    grind (arith, here, falls, c.run_cost.ensures.ends differs, c.run_cost-in-loop-place.ensures) in
     let two : Two place =
     λ same differs. omega (arith, here, c.run_cost.ensures.goes_on same, c.run_cost-in-loop-place.ensures.ends differs) in
     let more : More place =
