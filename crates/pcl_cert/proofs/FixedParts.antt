@@ -40,6 +40,3 @@ fixed_length dpi size copies =
     let both = length-append (decimal copies) (120 ∷ (decimal (code_of size) ++ 97 ∷ (raster_start size dpi ++ []))) in
     let whole = ap length (start_is dpi copies size []) in
     omega (arith, length-append (start_bytes dpi copies size) [], length-append (raster_start size dpi) [], raster_length size dpi)
-
-pub code_some : (size : Size) → 1 ≤ code_of size
-code_some size = grind arith

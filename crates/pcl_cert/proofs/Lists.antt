@@ -1,5 +1,5 @@
 -- Reading row tables: where the lists stand in the bytes.
-use Rattle.std.proofs.Common.{◌≡◌, ℕ, ◌+◌, ◌-◌, ◌*◌, ◌<◌, ◌≤◌, Bool, false, List, [], ◌∷◌, ◌++◌, length, take, drop, Result, Ok, Err, sym, ap, ◌∙◌, arith}
+use Rattle.std.proofs.Common.{◌≡◌, ℕ, ◌+◌, ◌-◌, ◌*◌, ◌<◌, ◌≤◌, false, List, [], ◌∷◌, ◌++◌, length, take, drop, Result, Ok, Err, sym, ap, ◌∙◌, arith}
 use Rattle.std.specs.Int.{w16}
 use Rattle.std.specs.List.{AllByRecursion}
 use Rattle.pcl_cert.specs.RowTables.{numbers_from}
@@ -35,10 +35,6 @@ pub behind_fails : {X : Type 0} (fault : CertFault) (read : Result (X × List �
 behind_fails fault (Ok x) = fails_same fault (λ e. absurd cc)
 behind_fails fault (Err other) = fails_same fault (λ e. cc)
 
-behind_either : (b : Bool) (numbers rest : List ℕ)
-    → behind (if b then Err Places else Ok (numbers, rest)) ≡ (if b then Err Places else Ok rest)
-behind_either b numbers rest = grind arith
-
 -- what is found where the count is good and the numbers are there
 pub list_checked : {most : ℕ} (bytes : List ℕ) {count : ℕ} {rest : List ℕ} → uint_at w16 bytes ≡ Ok (count, rest)
     → count ≤ most → 2 * count ≤ length rest
@@ -48,8 +44,7 @@ unfolding list_at
 list_checked {most} bytes {count} {rest} read few long =
     let good : nat_lt most count ≡ false = le-ltb _ _ few in
     let there : nat_lt (length rest) (2 * count) ≡ false = le-ltb _ _ long in
-    rw (read, good, there, numbers_of_front count rest)
-    (behind_either (ends_in_zero (numbers_from count rest)) (numbers_from count rest) (drop (2 * count) rest))
+    rw (read, good, there, numbers_of_front count rest) (grind arith)
 
 -- a list that is read stands there, whole
 pub record IsFound (most : ℕ) (bytes : List ℕ) (numbers rest : List ℕ) : Type 0 where

@@ -27,16 +27,10 @@ use Rattle.std.proofs.lemmas.Bool.Decides.{nat_tests}
 
 -- ---- tables
 
-abbrev both_bytes : ℕ × ℕ → List ℕ
-both_bytes p = pair_bytes p.0 p.1
-
-abbrev AreBoth : ℕ × ℕ → Type 0
-AreBoth p = (p.0 < 2 ^ 32) × (p.1 < 2 ^ 32)
-
 four : Spells (uint_at w32) (to_be_bytes w32) (λ n. n < 2 ^ 32)
 four = number_spells four_bytes
 
-pairs_spell : Spells pair_at both_bytes AreBoth
+pairs_spell : Spells pair_at (λ p. pair_bytes p.0 p.1) (λ p. (p.0 < 2 ^ 32) × (p.1 < 2 ^ 32))
 unfolding pair_at
 pairs_spell = record {
   found = λ bytes x are e.

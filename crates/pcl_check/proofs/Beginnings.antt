@@ -90,11 +90,7 @@ module _ {dpi : Dpi} {text : List ℕ} {copies : ℕ} {size : Size} {rest : List
       → ((behind : List ℕ) → more ≡ raster_start found dpi ++ behind → ⊥) → ⊥
   no_raster read some none = let found = size_read read in let same = same_size read some in none rest cc
 
--- the number of a size that is found is its own
-found_code : {code : ℕ} {found : Size} → size_with_code code ≡ Some found → code ≡ code_of found
-found_code {code} {found} e = grind (arith, nat_tests)
-
 pub begun : (dpi : Dpi) (text : List ℕ) (n code : ℕ) (more : List ℕ) (found : Size) (rest : List ℕ) → IsSize text n code more
     → size_with_code code ≡ Some found → more ≡ raster_start found dpi ++ rest → text ≡ start_bytes dpi n found ++ rest
 begun dpi text n code more found rest read some e =
-    rw (read.first.text_is, found_code {code = code} some, e) (sym (start_is dpi n found rest))
+    let coded : code ≡ code_of found = grind (arith, nat_tests) in rw (read.first.text_is, coded, e) (sym (start_is dpi n found rest))

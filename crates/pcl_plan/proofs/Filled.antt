@@ -111,14 +111,10 @@ module _ {width : ℕ} {rows : List (List ℕ)} {old new : List RowNumbers} {row
       }))
 
 -- where the rest is white
-end_is : (method : Method) (is_open : Bool) → number_in end_numbers method is_open ≡ end_number is_open
-end_is method is_open = grind arith
-
 put_end : {old new : List RowNumbers} {row : ℕ} → IsPut old new row end_numbers → (a : Node) → a.row ≡ row
     → node_number new a ≡ end_number a.inside
 put_end {new} {row} put =
-    at_row (λ (a : Node). node_number new a ≡ end_number a.inside) row
-    (λ method is_open. put.changed method is_open ∙ end_is method is_open)
+    at_row (λ (a : Node). node_number new a ≡ end_number a.inside) row (λ method is_open. grind (arith, put.changed method is_open))
 
 pub put_white : {width : ℕ} {rows : List (List ℕ)} {old new : List RowNumbers} {row : ℕ} → row < length rows → IsPut old new row end_numbers
     → AreRightFrom width rows old (row + 1) → AreWhite (drop row rows) → AreRightFrom width rows new row

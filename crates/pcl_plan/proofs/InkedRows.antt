@@ -36,12 +36,6 @@ pub walk_more : (width : ℕ) {rows : List (List ℕ)} {a b : Node} (token : Tok
     → IsAttained (Leads width rows) (Ends rows) cost b m → n ≡ cost token + m → IsAttained (Leads width rows) (Ends rows) cost a n
 walk_more width {b} token l w e = (token ∷ w.0, (b, l, w.1), omega (arith, w.2, e))
 
--- the rest of skippable rows is skippable
-skippable_rest : (rows : List (List ℕ)) (row : ℕ) {count : ℕ} → AreSkippable rows row (suc (suc count))
-    → AreSkippable rows (row + 1) (suc count)
-skippable_rest rows row {count} can =
-    let white = rw (drop_more rows row [] (omega (arith, can.1))) at can.2 in (omega arith, omega (arith, can.1), white.1)
-
 module _ {width : ℕ} {rows : List (List ℕ)} {number : Node → ℕ} {row : ℕ} (is : IsInkedRow width rows number row) where
   -- ---- tokens from the row
 
@@ -122,16 +116,13 @@ module _ {width : ℕ} {rows : List (List ℕ)} {number : Node → ℕ} {row : �
   skip_falls current zero can = absurd (omega (arith, can.0))
   skip_falls current (suc zero) can = omega arith
   skip_falls current (suc (suc count)) can =
-      let below = skip_below width rows number (row + 1) current (next_steps current) is.few (skippable_rest rows row can) in
+      let white = rw (drop_more rows row [] (omega (arith, can.1))) at can.2 in
+      let rest : AreSkippable rows (row + 1) (suc count) = (omega arith, omega (arith, can.1), white.1) in
+      let below = skip_below width rows number (row + 1) current (next_steps current) is.few rest in
       let grows = count_grows (suc count) (suc (suc count)) (omega arith) (omega (arith, can.1, is.few)) in grind (arith, below, grows)
 
   direct_falls : (current : Method) → rest number (row + 1) current ≤ is.direct current
   direct_falls current = grind (arith, (is.are_direct current).attained, skip_falls current)
-
-  falls_from : (current : Method) → rest number (row + 1) current ≤ rest number row current
-  falls_from current =
-      let below = switch_below width rows number (row + 1) current (next_steps current) in
-      grind (arith, is.switched.attained current, is.placed current true, direct_falls, opens current, below)
 
   -- ---- the row
 
@@ -151,6 +142,8 @@ module _ {width : ℕ} {rows : List (List ℕ)} {number : Node → ℕ} {row : �
         (λ current is_open. steps_from current is_open token b) a at l;
     ends = λ a at end. absurd (is.inked (subst (λ (r : ℕ). AreWhite (drop r rows)) at end.1));
     attained = at_row (λ (n : Node). IsAttained (Leads width rows) (Ends rows) cost n (number n)) row walk_from;
-    falls = λ current inside_page white. falls_from current;
+    falls = λ current inside_page white.
+        let below = switch_below width rows number (row + 1) current (next_steps current) in
+        grind (arith, is.switched.attained current, is.placed current true, direct_falls, opens current, below);
     small = at_row (λ (n : Node). number n ≤ 65544 * (length rows - row) + 1) row small_from;
   }

@@ -127,11 +127,6 @@ module _ {width : ℕ} {rows : List (List ℕ)} {table : List RowNumbers} (is : 
       let zero = λ (closed : behind.inside ≡ false). ap (λ (i : Bool). node_number table (node behind.row behind.method i)) closed in
       grind (arith, zero, p.ends, none, some, ends is behind within)
 
-  spells_followed : {row : ℕ} {current : Method} {behind : Node} {step : Step} (more : List Step) (tail : List Token)
-      → (stays_inside step ≡ true → not behind.inside ≡ is_last more) → IsNextNode (node_number table) row current step behind
-      → Spells behind.inside more tail → Spells (stays_inside step) more tail
-  spells_followed {behind} {step} more tail f p = spells_any more tail (λ others. grind (arith, f, p.goes_on))
-
   pub read_more : {steps : List Step} {at behind : Node} {step : Step} → IsReadTo width rows table steps at → 0 < node_number table at
       → IsBestStep width rows (node_number table) at.row at.method step → IsNextNode (node_number table) at.row at.method step behind
       → IsReadTo width rows table (steps ++ step ∷ []) behind
@@ -150,7 +145,8 @@ module _ {width : ℕ} {rows : List (List ℕ)} {table : List RowNumbers} (is : 
             let spelled = append_assoc r.tokens (opened at.inside (next.token ∷ [])) tail in
             rw (append_assoc steps (step ∷ []) more, spelled, ← opened_more at.inside next.token tail)
             (r.goes_on (step ∷ more) (opened at.inside (next.token ∷ tail)) (λ zero. absurd (omega (arith, zero, some))) (λ _. refl)
-            (next.token, tail, next.is_of (is_last more) f, refl, spells_followed more tail f p spells) o.0 o.1);
+            (next.token, tail, next.is_of (is_last more) f, refl, spells_any more tail (λ others. grind (arith, f, p.goes_on)) spells)
+            o.0 o.1);
       }
 
   -- the measure of reading

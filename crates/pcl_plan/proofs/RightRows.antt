@@ -3,19 +3,14 @@ use Rattle.std.proofs.Common.{◌≡◌, ℕ, ◌+◌, ◌<◌, ◌≤◌, Bool,
 use Rattle.std.proofs.lemmas.Bool.{cases_Bool}
 use Rattle.pcl_base.specs.declared.method.Method.{Method}
 use Rattle.pcl_base.specs.declared.method.Method.TheVariants.{Plain}
-use Rattle.pcl_output.specs.Tokens.{Token, method, AreWhite}
+use Rattle.pcl_output.specs.Tokens.{method, AreWhite}
 use Rattle.pcl_output.specs.declared.node.Node.{Node}
-use Rattle.pcl_output.specs.Nodes.{Leads}
 use Rattle.pcl_output.specs.Table.{outside}
 use Rattle.pcl_plan.specs.inner.Filling.{IsRowRight}
 use Rattle.pcl_output.proofs.TokenCosts.{cost_method, cost_some}
 use Rattle.pcl_output.proofs.Walking.{node}
 
 -- ---- nodes
-
--- no token leads upwards
-pub leads_down : (width : ℕ) (rows : List (List ℕ)) (a : Node) (token : Token) (b : Node) → Leads width rows a token b → a.row ≤ b.row
-leads_down width rows a token b l = grind arith
 
 -- what holds in each method, inside a sequence and outside, holds of all nodes after so many rows
 pub at_row : (P : Node → Type 0) (row : ℕ) → ((current : Method) (is_open : Bool) → P (node row current is_open)) → (a : Node) → a.row
@@ -28,7 +23,7 @@ pub row_stays : {width : ℕ} {rows : List (List ℕ)} {number other : Node → 
     → IsRowRight width rows number row → IsRowRight width rows other row
 row_stays {width} {rows} {row} same is = record {
   steps = λ a token b at l.
-      omega (arith, is.steps a token b at l, same a (omega arith), same b (omega (arith, leads_down width rows a token b l)));
+      omega (arith, is.steps a token b at l, same a (omega arith), same b (grind (arith, l)));
   ends = λ a at end. same a (omega arith) ∙ is.ends a at end;
   attained = λ a at. (let w = is.attained a at in (w.0, w.1, w.2 ∙ sym (same a (omega arith))));
   falls = λ current inside_page white.

@@ -2,12 +2,12 @@ use Rattle.std.proofs.Common.{ap, ◌∙◌, arith}
 use Rattle.pcl_base.specs.Size.{code_of}
 use Rattle.pcl_output.specs.Spelling.{digit_count}
 use Rattle.pcl_output.proofs.DigitCounts.{count_of_some}
-use Rattle.pcl_cert.proofs.FixedParts.{fixed_length, code_some}
+use Rattle.pcl_cert.proofs.FixedParts.{fixed_length}
 use Rattle.pcl_cert.proofs.check.fixed_len.Goals as goal
 
 pub returns : goal.returns
 returns c =
     let page = c.args.page.now in
     let copies = c.digits.ensures.count ∙ ap digit_count c.from.ensures ∙ count_of_some page.copies page.copies_in_range.0 in
-    let code = c.digits-2.ensures.count ∙ ap digit_count c.code.ensures ∙ count_of_some (code_of page.size) (code_some page.size) in
+    let code = c.digits-2.ensures.count ∙ ap digit_count c.code.ensures ∙ count_of_some (code_of page.size) (grind arith) in
     omega (arith, fixed_length page.dpi page.size page.copies, copies, code)
