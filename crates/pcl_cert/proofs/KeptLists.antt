@@ -164,9 +164,6 @@ pub record HasFourMore (seed row : List ℕ) (old new : Lists) : Type 0 where
 abbrev four_lists : {seed row : List ℕ} {old new : Lists} → HasFourMore seed row old new → List (List ℕ)
 four_lists more = more.plain.list ∷ more.runs.list ∷ more.packed.list ∷ more.delta.list ∷ []
 
-four_listed : {seed row : List ℕ} {old new : Lists} (more : HasFourMore seed row old new) → listed new ≡ listed old ++ four_lists more
-four_listed more = rw (more.delta.lists, more.packed.lists, more.runs.lists, more.plain.lists) (simp append_assoc)
-
 four_least : {seed row : List ℕ} {old new : Lists} (more : HasFourMore seed row old new) (method : Method)
     → IsLeastTable method seed row (table_of (length row + 1) (get_or (four_lists more) (method_code method) []))
 four_least more Plain = more.plain.least
@@ -182,7 +179,8 @@ pub one_row_more : {width : ℕ} {rows : List (List ℕ)} {done : ℕ} {old new 
     → HoldsRows width rows (done + 1) new
 one_row_more {width} {rows} {done} {old} {new} holds wide more =
     let four : List (List ℕ) = four_lists more in
-    let all : listed new ≡ listed old ++ four = four_listed more in
+    let all : listed new ≡ listed old ++ four =
+    rw (more.delta.lists, more.packed.lists, more.runs.lists, more.plain.lists) (simp append_assoc) in
     let before : length (listed old) ≡ 4 * done = listed_length old ∙ holds.size in
     record {
       size = omega (arith, sym (listed_length new), ap length all, length-append (listed old) four, before);

@@ -34,9 +34,6 @@ same_method {a} {b} e = let s : Some a ≡ Some b = sym (with_code a) ∙ ap met
 
 -- ---- white rows
 
-pub white_row : (size : Size) (dpi : Dpi) → IsRowOf size dpi (replicate (page_row_bytes size dpi) 0)
-white_row size dpi = (length-replicate (page_row_bytes size dpi) 0, λ x past. simp (white_byte, zero-div))
-
 copies_all : {A : Type 0} (P : A → Type 0) {x : A} (count : ℕ) → P x → AllByRecursion P (replicate count x)
 copies_all P zero is = tt
 copies_all P (suc count) is = (is, copies_all P count is)
@@ -47,7 +44,8 @@ rows_white size dpi count = copies_all IsWhite count (copies_all (λ byte. byte 
 pub white_before : (size : Size) (dpi : Dpi) (count : ℕ) (rows : List (List ℕ)) → AllByRecursion (IsRowOf size dpi) rows
     → AllByRecursion (IsRowOf size dpi) (white_rows size dpi count ++ rows)
 white_before size dpi zero rows are = are
-white_before size dpi (suc count) rows are = (white_row size dpi, white_before size dpi count rows are)
+white_before size dpi (suc count) rows are =
+    ((length-replicate (page_row_bytes size dpi) 0, λ x past. simp (white_byte, zero-div)), white_before size dpi count rows are)
 
 -- white rows of a size are all alike
 pub all_white : (size : Size) (dpi : Dpi) (rows : List (List ℕ)) → AllByRecursion (IsRowOf size dpi) rows → AreWhite rows

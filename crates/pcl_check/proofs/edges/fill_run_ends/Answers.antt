@@ -43,13 +43,6 @@ ends_more {rows} {ends} {row} {end} lt are order run =
           ];
     }
 
-white_more : {rows : List (List ℕ)} {ends : List ℕ} {row : ℕ} → row < length rows → AreRunEnds rows ends (row + 1)
-    → IsWhite (row_at rows row) → (row ≤ slice_index ends (row + 1)) × IsWhiteRun rows row (slice_index ends (row + 1) - row)
-white_more {rows} {ends} {row} lt are white =
-    let next = are.runs (row + 1) (omega arith) (omega arith) in
-    let count : slice_index ends (row + 1) - row ≡ slice_index ends (row + 1) - (row + 1) + 1 = omega (arith, next.0) in
-    (omega (arith, next.0), rw count (run_more lt next.1 white))
-
 pub loop-row-init : goal.loop-row-init
 loop-row-init c =
     let picture = c.args.bitmap.now in
@@ -75,7 +68,10 @@ loop-row-preserved c =
       | then-is_blank w ↦
           let white : IsWhite (row_at rows row) =
           rw bytes (recursion_from_All (λ (byte : ℕ). byte ≡ 0) _ (c.is_blank.ensures.bytes.0 w.if-is_blank.true)) in
-          let is = white_more inside behind white in rw w.ends-is (ends_more inside behind is.0 is.1)
+          let next = behind.runs (row + 1) (omega arith) (omega arith) in
+          let end : ℕ = slice_index c.loop-row.ends (row + 1) in
+          let more : end - row ≡ end - (row + 1) + 1 = omega (arith, next.0) in
+          rw w.ends-is (ends_more inside behind (omega (arith, next.0)) (rw more (run_more inside next.1 white)))
       | else-is_blank w ↦
           let inked : IsWhite (row_at rows row) → ⊥ = λ white.
           iff_false c.is_blank.ensures.bytes w.if-is_blank.false (All-from_recursion (λ (byte : ℕ). byte ≡ 0) _ (rw bytes at white)) in

@@ -1,11 +1,11 @@
 use Rattle.std.proofs.Common.{◌≡◌, ℕ, ◌+◌, ◌-◌, ◌<◌, ◌≤◌, List, length, sym, arith, Bool, true, false, drop, refl}
 use Rattle.std.specs.Prelude.{slice_index}
 use Rattle.pcl_output.proofs.WhiteRows.{white_below, white_front, skippable_within, white_to_end, ink_left}
-use Rattle.pcl_check.specs.inner.EdgePasses.{AreRunEnds, AreEnds, Both, IsGoodStart, AreGoodSkipsTo, IsGoodBy, IsGoodIn}
+use Rattle.pcl_check.specs.inner.EdgePasses.{AreRunEnds, AreEnds, Both, IsGoodBy, IsGoodIn}
 use Rattle.pcl_base.specs.declared.method.Method.{Method}
 use Rattle.pcl_base.specs.declared.method.Method.TheVariants.{Plain, Runs, Packed, Delta}
 use Rattle.pcl_output.specs.declared.node.Node.{Node}
-use Rattle.pcl_check.specs.Edges.{AreGoodSkips, IsGoodOutside, IsGoodNumber}
+use Rattle.pcl_check.specs.Edges.{IsGoodNumber}
 use Rattle.pcl_base.specs.Size.{page_height, page_row_bytes}
 use Rattle.pcl_bitmap.specs.declared.page.Page.{Page}
 use Rattle.pcl_output.specs.PageText.{bitmap_rows}
@@ -39,8 +39,9 @@ ends_known count few are = record {
 
 module _ {rows : List (List ℕ)} {ends : List ℕ} (number : Node → ℕ) (method : Method) {row : ℕ}
     (are : AreRunEnds rows ends 0) (le : row ≤ length rows) where
-  outside_of_start : IsGoodStart ends number method row → IsGoodOutside rows number method row
-  outside_of_start good =
+  good_by_rows : {last : ℕ} (Counts : ℕ → Method → ℕ → Type 0) (inside : Bool) → length rows ≡ last
+      → IsGoodBy ends last Counts number row method inside → IsGoodNumber rows Counts number row method inside
+  good_by_rows Counts false count good =
       let is = are.runs row (omega arith) le in
       record {
         opens = good.0;
@@ -48,31 +49,26 @@ module _ {rows : List (List ℕ)} {ends : List ℕ} (number : Node → ℕ) (met
             let inked = λ (ink : slice_index ends row < length rows). ink_left is.1 (omega (arith, is.0)) white in
             grind (arith, inked, good.1, is.0, is.1.within, are.size);
       }
-
-  start_of_outside : IsGoodOutside rows number method row → IsGoodStart ends number method row
-  start_of_outside good =
-      let is = are.runs row (omega arith) le in (good.opens, λ end. good.ends (white_to_end is.1 (omega (arith, is.0, end, are.size))))
-
-  skips_of_ends : AreGoodSkipsTo ends number method row → AreGoodSkips rows number method row
-  skips_of_ends good = λ count inside some within white.
-      let is = are.runs row (omega arith) le in good count inside some (omega (arith, skippable_within is.1 (some, within, white), is.0))
-
-  ends_of_skips : AreGoodSkips rows number method row → AreGoodSkipsTo ends number method row
-  ends_of_skips good = λ count inside some within.
-      let is = are.runs row (omega arith) le in
-      good count inside some (omega (arith, is.1.within, is.0))
-      (white_front (slice_index ends row - row) count (drop row rows) is.1.white (omega (arith, within)))
-
-  good_by_rows : {last : ℕ} (Counts : ℕ → Method → ℕ → Type 0) (inside : Bool) → length rows ≡ last
-      → IsGoodBy ends last Counts number row method inside → IsGoodNumber rows Counts number row method inside
-  good_by_rows Counts false count good = outside_of_start good
   good_by_rows Counts true count good =
-      record { switches = good.0; skips = skips_of_ends good.2; sends = λ bytes inside. good.1 bytes (omega arith) }
+      let is = are.runs row (omega arith) le in
+      record {
+        switches = good.0;
+        skips = λ n inside some within white. good.2 n inside some (omega (arith, skippable_within is.1 (some, within, white), is.0));
+        sends = λ bytes inside. good.1 bytes (omega arith);
+      }
 
   good_by_ends : {last : ℕ} (Counts : ℕ → Method → ℕ → Type 0) (inside : Bool) → length rows ≡ last
       → IsGoodNumber rows Counts number row method inside → IsGoodBy ends last Counts number row method inside
-  good_by_ends Counts false count good = start_of_outside good
-  good_by_ends Counts true count good = (good.switches, λ bytes inside. good.sends bytes (omega arith), ends_of_skips good.skips)
+  good_by_ends Counts false count good =
+      let is = are.runs row (omega arith) le in (good.opens, λ end. good.ends (white_to_end is.1 (omega (arith, is.0, end, are.size))))
+  good_by_ends Counts true count good =
+      let is = are.runs row (omega arith) le in (
+        good.switches,
+        λ bytes inside. good.sends bytes (omega arith),
+        λ n inside some within.
+            good.skips n inside some (omega (arith, is.1.within, is.0))
+            (white_front (slice_index ends row - row) n (drop row rows) is.1.white (omega (arith, within))),
+      )
 
 abbrev InMethods : List ℕ → ℕ → (ℕ → Method → ℕ → Type 0) → (Node → ℕ) → ℕ → Method → Bool → Type 0
 InMethods ends last Counts number =
