@@ -20,15 +20,12 @@ number_below (d ∷ digits) n are =
     rw (pow-succ' 10 (length digits)) (grind (arith, below, mul-le-mul_right (10 ^ length digits) room))
 
 -- a number is below the power of ten of its digits
-decimal_above : (n : ℕ) → n < 2 ^ 64 → n < 10 ^ length (decimal n)
-decimal_above n lt =
-    decimal_by_steps (λ (m : ℕ) (digits : List ℕ). m < 10 ^ length digits)
-    (λ m small. omega arith) (λ m digits large below. rw (length-append, add-one, pow-succ' 10 (length digits)) (omega arith)) n lt
-
 pub count_below : (n : ℕ) → n < 2 ^ 64 → n < 10 ^ digit_count n
 unfolding digit_count
 count_below zero lt = omega arith
-count_below (suc n) lt = decimal_above (suc n) lt
+count_below (suc n) lt =
+    decimal_by_steps (λ (m : ℕ) (digits : List ℕ). m < 10 ^ length digits)
+    (λ m small. omega arith) (λ m digits large below. rw (length-append, add-one, pow-succ' 10 (length digits)) (omega arith)) (suc n) lt
 
 pub count_le : (k n : ℕ) → n < 10 ^ k → n < 2 ^ 64 → digit_count n ≤ k
 unfolding digit_count
@@ -54,10 +51,6 @@ spelled_long digits {n} s lt = count_le (length digits) n (omega (arith, number_
 pub least_spelled : (n : ℕ) → n < 2 ^ 64 → IsSpelled (least_spelling n) n
 least_spelled zero lt = (tt, refl)
 least_spelled (suc n) lt = decimal_spelled (suc n) lt
-
-pub length-least_spelling : (n : ℕ) → length (least_spelling n) ≡ digit_count n
-unfolding digit_count
-length-least_spelling n = refl
 
 pub count_is : (k n : ℕ) → 10 ^ k ≤ n → n < 10 ^ (k + 1) → n < 2 ^ 64 → k + 1 ≡ digit_count n
 count_is k n above below lt = omega (arith, count_above k n above lt, count_le (k + 1) n below lt)

@@ -10,7 +10,7 @@ use Rattle.pcl_output.specs.Tokens.{Token, opening, method, skip, send, letter, 
 use Rattle.pcl_output.specs.Nodes.{cost}
 use Rattle.pcl_output.specs.Spelling.{least_spelling, digit_count, row_cost}
 use Rattle.pcl_output.specs.Table.{outside, inside, rest}
-use Rattle.pcl_output.proofs.DigitCounts.{count_le, least_spelled, length-least_spelling}
+use Rattle.pcl_output.proofs.DigitCounts.{count_le, least_spelled}
 use Rattle.pcl_output.proofs.Walking.{node}
 
 -- ---- tokens
@@ -40,7 +40,8 @@ pub row_cost_small : (bytes : ℕ) → bytes ≤ 65535 → row_cost bytes ≤ 65
 row_cost_small bytes small = omega (arith, count_le 5 bytes (omega arith) (omega arith))
 
 pub spelled_cost : (n : ℕ) → n ≤ 65535 → IsSpelled (least_spelling n) n × (length (least_spelling n) ≡ digit_count n)
-spelled_cost n small = (least_spelled n (omega arith), length-least_spelling n)
+unfolding digit_count
+spelled_cost n small = (least_spelled n (omega arith), refl)
 
 -- ---- numbers
 
