@@ -11,7 +11,5 @@ counts_one old page new = new.pages ≡ old.pages + 1
 
 pub all_counted : (dpi : Dpi) (sheets : List Sheet) (old new : Counted) → Hands counts_one dpi sheets old new
     → new.pages ≡ old.pages + length sheets
-all_counted dpi [] old new h = let e = ap (λ (c : Counted). c.pages) h in omega (arith, e)
-all_counted dpi (sheet ∷ sheets) old new h =
-    let one = h.3 in
-    let rest = all_counted dpi sheets h.1 new h.4 in omega (arith, one, rest)
+all_counted dpi [] old new h = omega (arith, ap (λ (c : Counted). c.pages) h)
+all_counted dpi (sheet ∷ sheets) old new h = omega (arith, h.3, all_counted dpi sheets h.1 new h.4)

@@ -22,8 +22,7 @@ use Rattle.pcl_page.specs.inner.Unfolding.{IsAt, IsStepped}
 command_inside : (dpi : Dpi) (place : ℕ) (command : Said) (s : Situation) {keeping : Keeping} → is_some s.begun ≡ true
     → keeping_of (operation_of command.name) command.value ≡ keeping
     → after_command dpi place command s ≡ defining dpi place keeping command s
-command_inside dpi place command s e k =
-    rw (e, k) refl
+command_inside dpi place command s e k = rw (e, k) refl
 
 abbrev runs_none : Situation → Option Run
 runs_none later = None

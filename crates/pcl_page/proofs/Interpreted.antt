@@ -1,5 +1,5 @@
 -- The interpreter follows the situation, command by command.
-use Rattle.std.proofs.Common.{◌≡◌, ℕ, ◌+◌, Bool, true, false, cond, List, ◌∷◌, Option, Some, None, Result, Ok, Err, refl, sym, ap, ◌∙◌, append-nil, inl, inr}
+use Rattle.std.proofs.Common.{◌≡◌, ℕ, ◌+◌, Bool, true, false, cond, List, ◌∷◌, Option, Some, None, Result, Ok, Err, refl, sym, ◌∙◌, append-nil, inl, inr, rules}
 use Rattle.std.specs.Prelude.{is_some}
 use Rattle.std.specs.Option.{option_map}
 use Rattle.pcl_base.specs.declared.dpi.Dpi.{Dpi}
@@ -31,7 +31,7 @@ use Rattle.pcl_page.specs.Macros.{Run, acted, managed, counting, run_by, run_fro
 use Rattle.pcl_page.specs.inner.Reflecting.{IsIn, HandsMore, IsTried, EndDone}
 use Rattle.pcl_page.specs.inner.Unfolding.{IsAt, Enters, IsStepped, IsActed, IsEntered, InterpreterEnds}
 use Rattle.pcl_page.proofs.Keeping.{then_from, is_counted}
-use Rattle.pcl_page.proofs.Steps.{prepared_pages, only_stays, stays_pages, no_more}
+use Rattle.pcl_page.proofs.Steps.{only_stays, stays_pages, no_more}
 use Rattle.pcl_page.proofs.Unfolded.{managed_acts}
 
 -- nothing runs
@@ -39,11 +39,6 @@ abbrev runs_none : Situation → Option Run
 runs_none later = None
 
 -- ---- a command that counts
-
--- what is done to macros comes after the rest
-counting_is : (dpi : Dpi) (place : ℕ) (command : Said) (s : Situation) {o : Result Situation Kind} → tried dpi command s ≡ o
-    → counting dpi place command s ≡ (o |> managed place (operation_of command.name) command.value)
-counting_is dpi place command s e = rw e refl
 
 -- a macro control lets the page stay
 control_outcome : (dpi : Dpi) (value : Value) (m : Bool) (s : Settings) {done : Settings × Effect}
@@ -66,9 +61,7 @@ control_by dpi command s {later} false e =
     let before = prepared dpi ControlMacros s in
     let t = then_from (taken dpi ControlMacros command.value before) (drawn_on dpi ControlMacros command) e in
     let same : t.0 ≡ later = let is = t.2 in cc in
-    ap (λ (z : Situation). z.pages) (sym same)
-    ∙ control_turned dpi command.value (outcome dpi ControlMacros command.value (is_marked before) before.settings) before refl t.1
-    ∙ prepared_pages dpi true s
+    rw (← same) (control_turned dpi command.value _ before refl t.1)
 
 -- what is refused for macros ejects nothing
 unmanaged_pages : (dpi : Dpi) (place : ℕ) (operation : Option Operation) (command : Said) (s : Situation) {now : Situation} {kind : Kind}
@@ -77,26 +70,11 @@ unfolding after
 unmanaged_pages dpi place (Some ControlMacros) command s e m = control_by dpi command s (is_ignored ControlMacros s) e
 unmanaged_pages dpi place other command s e m = absurd cc
 
-module _ {S : Type 0} (takes : S → Page → S → Type 0) (dpi : Dpi) (s now : Situation) (sink later : S) where
-  same_sink : now.pages ≡ s.pages → HandsMore takes dpi s now sink later → later ≡ sink
-  same_sink e h = rw (no_more s.pages h.0 (sym e ∙ h.1)) at h.2
-
-  more_same : (then : Situation) → then.pages ≡ now.pages → HandsMore takes dpi s now sink later → HandsMore takes dpi s then sink later
-  more_same then e h = (h.0, e ∙ h.1, h.2)
-
-items_same : (old new : Interpreter) → new.running ≡ old.running → new.running.items ≡ old.running.items
-items_same old new e = rw e refl
-
 -- the performer performed the command, and nothing was done to macros yet
 pub at_tried : {dpi : Dpi} (command : Said) {s now : Situation} {old middle : Interpreter} → IsAt dpi s old
     → tried dpi command s ≡ Ok now → IsIn dpi now middle.performer → middle.macros ≡ old.macros → IsAt dpi now middle
 at_tried {dpi} command {s} {now} {middle} at e i same =
-    let a = (is_counted dpi command s e).adds in
-    record {
-      is_in = i;
-      macros = rw (same, a.macros) at.macros;
-      begun = cc;
-    }
+    let a = (is_counted dpi command s e).adds in search (rules, same, a.macros)
 
 -- a command, and what it does to macros
 module _ {S : Type 0} (takes : S → Page → S → Type 0) (dpi : Dpi) (place : ℕ) (command : Said) (s : Situation) where
@@ -112,13 +90,13 @@ module _ {S : Type 0} (takes : S → Page → S → Type 0) (dpi : Dpi) (place :
   unmanaged_sink : (now : Situation) (sink later : S) {kind : Kind} → tried dpi command s ≡ Ok now → managed_by now ≡ Err kind
       → HandsMore takes dpi s now sink later → later ≡ sink
   unmanaged_sink now sink later t e h =
-      same_sink takes dpi s now sink later
-      (unmanaged_pages dpi place (operation_of command.name) command (counted s) (is_counted dpi command s t).after_is e) h
+      let same = unmanaged_pages dpi place (operation_of command.name) command (counted s) (is_counted dpi command s t).after_is e in
+      rw (no_more s.pages h.0 (sym same ∙ h.1)) at h.2
 
   managed_more : (now then : Situation) (sink later : S) → managed_by now ≡ Ok then → HandsMore takes dpi s now sink later
       → HandsMore takes dpi s then sink later
   managed_more now then sink later m h =
-      more_same takes dpi s now sink later then (managed_acts place (operation_of command.name) command.value m).pages h
+      (h.0, (managed_acts place (operation_of command.name) command.value m).pages ∙ h.1, h.2)
 
   stepped_by : (old middle new : Interpreter) (sink later : S) (result : Result (Unit {0}) CallFault) (now : Situation)
       → middle.running ≡ old.running → tried dpi command s ≡ Ok now → HandsMore takes dpi s now sink later
@@ -164,16 +142,7 @@ module _ {S : Type 0} (takes : S → Page → S → Type 0) (dpi : Dpi) (place :
 -- the performer is where it was, whatever became of macros
 in_macros : {dpi : Dpi} {events : List MacroEvent} {begun : Option Begun} {s : Situation} {old new : Performer} → new ≡ old
     → IsIn dpi s old → IsIn dpi (record s { macros = events; begun = begun }) new
-in_macros same i = rw same (record {
-  settings = i.settings;
-  raster = i.raster;
-  marked = i.marked;
-  ejected = i.ejected;
-  performed = i.performed;
-  asks = i.asks;
-  fonts = i.fonts;
-  painted = i.painted;
-})
+in_macros same i = rw same (search rules)
 
 -- one event more
 pub event_done : {dpi : Dpi} {event : MacroEvent} {s : Situation} {old new : Interpreter} → IsAt dpi s old
@@ -194,13 +163,12 @@ pub control_acted : {dpi : Dpi} {what : MacroControl} {id : ℕ} (place : ℕ) {
     → IsActed dpi (acted place (Some (Control what)) s) (run_by (Some (Control what))) (Ok tt) old new
 control_acted {what} {id} place {s} {old} {new} at i same run c =
     let id_is : id ≡ s.settings.macro_id = cc (i, at.is_in.settings) in
-    (record s { macros = control what s.settings.macro_id ∷ s.macros }, refl, event_done at same (rw id_is at c), idle_still old new run)
+    (_, refl, event_done at same (rw id_is at c), idle_still old new run)
 
 pub reset_acted : {dpi : Dpi} {s : Situation} {old new : Interpreter} → IsAt dpi s old
     → new.performer ≡ old.performer → new.running ≡ old.running → Controls old.macros new.macros (control Temporary 0)
     → IsActed dpi (Ok (record s { macros = control Temporary 0 ∷ s.macros })) runs_none (Ok tt) old new
-reset_acted {s} {old} {new} at same run c =
-    (record s { macros = control Temporary 0 ∷ s.macros }, refl, event_done at same c, idle_still old new run)
+reset_acted {old = old} {new} at same run c = (_, refl, event_done at same c, idle_still old new run)
 
 -- a definition begins
 pub begin_acted : {dpi : Dpi} {id : ℕ} (place : ℕ) {s : Situation} {old new : Interpreter} → IsAt dpi s old
@@ -208,12 +176,8 @@ pub begin_acted : {dpi : Dpi} {id : ℕ} (place : ℕ) {s : Situation} {old new 
     → new.macros ≡ record old.macros { begun = Some (record { id = id; from = place + 1 }) }
     → IsActed dpi (acted place (Some Begin) s) (run_by (Some Begin)) (Ok tt) old new
 begin_acted {id} place {s} {old} {new} at i same run m =
-    let id_is : id ≡ s.settings.macro_id = cc (i, at.is_in.settings) in (
-      record s { begun = Some (record { id = s.settings.macro_id; from = place + 1 }) },
-      refl,
-      record { is_in = in_macros same at.is_in; macros = rw m at.macros; begun = rw (m, id_is) refl },
-      idle_still old new run,
-    )
+    let id_is : id ≡ s.settings.macro_id = cc (i, at.is_in.settings) in
+    (_, refl, record { is_in = in_macros same at.is_in; macros = rw m at.macros; begun = rw (m, id_is) refl }, idle_still old new run)
 
 -- a macro begins to run
 pub enter_acted : {dpi : Dpi} (run_after : Situation → Option Run) (run : Option Run) {s : Situation} {old : Interpreter}
@@ -236,8 +200,7 @@ pub execute_acted : {dpi : Dpi} {id : ℕ} {s : Situation} {old : Interpreter} (
     → id ≡ old.performer.environment.macro_id → IsEntered (option_map (run_with None) (macro_at old.macros id)) result old new
     → IsActed dpi (Ok s) (run_by (Some Execute)) result old new
 execute_acted {id} {old} new result at i h =
-    enter_acted (run_by (Some Execute)) (option_map (run_with None) (macro_at old.macros id)) new result at
-    (rw (macro_found at i) refl) h
+    enter_acted _ (option_map (run_with None) (macro_at old.macros id)) new result at (rw (macro_found at i) refl) h
 
 pub call_acted : {dpi : Dpi} {id : ℕ} {saved : Settings} {s : Situation} {old : Interpreter} (new : Interpreter)
     (result : Result (Unit {0}) CallFault)
@@ -246,8 +209,7 @@ pub call_acted : {dpi : Dpi} {id : ℕ} {saved : Settings} {s : Situation} {old 
     → IsActed dpi (Ok s) (run_by (Some Call)) result old new
 call_acted {id} {saved} {s} {old} new result at i k h =
     let same : saved ≡ kept s.settings = rw at.is_in.settings at k in
-    enter_acted (run_by (Some Call)) (option_map (run_with (Some saved)) (macro_at old.macros id)) new result at
-    (rw (macro_found at i, same) refl) h
+    enter_acted _ (option_map (run_with (Some saved)) (macro_at old.macros id)) new result at (rw (macro_found at i, same) refl) h
 
 -- ---- the end
 

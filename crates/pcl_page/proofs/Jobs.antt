@@ -1,10 +1,9 @@
 -- Performing a job, place by place, up to the whole.
-use Rattle.std.proofs.Common.{◌≡◌, ℕ, ◌+◌, List, [], ◌∷◌, ◌++◌, Option, Some, None, Result, Ok, Err, refl, sym, ap, ◌∙◌, append_assoc, append-nil}
+use Rattle.std.proofs.Common.{◌≡◌, ℕ, ◌+◌, List, [], ◌∷◌, ◌++◌, Option, Some, None, Result, Ok, Err, refl, sym, ap, ◌∙◌, append_assoc, append-nil, rules}
 use Rattle.pcl_base.specs.declared.dpi.Dpi.{Dpi}
 use Rattle.pcl_base.specs.declared.fault.JobFault.{JobFault}
 use Rattle.pcl_base.specs.declared.fault.JobFault.TheVariants.{Refused, Memory}
 use Rattle.pcl_base.specs.declared.kind.Kind.{Kind}
-use Rattle.pcl_base.specs.declared.name.Name.TheVariants.{Empty}
 use Rattle.pcl_base.specs.Limits.{macro_limit}
 use Rattle.pcl_base.specs.Refusal.{refusal}
 use Rattle.pcl_escape.specs.Said.{Said}
@@ -37,7 +36,7 @@ end_grows dpi end = λ s. ended_grows dpi end (end_refusal dpi s) s
 
 rest_grows : (dpi : Dpi) (end : ℕ) (all : List Said) (place : ℕ) (commands : List Said) → Grows (rest_of_job dpi end all place commands)
 rest_grows dpi end all place commands = λ s.
-    then_grows (after_all dpi all place commands s) s (after_end dpi end) (all_grow dpi all place commands s) (end_grows dpi end)
+    then_grows (after_all dpi all place commands s) s _ (all_grow dpi all place commands s) (end_grows dpi end)
 
 -- the next command, and the rest after it
 abbrev next_step : Dpi → List Said → ℕ → Said → Situation → Performance
@@ -101,8 +100,7 @@ module _ {S : Type 0} (takes : S → Page → S → Type 0) (dpi : Dpi) (end : �
       let s = r.situation in
       stopped_on takes dpi all whole (it s) after_it s last old now then fault r.handed
       (sym (rest_next dpi end all place command commands s) ∙ r.same) (rest_grows dpi end all (place + 1) commands)
-      (goes_to takes dpi all (begun_among dpi all place command first.running.items s) (it s) s (Err fault) last now then
-      (begun_alone dpi all place command s r.idle) on)
+      (goes_to takes dpi all _ _ s (Err fault) last now then (begun_alone dpi all place command s r.idle) on)
 
   -- what a command has led to, whose macros are still to be performed
   pub record HasBegun (middle : Interpreter) (old now then : S) : Type 0 where
@@ -118,8 +116,7 @@ module _ {S : Type 0} (takes : S → Page → S → Type 0) (dpi : Dpi) (end : �
     from = r.situation;
     handed = r.handed;
     same = r.same;
-    on = goes_to takes dpi all (begun_among dpi all place command first.running.items r.situation) (it r.situation) r.situation (Ok tt)
-        middle now then (begun_alone dpi all place command r.situation r.idle) on;
+    on = goes_to takes dpi all _ _ r.situation (Ok tt) middle now then (begun_alone dpi all place command r.situation r.idle) on;
   }
 
   -- its macros, performed from there
@@ -130,8 +127,8 @@ module _ {S : Type 0} (takes : S → Page → S → Type 0) (dpi : Dpi) (end : �
       → GoesOn takes dpi all (it b.from) b.from result last now later
   macros_on middle last old now then later result b f =
       let g = b.on in
-      goes_from takes dpi all (it b.from) b.from g.0 result last now then later g.2
-      (goes_to takes dpi all (resumed macro_limit dpi all middle.running.items g.0) (it b.from) g.0 result last then later g.3 (f g.0 g.1))
+      goes_from takes dpi all _ b.from g.0 result last now then later g.2
+      (goes_to takes dpi all _ _ g.0 result last then later g.3 (f g.0 g.1))
 
   pub macros_stopped : (middle last : Interpreter) (old now then later : S) (fault : JobFault) → (b : HasBegun middle old now then)
       → ((s : Situation) → IsAt dpi s middle
@@ -166,30 +163,25 @@ pub end_reached : {S : Type 0} (takes : S → Page → S → Type 0) (dpi : Dpi)
 end_reached takes dpi end all whole place interpreter new old now then (Ok unit) r step =
     let s = r.situation in
     let d = step dpi s r.is_at in
-    let ends : whole ≡ done (at_end dpi s) = sym r.same ∙ rw d.0 refl in
-    rw ends ((refl, hands_further takes dpi s (at_end dpi s) old now then r.handed d.1), d.2)
+    rw (← r.same, d.0) ((refl, hands_further takes dpi s (at_end dpi s) old now then r.handed d.1), d.2)
 end_reached {S} takes dpi end all whole place interpreter new old now then (Err (Refused why)) r step =
     let s = r.situation in
     let d = step dpi s r.is_at in
-    let stops : whole ≡ record { situation = s; refusal = Some (refusal d.0 end Empty) } =
-    sym r.same ∙ rw d.1 refl in
-    (rw (stops, d.2, d.3) (refl, r.handed), tt)
+    (rw (← r.same, d.1, d.2, d.3) (refl, r.handed), tt)
 end_reached {S} takes dpi end all whole place interpreter new old now then (Err Memory) r step =
-    let s = r.situation in
-    let o = end_grows dpi end s in
-    (rw (← r.same, step dpi s r.is_at) (s.pages, o.0, o.1, r.handed), tt)
+    let o = end_grows dpi end r.situation in
+    (rw (← r.same, step dpi _ r.is_at) (r.situation.pages, o.0, o.1, r.handed), tt)
 
 -- ---- pages that were kept
 
 -- the pages of an accepted job that was performed
 abbrev pub accepted_pages : {S : Type 0} {takes : S → Page → S → Type 0} {dpi : Dpi} {job : List ℕ} {done : Unit {0}} {old new : S}
     → IsPerformed takes dpi job (Ok done) old new → List Sheet
-accepted_pages {S} {takes} {dpi} {job} {done} {old} {new} p = pages_of (performance_of dpi job p.commands)
+accepted_pages {dpi = dpi} {job} p = pages_of (performance_of dpi job p.commands)
 
 pub has_pages : {S : Type 0} {takes : S → Page → S → Type 0} {dpi : Dpi} {job : List ℕ} {done : Unit {0}} {old new : S}
     → (p : IsPerformed takes dpi job (Ok done) old new) → HasPages dpi job (accepted_pages p)
-has_pages p =
-    record { commands = p.commands; reading = p.reading; accepted = p.handed.0; ejected = refl }
+has_pages p = record { commands = p.commands; reading = p.reading; accepted = p.handed.0; ejected = refl }
 
 show_more : {dpi : Dpi} (pages : List Page) {page : Page} (sheets : List Sheet) {sheet : Sheet} → AllShow dpi pages sheets
     → Shows dpi page sheet
@@ -201,12 +193,7 @@ show_more (first ∷ pages) (one ∷ sheets) a s = (a.0, show_more pages sheets 
 
 -- a copy shows what the page shows
 copy_shows : {dpi : Dpi} {page copy : Page} {sheet : Sheet} → Shows dpi page sheet → IsSamePage page copy → Shows dpi copy sheet
-copy_shows s c = record {
-  size = cc;
-  resolution = cc;
-  copies = cc;
-  dots = λ x y wide high. rw c.bitmap (s.dots x y wide high);
-}
+copy_shows s c = search (rules, c.bitmap)
 
 -- what a sink does that keeps copies
 abbrev pub KeepsCopy : List Page → Page → List Page → Type 0
@@ -216,7 +203,5 @@ pub all_shown : (dpi : Dpi) {front old : List Page} (new : List Page) (before sh
     → Hands KeepsCopy dpi sheets old new → AllShow dpi new (before ++ sheets)
 all_shown dpi new before [] e s h = rw (append-nil, h, e) s
 all_shown dpi {front} new before (sheet ∷ sheets) e s h =
-    let copy = h.3.0 in
-    let shown =
-    all_shown dpi new (before ++ sheet ∷ []) sheets (rw e at h.3.1) (show_more front before s (copy_shows h.2 h.3.2)) h.4 in
-    rw (append_assoc before (sheet ∷ []) sheets) at shown
+    rw (append_assoc before (sheet ∷ []) sheets) at
+    (all_shown dpi new _ sheets (rw e at h.3.1) (show_more front before s (copy_shows h.2 h.3.2)) h.4)

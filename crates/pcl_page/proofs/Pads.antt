@@ -18,10 +18,6 @@ cleared_whole (byte ∷ row) {width} e =
     ap (λ (bs : List ℕ). byte ∷ bs) (cleared_whole row (omega arith))
     ∙ ap (λ (b : ℕ). b ∷ cleared_past (width - 8) row) (sym (whole_byte width byte (omega arith)))
 
--- what is cut off a byte is its remainder
-bits_less : {step : ℕ} (byte : ℕ) → 0 < step → byte - byte % step ≡ byte / step * step
-bits_less byte some = omega arith
-
 -- in the last byte of a row some bits are kept
 cleared_at : (row : List ℕ) {width : ℕ} (last : ℕ) {rest : ℕ} → length row ≡ last + 1 → width ≡ 8 * last + rest → 0 < rest → rest < 8
     → set row last (get_or row last 0 - get_or row last 0 % 2 ^ (8 - rest)) ≡ cleared_past width row
@@ -29,7 +25,7 @@ cleared_at [] last long e some few = absurd (omega arith)
 cleared_at (byte ∷ next ∷ row) zero long e some few = absurd (omega arith)
 cleared_at (byte ∷ []) {width} zero {rest} long e some few =
     let same : rest ≡ width = omega arith in
-    ap (λ (b : ℕ). b ∷ []) (bits_less byte (pow_pos (8 - rest)) ∙ ap (λ (n : ℕ). first_bits n byte) same)
+    rw (← same) (ap (λ (b : ℕ). b ∷ []) (omega (arith, pow_pos (8 - rest))))
 cleared_at (byte ∷ row) {width} (suc last) long e some few =
     ap (λ (bs : List ℕ). byte ∷ bs) (cleared_at row last (omega arith) (omega arith) some few)
     ∙ ap (λ (b : ℕ). b ∷ cleared_past (width - 8) row) (sym (whole_byte width byte (omega arith)))

@@ -7,7 +7,7 @@ use Rattle.pcl_page.specs.Raster.{Raster, row_mark, is_below_height}
 -- black over another ink
 pub or_is : (covered before : Bool) → (covered || before) ≡ cond covered true before
 or_is true before = refl
-or_is false before = refl
+or_is other before = refl
 
 -- bytes that were written over a whole buffer
 pub written : {new : List ℕ} (items : List ℕ) {len : ℕ} → length new ≡ len → take len (new ++ drop (length new) items) ≡ new

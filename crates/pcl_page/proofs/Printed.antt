@@ -1,12 +1,11 @@
 -- What is drawn, text and fonts: the performer follows the situation.
-use Rattle.std.proofs.Common.{◌≡◌, ℕ, suc, ◌+◌, ◌-◌, Bool, true, false, cond, List, [], ◌∷◌, Option, Some, None, ℤ, pos, negsuc, refl, sym, subst, ◌∙◌}
+use Rattle.std.proofs.Common.{◌≡◌, ℕ, suc, ◌+◌, ◌-◌, Bool, true, false, cond, List, [], ◌∷◌, Option, Some, None, ℤ, pos, negsuc, refl, sym, subst, ◌∙◌, rules}
 use Rattle.std.specs.Prelude.{◌==◌}
 use Rattle.pcl_base.specs.declared.dpi.Dpi.{Dpi}
 use Rattle.pcl_base.specs.declared.operation.Side.{Side}
 use Rattle.pcl_base.specs.declared.operation.Side.TheVariants.{Primary, Secondary}
 use Rattle.pcl_base.specs.declared.kind.Kind.TheVariants.{NoFont}
 use Rattle.pcl_bitmap.specs.declared.ink.Ink.TheVariants.{Black}
-use Rattle.pcl_bitmap.specs.Bitmap.{dot}
 use Rattle.pcl_escape.specs.Said.{Said}
 use Rattle.pcl_fonts.specs.Fields.{Font, Character}
 use Rattle.pcl_fonts.specs.declared.header.FontInfo.{FontInfo}
@@ -24,37 +23,19 @@ use Rattle.pcl_page.proofs.Turns.{drawn_in}
 
 pub event_in : {dpi : Dpi} {event : FontEvent} {s : Situation} {old new : Performer} → IsIn dpi s old → HasEvent event old new
     → IsIn dpi (with_event event s) new
-event_in i h = record {
-  settings = cc;
-  raster = cc;
-  marked = cc;
-  ejected = cc;
-  performed = cc;
-  asks = cc;
-  fonts = holds_after h.follows i.fonts;
-  painted = rw h.bitmap i.painted;
-}
+event_in i h = search (rules, holds_after h.follows i.fonts, h.bitmap)
 
 pub settings_in : {dpi : Dpi} {settings : Settings} {s : Situation} {old new : Performer} → IsIn dpi s old → HasSettings settings old new
     → IsIn dpi (record s { settings = settings }) new
-settings_in {settings} {s} i h = record {
-  settings = h.settings_are;
-  raster = cc;
-  marked = cc;
-  ejected = cc;
-  performed = cc;
-  asks = cc;
-  fonts = rw h.fonts i.fonts;
-  painted = let size : settings.size ≡ s.settings.size = cc (h.size, i.settings) in rw (h.bitmap, size) i.painted;
-}
+settings_in {settings} {s} i h =
+    let size : settings.size ≡ s.settings.size = cc (h.size, i.settings) in search (rules, h.fonts, h.bitmap, size)
 
 -- ---- rectangles and rows
 
 pub row_in : {dpi : Dpi} {s : Situation} {old new : Performer} (command : Said) → IsIn dpi s old → IsSent dpi command.bytes old new
     → IsIn dpi (with_row_in dpi command (raster_for_row dpi s.raster s.settings) s) new
 row_in {dpi} {s} command i m =
-    let raster : m.raster ≡ raster_for_row dpi s.raster s.settings = cc in
-    rw (raster, i.settings) at (drawn_in i m.drawn m.sent)
+    let raster : m.raster ≡ raster_for_row dpi s.raster s.settings = cc in rw (raster, i.settings) at (drawn_in i m.drawn m.sent)
 
 -- ---- one code
 
@@ -67,21 +48,20 @@ pub character_printed : {dpi : Dpi} {here : Printed} {s : Situation} {old middle
     (code : ℕ) → IsIn dpi s old → IsAtCursor dpi here old.environment → IsDrawn (character_at dpi c here.x here.y) old middle
     → middle.raster ≡ old.raster → HasSettings (behind_character proportional c middle.environment) middle new
     → IsIn dpi (code_printed dpi proportional (Some c) code s) new
-character_printed {dpi} {s} {middle} {new} proportional c code i at d r h =
-    let inked : IsIn dpi (record s { marks = character_mark dpi c s.settings ∷ s.marks }) middle =
-    let drawn = drawn_in i (cursor_drawn c at d) (r ∙ i.raster) in rw i.settings at drawn in
+character_printed {middle = middle} {new} proportional c code i at d r h =
+    let inked = rw i.settings at (drawn_in i (cursor_drawn c at d) (r ∙ i.raster)) in
     settings_in inked (subst (λ (t : Settings). HasSettings (behind_character proportional c t) middle new) inked.settings h)
 
 pub blank_printed : {dpi : Dpi} {s : Situation} {old new : Performer} (proportional : Bool) (code : ℕ) → IsIn dpi s old
     → HasSettings (behind_blank code old.environment) old new → IsIn dpi (code_printed dpi proportional None code s) new
-blank_printed {old} {new} proportional code i h =
+blank_printed {old = old} {new} proportional code i h =
     settings_in i (subst (λ (t : Settings). HasSettings (behind_blank code t) old new) i.settings h)
 
 -- ---- what is inked already
 
 -- what was drawn in black is inked
 pub inked_by : {mark : Mark} {old new : Performer} → mark.ink ≡ Black → IsDrawn mark old new → IsInked mark new
-inked_by {mark} {old} {new} black d = record {
+inked_by black d = record {
   marked = d.marked;
   black = λ x y wide high covers.
       d.dots x y (rw (d.size, d.resolution) at wide) (rw (d.size, d.resolution) at high) ∙ rw (covers, black) refl;
@@ -93,26 +73,11 @@ black_again false is_black black = refl
 
 -- to draw once more what is inked changes nothing
 pub drawn_again : {mark : Mark} {performer : Performer} → mark.ink ≡ Black → IsInked mark performer → IsDrawn mark performer performer
-drawn_again {mark} {performer} black i =
-    let bitmap = performer.page.bitmap in record {
-      settings = refl;
-      marked = i.marked;
-      ejected = refl;
-      fonts = refl;
-      performed = refl;
-      asks = refl;
-      size = refl;
-      resolution = refl;
-      dots = λ x y wide high.
-          rw black (black_again (mark.covers x y) (dot bitmap x y) (i.black x y wide high));
-    }
+drawn_again black i = search (rules, black, black_again, i.black)
 
 pub inked_still : {mark : Mark} {settings : Settings} {old new : Performer} → IsInked mark old → HasSettings settings old new
     → IsInked mark new
-inked_still {mark} i h = record {
-  marked = h.marked ∙ i.marked;
-  black = rw h.bitmap i.black;
-}
+inked_still i h = search (rules, h.bitmap)
 
 pub last_still : (dpi : Dpi) (characters : ℕ → Option Character) (last : Option Printed) {settings : Settings} {old new : Performer}
     → IsLastInked dpi characters last old → HasSettings settings old new → IsLastInked dpi characters last new
@@ -164,8 +129,7 @@ inked_last {c} last here p i same e = (rw same at i) c (sym e)
 pub last_now : (dpi : Dpi) {performer : Performer} {c : Character} (characters : ℕ → Option Character) (here : Printed)
     → Some c ≡ characters here.code → IsInked (character_at dpi c here.x here.y) performer
     → IsLastInked dpi characters (Some here) performer
-last_now dpi {performer} {c} characters here e i = λ other is.
-    let same : c ≡ other = cc in rw same at i
+last_now dpi {c = c} characters here e i = λ other is. let same : c ≡ other = cc in rw same at i
 
 -- the character of a code is that of the beginning
 pub same_character : {dpi : Dpi} {proportional : Bool} {s : Situation} {codes rest : List ℕ} {performer : Performer}
@@ -213,8 +177,7 @@ text_taken codes (Some font) e = refl
 
 pub text_advance : (font : Option Font) {info : FontInfo} → Some info ≡ info_of font → is_proportional font ≡ info.proportional
 text_advance None e = absurd cc
-text_advance (Some font) {info} e =
-    let same : info ≡ record { proportional = font.proportional; pitch = font.pitch } = cc in rw same refl
+text_advance (Some font) e = cc
 
 pub printed_as : {dpi : Dpi} {one other : Bool} {new : Performer} (characters : ℕ → Option Character) (codes : List ℕ) (s : Situation)
     → other ≡ one → IsIn dpi (codes_printed dpi one characters codes s) new → IsIn dpi (codes_printed dpi other characters codes s) new

@@ -1,5 +1,5 @@
 -- How far commands and macros bring a performance, and how much work they leave.
-use Rattle.std.proofs.Common.{◌≡◌, ℕ, zero, suc, ◌+◌, ◌-◌, ◌*◌, ◌<◌, ◌≤◌, List, [], ◌∷◌, ◌++◌, length, take, drop, Option, Some, None, Result, Ok, Err, refl, sym, ap, ◌∙◌, length-append, suc-mul, arith, inl, inr}
+use Rattle.std.proofs.Common.{◌≡◌, ℕ, zero, suc, ◌+◌, ◌-◌, ◌*◌, ◌<◌, ◌≤◌, List, [], ◌∷◌, ◌++◌, length, take, drop, Option, Some, None, Result, Ok, Err, refl, sym, ap, ◌∙◌, length-append, suc-mul, arith, inl, inr, rules}
 use Rattle.std.specs.Prelude.{◌⊎◌, slice_get}
 use Rattle.pcl_base.specs.declared.dpi.Dpi.{Dpi}
 use Rattle.pcl_base.specs.declared.fault.CallFault.{CallFault}
@@ -17,7 +17,7 @@ use Rattle.pcl_page.specs.declared.interpreter.Interpreter.{Interpreter}
 use Rattle.pcl_page.specs.declared.interpreter.Running.{Running}
 use Rattle.pcl_page.specs.Situation.{Situation}
 use Rattle.pcl_page.specs.Macros.{Run, after_command, run_of, macro_ended}
-use Rattle.pcl_page.specs.Performing.{Performance, done, stopped, then_on, in_order, step, commands_left, runs}
+use Rattle.pcl_page.specs.Performing.{Performance, stopped, then_on, step, commands_left, runs}
 use Rattle.pcl_page.specs.inner.Reflecting.{HandsMore}
 use Rattle.pcl_page.specs.inner.Unfolding.{IsAt, run_in, entered, Enters, rest_of, resumed, begun_among, left_in, work_left, GoesOn, IsStepped}
 use Rattle.pcl_page.proofs.Sinks.{no_pages, first_of_more, none_of_more, goes_from, goes_to}
@@ -53,18 +53,15 @@ module _ {S : Type 0} (takes : S → Page → S → Type 0) (dpi : Dpi) (all : L
       → GoesOn takes dpi all among s (Err (job.Refused why)) new sink later
   stepped_stops kind why t w =
       elim t [
-        | inl r ↦ stopped_there among kind s why (begun_refused dpi all place command old.running.items s r.0) w
-            (no_pages takes dpi s s sink later refl r.1)
-        | inr r ↦ stopped_there among kind r.0 why
-            (rw r.5 (begun_deep dpi all place command old.running.items s r.2 r.3 r.4)) w r.6
+        | inl r ↦ stopped_there among kind s why (begun_refused _ _ _ _ _ s r.0) w (no_pages takes dpi s s sink later refl r.1)
+        | inr r ↦ stopped_there among kind r.0 why (rw r.5 (begun_deep _ _ _ _ _ s r.2 r.3 r.4)) w r.6
       ]
 
   pub stepped_short : HasResult (Err call.Memory) → GoesOn takes dpi all among s (Err job.Memory) new sink later
   stepped_short t =
       elim t [
-        | inl same ↦ none_of_more takes dpi s among.situation sink later same (begun_grow dpi all place command old.running.items s)
-        | inr d ↦ first_of_more takes dpi s d.0 among.situation sink later d.2
-            (begun_after dpi all place command old.running.items s d.1)
+        | inl same ↦ none_of_more _ _ s among.situation _ _ same (begun_grow dpi all place command old.running.items s)
+        | inr d ↦ first_of_more _ _ s d.0 among.situation _ _ d.2 (begun_after dpi all place command old.running.items s d.1)
       ]
 
 -- ---- the next command of a macro
@@ -97,10 +94,7 @@ rest_next : (levels : ℕ) (dpi : Dpi) (all : List Said) (newest : Running) {com
     → rest_of levels dpi all (run_in newest) s
     ≡ then_on (step dpi (runs levels dpi all) newest.next command s) (rest_of levels dpi all (run_in (advanced newest)))
 rest_next levels dpi all newest {command} s got lt =
-    let one = step dpi (runs levels dpi all) in
-    rw (left_next all newest got lt) refl
-    ∙ then_assoc (one newest.next command s)
-    (in_order one (newest.next + 1) (commands_left all (run_in (advanced newest)))) (λ later. done (macro_ended dpi newest.saved later))
+    rw (left_next all newest got lt) (then_assoc (step dpi (runs levels dpi all) newest.next command s) _ _)
 
 pub next_of_macro : (dpi : Dpi) (all : List Said) (older : List Running) (newest : Running) {command : Said} (s : Situation)
     → length older < 3 → slice_get all newest.next ≡ Some command → newest.next < newest.end
@@ -109,12 +103,8 @@ next_of_macro dpi all older newest {command} s few got lt =
     let k = 2 - length older in
     let one = step dpi (runs k dpi all) newest.next command s in
     let levels : macro_limit - length (older ++ advanced newest ∷ []) ≡ k = omega (arith, length-append older (advanced newest ∷ [])) in
-    rw levels refl
-    ∙ then_same one
-    (λ t. pushed dpi all older (advanced newest) t few)
-    ∙ sym (pushed dpi all older newest s few
-    ∙ rw (rest_next k dpi all newest s got lt) refl
-    ∙ then_assoc one (rest_of k dpi all (run_in (advanced newest))) (resumed macro_limit dpi all older))
+    rw levels (then_same one (λ t. pushed dpi all older (advanced newest) t few)
+    ∙ sym (pushed dpi all older newest s few ∙ rw (rest_next k dpi all newest s got lt) (then_assoc one _ _)))
 
 -- a macro has no command left
 abbrev pub HasEnded : List Said → Running → Type 0
@@ -135,17 +125,12 @@ pub end_of_macro : (dpi : Dpi) (all : List Said) (older : List Running) (newest 
     → length older < 3 → HasEnded all newest
     → resumed macro_limit dpi all older (macro_ended dpi newest.saved s) ≡ resumed macro_limit dpi all (older ++ newest ∷ []) s
 end_of_macro dpi all older newest s few e =
-    sym (pushed dpi all older newest s few
-    ∙ rw (none_left all newest e) refl)
+    sym (pushed dpi all older newest s few ∙ rw (none_left all newest e) refl)
 
 -- the same interpreter but for the macros that run
 pub at_running : {dpi : Dpi} {s : Situation} {old new : Interpreter} → new.performer ≡ old.performer → new.macros ≡ old.macros
     → IsAt dpi s old → IsAt dpi s new
-at_running {dpi} {s} p m at = record {
-  is_in = rw p at.is_in;
-  macros = rw m at.macros;
-  begun = cc;
-}
+at_running p m at = search (rules, p, m)
 
 -- the end of a macro leaves the pages
 pub left_pages : (dpi : Dpi) (saved : Option Settings) (s : Situation) → (macro_ended dpi saved s).pages ≡ s.pages
@@ -155,12 +140,12 @@ left_pages dpi (Some settings) s = refl
 -- ---- work
 
 pub left_append : (count : ℕ) (older newer : List Running) → left_in count (older ++ newer) ≡ left_in count older + left_in count newer
-left_append count [] newer = let same : left_in count newer ≡ 0 + left_in count newer = omega arith in same
-left_append count (running ∷ older) newer = let more = left_append count older newer in omega (arith, more)
+left_append count [] newer = omega arith
+left_append count (running ∷ older) newer = omega (arith, left_append count older newer)
 
 left_entered : (count : ℕ) (run : Option Run) → left_in count (entered run) ≤ count + 1
 left_entered count None = omega arith
-left_entered count (Some run) = omega arith
+left_entered count other = omega arith
 
 -- a command that counts is worth all that its macro may have left
 fewer_left : (performed later count old new : ℕ) → performed < 100000000 → later ≡ performed + 1 → new ≤ old + (count + 1)
@@ -169,10 +154,7 @@ fewer_left performed later count old new few next more =
     let n = 100000000 - performed in
     let one : 100000001 - later ≡ n = omega (arith, next) in
     let two : 100000001 - performed ≡ suc n = omega arith in
-    rw (one, two) (product n)
-  where
-    product : (n : ℕ) → n * (count + 2) + new ≤ suc n * (count + 2) + old
-    product n = let both = suc-mul n (count + 2) in omega (arith, both, more)
+    rw (one, two) (omega (arith, suc-mul n (count + 2), more))
 
 pub stepped_work : (dpi : Dpi) (place count : ℕ) (command : Said) (s later : Situation) (old new : Interpreter) → IsAt dpi s old
     → after_command dpi place command s ≡ Ok later → IsAt dpi later new
@@ -188,8 +170,7 @@ stepped_work dpi place count command s later old new at e there run =
           let running : left_in count new.running.items ≡ left_in count old.running.items = rw none at all ∙ omega arith in
           rw same (omega (arith, running))
       | inr counts ↦
-          fewer_left old.performer.performed new.performer.performed count (left_in count old.running.items)
-          (left_in count new.running.items) (omega (arith, counts.few, at.is_in.performed))
+          fewer_left old.performer.performed _ count _ _ (omega (arith, counts.few, at.is_in.performed))
           (omega (arith, there.is_in.performed, counts.performed, at.is_in.performed))
           (omega (arith, all, left_entered count (run_of command s later)))
     ]
@@ -214,9 +195,7 @@ pub command_goes : {S : Type 0} (takes : S → Page → S → Type 0) (dpi : Dpi
     → GoesOn takes dpi all (begun_among dpi all newest.next command pushed_on s) s result last sink later
     → GoesOn takes dpi all (resumed macro_limit dpi all (older ++ newest ∷ []) s) s result last sink later
 command_goes takes dpi all older pushed_on newest command s result last sink later few got lt push g =
-    goes_to takes dpi all (begun_among dpi all newest.next command pushed_on s)
-    (resumed macro_limit dpi all (older ++ newest ∷ []) s) s result last sink later
-    (rw push (next_of_macro dpi all older newest s few got lt)) g
+    goes_to takes dpi all _ _ s result last sink later (rw push (next_of_macro dpi all older newest s few got lt)) g
 
 -- the end of the newest macro
 pub end_goes : {S : Type 0} (takes : S → Page → S → Type 0) (dpi : Dpi) (all : List Said) (old last : Interpreter)
@@ -224,12 +203,8 @@ pub end_goes : {S : Type 0} (takes : S → Page → S → Type 0) (dpi : Dpi) (a
     → IsAt dpi (macro_ended dpi newest.saved s) last → last.running ≡ old.running
     → GoesOn takes dpi all (resumed macro_limit dpi all (old.running.items ++ newest ∷ []) s) s (Ok tt) last sink sink
 end_goes takes dpi all old last newest s sink few e at run =
-    let then = macro_ended dpi newest.saved s in (
-      then,
-      at,
-      no_pages takes dpi s then sink sink (left_pages dpi newest.saved s) refl,
-      rw run (end_of_macro dpi all old.running.items newest s few e),
-    )
+    let none = no_pages takes dpi s (macro_ended dpi newest.saved s) sink sink (left_pages dpi newest.saved s) refl in
+    (_, at, none, rw run (end_of_macro dpi all old.running.items newest s few e))
 
 -- ---- all macros that run
 
@@ -248,11 +223,8 @@ pub macro_goes : {S : Type 0} (takes : S → Page → S → Type 0) (dpi : Dpi) 
     → GoesOn takes dpi all (resumed macro_limit dpi all (middle.running.items ++ newest ∷ []) now) now result last then new)
     → GoesOn takes dpi all whole s result last old new
 macro_goes takes dpi all whole s result before middle last newest old then new b off p m f =
-    let now = b.0 in
-    let g = f now (at_running p m b.1) in
-    goes_from takes dpi all whole s now result last old then new b.2
-    (goes_to takes dpi all (resumed macro_limit dpi all (middle.running.items ++ newest ∷ []) now) whole now result last then new
-    (rw off at b.3) g)
+    goes_from takes dpi all whole s b.0 result last old then new b.2
+    (goes_to takes dpi all _ whole b.0 result last then new (rw off at b.3) (f b.0 (at_running p m b.1)))
 
 -- as many macros run as may
 pub enters_few : (run : Option Run) (old : List Running) {new : List Running} → Enters run old new → length old ≤ 3 → length new ≤ 3

@@ -1,5 +1,5 @@
 -- The performer follows the situation, command by command.
-use Rattle.std.proofs.Common.{◌≡◌, ℕ, ◌+◌, ◌<◌, ◌≤◌, Bool, true, false, cond, nat_le, List, [], ◌∷◌, ◌++◌, length, Option, Some, None, Ok, Err, refl, sym, ap, ◌∙◌, append-nil, length-append, inl, inr, arith}
+use Rattle.std.proofs.Common.{◌≡◌, ℕ, ◌+◌, ◌<◌, ◌≤◌, Bool, true, false, cond, nat_le, List, [], ◌∷◌, ◌++◌, length, Option, Some, None, Ok, Err, refl, sym, ap, ◌∙◌, append-nil, length-append, inl, inr, arith, rules}
 use Rattle.std.specs.Prelude.{is_some, ◌&&◌}
 use Rattle.std.proofs.lemmas.Bool.Decides.{nat_tests}
 use Rattle.pcl_base.specs.declared.dpi.Dpi.{Dpi}
@@ -19,37 +19,22 @@ use Rattle.pcl_env.specs.Settings.{Settings, defaults}
 use Rattle.pcl_env.specs.Outcome.{Outcome, outcome, stays}
 use Rattle.pcl_bitmap.specs.declared.page.Page.{Page}
 use Rattle.pcl_page.specs.declared.performer.Performer.{Performer}
-use Rattle.pcl_page.specs.Raster.{Raster, ends_raster, is_ignored_in_raster}
-use Rattle.pcl_page.specs.Situation.{Sheet, Situation, turned_page, without_temporary, draw_refusal, unless_refused, ◌|>◌, drawn_on, settings_below, end_raster, is_marked, sheet_of, turned, turned_by, drawn, counted, prepared, is_ignored, after, after_named, at_end, page_refusal, within_page_limit, tried}
+use Rattle.pcl_page.specs.Raster.{ends_raster, is_ignored_in_raster}
+use Rattle.pcl_page.specs.Situation.{Sheet, Situation, turned_page, without_temporary, draw_refusal, unless_refused, ◌|>◌, drawn_on, end_raster, is_marked, sheet_of, turned, turned_by, drawn, counted, prepared, is_ignored, after, after_named, at_end, page_refusal, within_page_limit, tried}
 use Rattle.pcl_page.specs.Performing.{Shows}
 use Rattle.pcl_page.specs.inner.Reflecting.{IsIn, IsEjected, Takes, Draws, HandsMore, IsTurned, IsTried}
 use Rattle.pcl_env.specs.declared.asked.Asked.{Asked}
 use Rattle.pcl_page.specs.Asks.{asks_of}
-use Rattle.pcl_page.proofs.Turns.{prepared_page, with_settings, pages_fit, pages_past, handed_sheet}
+use Rattle.pcl_page.proofs.Turns.{prepared_page, with_settings, pages_fit, pages_past, handed_sheet, below_same}
 use Rattle.pcl_page.proofs.Keeping.{drawn_keeps}
 
 -- ---- a command
-
-pub drawn_pages : (dpi : Dpi) (operation : Operation) (command : Said) (s : Situation) → (drawn dpi operation command s).pages ≡ s.pages
-drawn_pages dpi operation command s = (drawn_keeps dpi operation command).pages
-
-pub prepared_pages : (dpi : Dpi) (ends : Bool) (s : Situation) → (cond ends (end_raster dpi s) s).pages ≡ s.pages
-prepared_pages dpi ends s = (prepared_page dpi ends s).pages
 
 pub counted_in : {dpi : Dpi} {s : Situation} {old new : Performer} → IsIn dpi s old → new.environment ≡ old.environment
     → new.raster ≡ old.raster
     → new.page ≡ old.page → new.is_marked ≡ old.is_marked → new.ejected ≡ old.ejected → new.performed ≡ old.performed + 1
     → new.asks ≡ old.asks → new.fonts ≡ old.fonts → IsIn dpi (counted s) new
-counted_in i e r b m j p a f = record {
-  settings = cc;
-  raster = cc;
-  marked = cc;
-  ejected = cc;
-  performed = cc;
-  asks = cc;
-  fonts = rw f i.fonts;
-  painted = rw b i.painted;
-}
+counted_in i e r b m j p a f = search (rules, f, b)
 
 -- a command that is not past the limit, by its operation
 pub tried_as : (dpi : Dpi) (command : Said) {operation : Option Operation} (s : Situation) → s.performed < 100000000
@@ -93,8 +78,7 @@ stays_pages done s e = rw e refl
 pub no_more : (pages more : List Sheet) → pages ≡ pages ++ more → more ≡ []
 no_more pages [] e = refl
 no_more pages (sheet ∷ more) e =
-    let longer = ap (λ (ps : List Sheet). length ps) e in
-    absurd (omega (arith, longer, length-append pages (sheet ∷ more)))
+    absurd (omega (arith, ap length e, length-append pages (sheet ∷ more)))
 
 -- ---- a command and its sink
 
@@ -143,7 +127,7 @@ module _ {S : Type 0} (takes : S → Page → S → Type 0) (dpi : Dpi) (operati
   -- what is drawn hands over no page
   drawn_fits : (now : Situation) {past : Option Kind} → page_refusal now ≡ past
       → within_page_limit (drawn dpi operation command now) ≡ unless_refused past (drawn dpi operation command now)
-  drawn_fits now e = rw (drawn_pages dpi operation command now, e) refl
+  drawn_fits now e = rw ((drawn_keeps dpi operation command {s = now}).pages, e) refl
 
   -- the page was turned: what holds before anything is drawn, and what then is the situation after the command
   pub record IsGone (now : Situation) (sink later : S) : Type 0 where
@@ -158,11 +142,9 @@ module _ {S : Type 0} (takes : S → Page → S → Type 0) (dpi : Dpi) (operati
   gone_with done sink later a is fits h = record {
     tried_is = tried_at a is;
     fits = fits;
-    handed = (
-      h.0,
-      cc (drawn_pages dpi operation command (turned_with done), h.1, prepared_pages dpi (ends_raster operation) (counted s)),
-      h.2,
-    );
+    handed =
+        let drawn_is = (drawn_keeps dpi operation command {s = turned_with done}).pages in
+        (h.0, cc (drawn_is, h.1, (prepared_page dpi (ends_raster operation) (counted s)).pages), h.2);
     quiet = λ kind e.
         let stay = refused_stays dpi operation command (is_marked before) before.settings (turned_with done) e is in
         rw (no_more before.pages h.0 (sym (stays_pages done before stay) ∙ h.1)) at h.2;
@@ -186,35 +168,27 @@ module _ {S : Type 0} (takes : S → Page → S → Type 0) (dpi : Dpi) (operati
   past_why None a is past e = refl
   past_why {old} {done} (Some other) a is past e =
       let stay = refused_stays dpi operation command (is_marked before) before.settings (turned_with done) e is in
-      let pages : (turned_with done).pages ≡ s.pages =
-      stays_pages done before stay ∙ prepared_pages dpi (ends_raster operation) (counted s) in
+      let pages = stays_pages done before stay ∙ (prepared_page dpi (ends_raster operation) (counted s)).pages in
       let fits : page_refusal (turned_with done) ≡ None = rw pages (pages_fit s (omega (arith, a.is_in.ejected, old.few_pages))) in
       absurd cc
 
-  turn_refused : {old : Performer} (new : Performer) (sink later : S) (kind : Kind) (o : Outcome) → AtTurn dpi operation command s old
-      → set_to ≡ o → IsTurned takes dpi o before (Err (Refused kind)) new sink later
-      → IsTried takes dpi command s (Err (Refused kind)) new sink later
-  turn_refused new sink later kind None a is t = (rw t.0 (tried_at a is), t.1)
-  turn_refused new sink later kind (Some done) a is t =
-      let free : draw_refusal operation command (turned_with done) ≡ None =
-      past_why (draw_refusal operation command (turned_with done)) a is t.0 refl in
+  refused_by : {old : Performer} (new : Performer) (sink later : S) (o : Outcome) (fault : CallFault)
+      → AtTurn dpi operation command s old → set_to ≡ o → IsTurned takes dpi o before (Err fault) new sink later
+      → IsTried takes dpi command s (Err fault) new sink later
+  refused_by new sink later None (Refused kind) a is t = (rw t.0 (tried_at a is), t.1)
+  refused_by new sink later (Some done) (Refused kind) a is t =
+      let free = past_why _ a is t.0 refl in
       (tried_by (turned_with done) (tried_at a is) free ∙ drawn_fits (turned_with done) t.0, t.1)
-
-  turn_short : {old : Performer} (new : Performer) (sink later : S) (o : Outcome) → AtTurn dpi operation command s old → set_to ≡ o
-      → IsTurned takes dpi o before (Err Memory) new sink later → IsTried takes dpi command s (Err Memory) new sink later
-  turn_short new sink later None a is t = inl t
-  turn_short new sink later (Some done) a is t =
+  refused_by new sink later None Memory a is t = inl t
+  refused_by new sink later (Some done) Memory a is t =
       elim t [
         | inl same ↦ inl same
-        | inr h ↦
-            gone_short (turned_with done) new sink later (draw_refusal operation command (turned_with done))
-            (gone_with done sink later a is h.0 h.1) refl
+        | inr h ↦ gone_short (turned_with done) new sink later _ (gone_with done sink later a is h.0 h.1) refl
       ]
 
   pub tried_refused : (old new : Performer) (sink later : S) (fault : CallFault) → AtTurn dpi operation command s old
       → IsTurned takes dpi set_to before (Err fault) new sink later → IsTried takes dpi command s (Err fault) new sink later
-  tried_refused old new sink later (Refused kind) a t = turn_refused new sink later kind _ a refl t
-  tried_refused old new sink later Memory a t = turn_short new sink later _ a refl t
+  tried_refused old new sink later fault a t = refused_by new sink later _ fault a refl t
 
   -- the performer is at the situation after the turn
   pub record Gone (middle : Performer) (sink later : S) : Type 0 where
@@ -245,21 +219,9 @@ module _ {S : Type 0} (takes : S → Page → S → Type 0) (dpi : Dpi) (operati
       → IsTried takes dpi command s (Err fault) new sink later
   tried_undrawn old middle new sink later a g (Refused kind) d =
       (tried_by g.turned_to g.is_gone.tried_is d, g.is_gone.quiet kind d)
-  tried_undrawn old middle new sink later a g Memory d =
-      gone_short g.turned_to new sink later (draw_refusal operation command g.turned_to) g.is_gone refl
+  tried_undrawn old middle new sink later a g Memory d = gone_short g.turned_to new sink later _ g.is_gone refl
 
 -- ---- the end of the input
-
--- the end of a raster changes nothing of the page that is ejected
-sheet_below : (dpi : Dpi) (raster : Option Raster) (s : Situation)
-    → sheet_of (record s { settings = settings_below dpi raster s.settings; raster = None }) ≡ sheet_of s
-sheet_below dpi None s = refl
-sheet_below dpi (Some r) s = refl
-
--- nor what it is asked with
-asked_below : (dpi : Dpi) (raster : Option Raster) (s : Settings) → (settings_below dpi raster s).asked ≡ s.asked
-asked_below dpi None s = refl
-asked_below dpi (Some r) s = refl
 
 -- the end, where it is not refused
 abbrev EndsAt : {S : Type 0} → (S → Page → S → Type 0) → Dpi → Situation → Situation → Performer → S → S → Type 0
@@ -275,11 +237,12 @@ end_marked takes dpi s copies asked old new sink later i m few c a e t =
     let end = end_raster dpi s in
     let is : is_marked s ≡ true = cc in
     let count = length-append s.pages (sheet_of end ∷ []) in
-    let shows : Shows dpi t.0 (sheet_of end) = rw (sheet_below dpi s.raster s) (handed_sheet i refl c t.1) in
+    let below = below_same dpi s.raster s.settings in
+    let shows : Shows dpi t.0 (sheet_of end) = rw (below.0, below.1) (handed_sheet i refl c t.1) in
     rw is (
       pages_fit (without_temporary (turned_page defaults end)) (omega (arith, i.ejected, count)),
       (sheet_of end ∷ [], refl, (t.0, later, shows, t.2, refl)),
-      cc (asked_below dpi s.raster s.settings),
+      cc below.2,
     )
 
 pub end_unmarked : {S : Type 0} (takes : S → Page → S → Type 0) (dpi : Dpi) (s : Situation) (old : Performer) (sink later : S)

@@ -1,5 +1,5 @@
 -- The performer follows the situation: rasters that end, pages that are turned, and what is drawn.
-use Rattle.std.proofs.Common.{◌≡◌, ℕ, ◌<◌, ◌≤◌, Bool, true, false, cond, nat_le, List, [], ◌∷◌, length, Option, Some, None, Result, Ok, Err, refl, sym, ◌∙◌, append-nil, length-append, inl, inr, arith, rules}
+use Rattle.std.proofs.Common.{◌≡◌, ℕ, ◌<◌, ◌≤◌, Bool, true, false, cond, nat_le, List, [], ◌∷◌, length, Option, Some, None, Result, Ok, Err, refl, sym, ◌∙◌, append-nil, length-append, inl, inr, arith, rules, ◌++◌}
 use Rattle.std.proofs.lemmas.Bool.Decides.{nat_tests}
 use Rattle.pcl_base.specs.declared.dpi.Dpi.{Dpi}
 use Rattle.pcl_base.specs.declared.fault.CallFault.TheVariants.{Memory}
@@ -27,9 +27,11 @@ use Rattle.pcl_page.proofs.Sizes.{size_kept}
 
 -- ---- the end of a raster
 
-size_below : (dpi : Dpi) (raster : Option Raster) (s : Settings) → (settings_below dpi raster s).size ≡ s.size
-size_below dpi None s = refl
-size_below dpi (Some r) s = refl
+-- it changes nothing of the page that is ejected, nor what it is asked with
+pub below_same : (dpi : Dpi) (raster : Option Raster) (s : Settings) → ((settings_below dpi raster s).size ≡ s.size)
+    × ((settings_below dpi raster s).copies ≡ s.copies) × ((settings_below dpi raster s).asked ≡ s.asked)
+below_same dpi None s = (refl, refl, refl)
+below_same dpi (Some r) s = (refl, refl, refl)
 
 -- what the end of a raster does, if it ends
 pub record KeepsPage (dpi : Dpi) (ends : Bool) (s other : Situation) : Type 0 where
@@ -45,25 +47,15 @@ pub record KeepsPage (dpi : Dpi) (ends : Bool) (s other : Situation) : Type 0 wh
   pub asks : other.asks ≡ s.asks
 
 pub prepared_page : (dpi : Dpi) (ends : Bool) (s : Situation) → KeepsPage dpi ends s (cond ends (end_raster dpi s) s)
-prepared_page dpi true s = search (rules, size_below)
+prepared_page dpi true s = search (rules, (below_same dpi s.raster s.settings).0)
 prepared_page dpi false s = search rules
 
 pub prepared_in : {dpi : Dpi} {operation : Operation} {s : Situation} {old new : Performer} → IsIn dpi s old
     → IsPrepared dpi operation old new
     → IsIn dpi (prepared dpi operation s) new
 prepared_in {dpi} {operation} {s} {old} {new} i p =
-    let ends = ends_raster operation in
-    let k = prepared_page dpi ends s in
-    record {
-      settings = cc;
-      raster = cc;
-      marked = cc;
-      ejected = cc;
-      performed = cc;
-      asks = cc;
-      fonts = rw (p.fonts, k.fonts) i.fonts;
-      painted = rw (k.marks, p.bitmap, k.size) i.painted;
-    }
+    let k = prepared_page dpi (ends_raster operation) s in
+    search (rules, p.fonts, k.fonts, k.marks, p.bitmap, k.size)
 
 -- ---- the outcome of a command
 
@@ -75,11 +67,6 @@ answered (Some done) {effect} old a = (done, refl, (let e : ◌≡◌ {A = Resul
 pub unanswered : (o : Outcome) {e : Unsupported} (old new : Settings) → Answers o (Err e) old new → o ≡ None
 unanswered None old new a = refl
 unanswered (Some done) {e} old new a = let f : ◌≡◌ {A = Result Effect Unsupported} (Err e) (Ok done.1) = a.0 in absurd cc
-
--- the outcome in the situation is that of the performer
-pub outcome_in : {dpi : Dpi} (operation : Operation) (value : Value) {s : Situation} {old : Performer} → IsIn dpi s old
-    → outcome dpi operation value old.is_marked old.environment ≡ outcome dpi operation value (is_marked s) s.settings
-outcome_in operation value i = cc
 
 -- ---- pages that stay
 
@@ -131,13 +118,7 @@ with_settings settings s = record s { settings = settings }
 pub handed_sheet : {dpi : Dpi} {s : Situation} {copies : ℕ} {old middle : Performer} {page : Page} → IsIn dpi s old → middle.page ≡ old.page
     → copies ≡ old.environment.copies → IsHanded copies middle page → Shows dpi page (sheet_of s)
 handed_sheet {old} {page} i b c handed =
-    let same : page.bitmap ≡ old.page.bitmap = cc in
-    record {
-      size = cc (page.size_is, i.painted.size_is);
-      resolution = cc (page.dpi_is, i.painted.dpi_is);
-      copies = cc;
-      dots = λ x y wide high. rw same (i.painted.dots x y wide high);
-    }
+    let same : page.bitmap ≡ old.page.bitmap = cc in search (rules, same, page.size_is, page.dpi_is)
 
 -- ---- a turn and its sink
 
@@ -162,25 +143,16 @@ module _ {S : Type 0} (takes : S → Page → S → Type 0) (dpi : Dpi) (operati
       → IsFollowed middle new → later ≡ sink → IsTurned takes dpi comes_to s (Ok tt) new sink later
   turned_stays old middle new sink later i a e few b m j p q r t f same =
       let d = answered (outcome dpi operation value old.is_marked old.environment) old.environment a in
-      let o : comes_to ≡ Some d.0 = sym (outcome_in operation value i) ∙ d.1 in
+      let o : comes_to ≡ Some d.0 = let is = d.1 in cc in
       let no : ejects d.0.1 (is_marked s) ≡ false = cc in
       rw (o, no) (
-        record {
-          settings = cc;
-          raster = cc;
-          marked = cc;
-          ejected = cc;
-          performed = cc;
-          asks = cc;
-          fonts = rw (f.fonts, t) i.fonts;
-          painted = followed_page operation value d.0.1 i o no b d.3 f;
-        },
+        search (rules, f.fonts, t, followed_page operation value d.0.1 i o no b d.3 f),
         pages_fit (with_settings d.0.0 s) (omega (arith, i.ejected)),
         ([], sym (append-nil s.pages), same),
       )
 
   -- what is known where the page was ejected: the settings were set, the page was handed over, and a white one began
-  pub record Ejected (copies : ℕ) (old middle last : Performer) (sink later : S) : Type 0 where
+  pub record Ejected (copies : ℕ) (asked : Asked) (old middle last : Performer) (sink later : S) : Type 0 where
     pub is_in : IsIn dpi s old
     pub answered_as : Answers (outcome dpi operation value old.is_marked old.environment) (Ok effect) old.environment middle.environment
     pub yes : ejects effect old.is_marked ≡ true
@@ -192,20 +164,27 @@ module _ {S : Type 0} (takes : S → Page → S → Type 0) (dpi : Dpi) (operati
     pub fonts : middle.fonts ≡ old.fonts
     pub copies_are : copies ≡ old.environment.copies
     pub asks : middle.asks ≡ old.asks
-    pub asked : Asked
     pub asked_is : asked ≡ old.environment.asked
     pub is_ejected : IsEjected asked middle last
     pub taken : Takes takes copies middle sink later
 
-  ejected_done : {copies : ℕ} {old middle last : Performer} {sink later : S} → Ejected copies old middle last sink later
+  pub ejected_as : {copies : ℕ} {asked : Asked} {old middle last : Performer} {sink later : S} → IsIn dpi s old
+      → Answers (outcome dpi operation value old.is_marked old.environment) (Ok effect) old.environment middle.environment
+      → ejects effect old.is_marked ≡ true → old.ejected < 256 → copies ≡ old.environment.copies → asked ≡ old.environment.asked
+      → IsEjected asked middle last × Takes takes copies middle sink later → middle.page ≡ old.page → middle.ejected ≡ old.ejected
+      → middle.performed ≡ old.performed → middle.raster ≡ old.raster → middle.fonts ≡ old.fonts → middle.asks ≡ old.asks
+      → Ejected copies asked old middle last sink later
+  ejected_as i a does few copies is e page ejected performed raster fonts asks = search (rules, e)
+
+  ejected_done : {copies : ℕ} {asked : Asked} {old middle last : Performer} {sink later : S} → Ejected copies asked old middle last sink later
       → (done : Settings × Effect) × (comes_to ≡ Some done) × (middle.environment ≡ done.0) × (ejects done.1 (is_marked s) ≡ true)
   ejected_done {old} e =
       let d = answered (outcome dpi operation value old.is_marked old.environment) old.environment e.answered_as in
       let yes : ejects d.0.1 (is_marked s) ≡ true = cc in
-      (d.0, sym (outcome_in operation value e.is_in) ∙ d.1, d.3, yes)
+      (d.0, (let is = d.1 in cc), d.3, yes)
 
-  ejected_handed : {copies : ℕ} {old middle last : Performer} {sink later : S} (settings : Settings)
-      → Ejected copies old middle last sink later
+  ejected_handed : {copies : ℕ} {asked : Asked} {old middle last : Performer} {sink later : S} (settings : Settings)
+      → Ejected copies asked old middle last sink later
       → (page_refusal (turned_page settings s) ≡ None) × HandsMore takes dpi s (turned_page settings s) sink later
   ejected_handed {later} settings e =
       let count = length-append s.pages (sheet_of s ∷ []) in (
@@ -213,8 +192,8 @@ module _ {S : Type 0} (takes : S → Page → S → Type 0) (dpi : Dpi) (operati
         (sheet_of s ∷ [], refl, (e.taken.0, later, handed_sheet e.is_in e.page e.copies_are e.taken.1, e.taken.2, refl)),
       )
 
-  pub turned_ejects : (copies : ℕ) (old : Performer) {middle : Performer} (last new : Performer) (sink later : S)
-      → Ejected copies old middle last sink later → IsFollowed last new → IsTurned takes dpi comes_to s (Ok tt) new sink later
+  pub turned_ejects : (copies : ℕ) {asked : Asked} (old : Performer) {middle : Performer} (last new : Performer) (sink later : S)
+      → Ejected copies asked old middle last sink later → IsFollowed last new → IsTurned takes dpi comes_to s (Ok tt) new sink later
   turned_ejects copies old {middle} last new sink later e f =
       let i = e.is_in in
       let d = ejected_done e in
@@ -224,23 +203,16 @@ module _ {S : Type 0} (takes : S → Page → S → Type 0) (dpi : Dpi) (operati
       let resolution : new.page.bitmap.dpi ≡ dpi = cc (e.is_ejected.resolution, i.painted.dpi_is) in
       let count = length-append s.pages (sheet_of s ∷ []) in
       rw (d.1, d.3) (
-        record {
-          settings = cc;
-          raster = cc;
-          marked = cc;
-          ejected = omega (arith, f.ejected, e.is_ejected.ejected, e.ejected, i.ejected, count);
-          performed = cc;
-          asks = cc;
-          fonts = rw (f.fonts, e.is_ejected.fonts, e.fonts) i.fonts;
-          painted = white_painted size resolution (f.white e.is_ejected.white);
-        },
+        let ejected : new.ejected ≡ length (s.pages ++ sheet_of s ∷ []) =
+            omega (arith, f.ejected, e.is_ejected.ejected, e.ejected, i.ejected, count) in
+            search (rules, ejected, f.fonts, e.is_ejected.fonts, e.fonts, white_painted size resolution (f.white e.is_ejected.white)),
         h.0,
         h.1,
       )
 
   -- memory ran out after the page was handed over
-  pub turned_short : (copies : ℕ) (old : Performer) {middle : Performer} (last new : Performer) (sink later : S)
-      → Ejected copies old middle last sink later → IsTurned takes dpi comes_to s (Err Memory) new sink later
+  pub turned_short : (copies : ℕ) {asked : Asked} (old : Performer) {middle : Performer} (last new : Performer) (sink later : S)
+      → Ejected copies asked old middle last sink later → IsTurned takes dpi comes_to s (Err Memory) new sink later
   turned_short copies old last new sink later e =
       let d = ejected_done e in
       rw (d.1, d.3) (inr (ejected_handed d.0.0 e))
@@ -250,20 +222,12 @@ module _ {S : Type 0} (takes : S → Page → S → Type 0) (dpi : Dpi) (operati
 pub drawn_in : {dpi : Dpi} {mark : Mark} {raster : Option Raster} {s : Situation} {old new : Performer} → IsIn dpi s old
     → IsDrawn mark old new → new.raster ≡ raster
     → IsIn dpi (record s { raster = raster; marks = mark ∷ s.marks }) new
-drawn_in {dpi} {mark} {raster} {s} {old} i d r =
+drawn_in {dpi} {mark} {raster} {s} {old} {new} i d r =
     let p = i.painted in
-    record {
-      settings = cc;
-      raster = r;
-      marked = d.marked;
-      ejected = cc;
-      performed = cc;
-      asks = cc;
-      fonts = rw d.fonts i.fonts;
-      painted = record {
-        size_is = cc;
-        dpi_is = cc;
-        dots = λ x y wide high.
-            d.dots x y (rw (p.size_is, p.dpi_is) wide) (rw (p.size_is, p.dpi_is) high) ∙ rw (p.dots x y wide high) refl;
-      };
-    }
+    let painted : IsPainted dpi s.settings.size (mark ∷ s.marks) new.page.bitmap = record {
+      size_is = cc;
+      dpi_is = cc;
+      dots = λ x y wide high.
+          d.dots x y (rw (p.size_is, p.dpi_is) wide) (rw (p.size_is, p.dpi_is) high) ∙ rw (p.dots x y wide high) refl;
+    } in
+    search (rules, d.fonts, painted)

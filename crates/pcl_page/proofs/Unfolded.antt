@@ -12,7 +12,6 @@ use Rattle.pcl_base.specs.Limits.{macro_limit}
 use Rattle.pcl_base.specs.Operation.{operation_of}
 use Rattle.pcl_env.specs.Settings.{Settings}
 use Rattle.pcl_escape.specs.Said.{Said}
-use Rattle.pcl_macros.specs.History.{defined}
 use Rattle.pcl_macros.specs.Table.{Begun}
 use Rattle.pcl_page.specs.declared.interpreter.Running.{Running}
 use Rattle.pcl_page.specs.declared.macros.Action.{Action}
@@ -67,9 +66,7 @@ pushed_deep : (k : ℕ) (dpi : Dpi) (all : List Said) (older : List Running) (ne
     ≡ then_on (rest_of k dpi all (run_in newest) s) (resumed (deep older k) dpi all older)
 pushed_deep k dpi all [] newest s = sym (then_done)
 pushed_deep k dpi all (running ∷ older) newest s =
-    rw (pushed_deep k dpi all older newest s) refl
-    ∙ then_assoc (rest_of k dpi all (run_in newest) s) (resumed (deep older k) dpi all older)
-    (rest_of (deep older k) dpi all (run_in running))
+    rw (pushed_deep k dpi all older newest s) (then_assoc (rest_of k dpi all (run_in newest) s) _ _)
 
 -- the newest macro goes first
 pub pushed : (dpi : Dpi) (all : List Said) (older : List Running) (newest : Running) (s : Situation) → length older < 3
@@ -90,23 +87,19 @@ module _ (dpi : Dpi) (all : List Said) (place : ℕ) (command : Said) (running :
   pub begun_refused : {kind : Kind} → after_command dpi place command s ≡ Err kind → among ≡ stopped kind command s
   begun_refused e = rw e refl
 
-  begun_run : {later : Situation} {run : Option Run} → after_command dpi place command s ≡ Ok later → run_of command s later ≡ run
-      → among ≡ then_on (and_run (runs (macro_limit - length running) dpi all command) run later) (resumed macro_limit dpi all running)
-  begun_run e r = rw (e, r) refl
-
   -- one that would run a macro too deep
   pub begun_deep : {later : Situation} {run : Run} → after_command dpi place command s ≡ Ok later → run_of command s later ≡ Some run
       → length running ≡ 3 → among ≡ stopped MacroDepth command later
-  begun_deep e r full = let levels : macro_limit - length running ≡ 0 = omega (arith, full) in begun_run e r ∙ rw levels refl
+  begun_deep e r full = let levels : macro_limit - length running ≡ 0 = omega (arith, full) in rw (e, r, levels) refl
 
   -- one that runs a macro, or none
   pub begun_entered : {later : Situation} (run : Option Run) → after_command dpi place command s ≡ Ok later → run_of command s later ≡ run
       → HasLevel run running → resumed macro_limit dpi all (running ++ entered run) later ≡ among
-  begun_entered None e r few = rw append-nil refl ∙ sym (begun_run e r)
+  begun_entered None e r few = rw (append-nil, e, r) refl
   begun_entered {later} (Some run) e r few =
       let levels : macro_limit - length running ≡ suc (2 - length running) = omega arith in
       pushed dpi all running (record { next = run.next; end = run.end; saved = run.saved }) later few
-      ∙ sym (begun_run e r ∙ rw levels refl)
+      ∙ sym (rw (e, r, levels) refl)
 
 -- ---- what a command adds
 
@@ -121,14 +114,12 @@ pub record ActsOnMacros (s later : Situation) : Type 0 where
   pub pages : later.pages ≡ s.pages
   pub performed : later.performed ≡ s.performed
 
-ended_acts : (place : ℕ) (begun : Option Begun) {s later : Situation} → definition_ended place begun s ≡ Ok later → ActsOnMacros s later
-ended_acts place None e = absurd cc
-ended_acts place (Some d) {s} {later} e =
-    let same : record s { macros = defined d.id d.from place ∷ s.macros; begun = None } ≡ later = cc in
-    rw (← same) (record { pages = refl; performed = refl })
-
 same_acts : {s now later : Situation} → ActsOnMacros s now → ◌≡◌ {A = Result Situation Kind} (Ok now) (Ok later) → ActsOnMacros s later
 same_acts {s} {now} {later} a e = let same : now ≡ later = cc in rw same at a
+
+ended_acts : (place : ℕ) (begun : Option Begun) {s later : Situation} → definition_ended place begun s ≡ Ok later → ActsOnMacros s later
+ended_acts place None e = absurd cc
+ended_acts place (Some d) e = same_acts (record { pages = refl; performed = refl }) e
 
 acted_acts : (place : ℕ) (action : Option Action) {s later : Situation} → acted place action s ≡ Ok later → ActsOnMacros s later
 acted_acts place None e = absurd cc
@@ -168,14 +159,6 @@ pub command_counts : (dpi : Dpi) (place : ℕ) (command : Said) (s later : Situa
     → KeptOrCounts s later
 command_counts dpi place command s later e = command_by dpi place command (is_some s.begun) refl e
 
-command_onward : (dpi : Dpi) (place : ℕ) (command : Said) (s later : Situation) → after_command dpi place command s ≡ Ok later
-    → Onward s later
-command_onward dpi place command s later e =
-    elim (command_counts dpi place command s later e) [
-      | inl same ↦ rw same.0 (stays_there s)
-      | inr counts ↦ counts.onward
-    ]
-
 -- ---- performances only add pages
 
 abbrev pub Grows : (Situation → Performance) → Type 0
@@ -192,7 +175,10 @@ then_grows p s f o g = unless_grows p.refusal s p.situation f o g
 
 concluded_grows : (dpi : Dpi) (place : ℕ) (command : Said) (s : Situation) (o : Result Situation Kind)
     → after_command dpi place command s ≡ o → Onward s (concluded command s o).situation
-concluded_grows dpi place command s (Ok later) e = command_onward dpi place command s later e
+concluded_grows dpi place command s (Ok later) e = elim (command_counts dpi place command s later e) [
+  | inl same ↦ rw same.0 (stays_there s)
+  | inr counts ↦ counts.onward
+]
 concluded_grows dpi place command s (Err kind) e = stays_there s
 
 run_grows : (f : Run → Situation → Performance) (run : Option Run) → ((r : Run) → Grows (f r)) → Grows (and_run f run)
@@ -202,16 +188,13 @@ run_grows f (Some run) g = g run
 step_grows : (dpi : Dpi) (f : Said → Run → Situation → Performance) (place : ℕ) {command : Said}
     → ((r : Run) → Grows (f command r)) → Grows (step dpi f place command)
 step_grows dpi f place {command} g = λ s.
-    then_grows (concluded command s (after_command dpi place command s)) s (λ later. and_run (f command) (run_of command s later) later)
-    (concluded_grows dpi place command s (after_command dpi place command s) refl)
-    (λ later. run_grows (f command) (run_of command s later) g later)
+    then_grows _ s _ (concluded_grows dpi place command s _ refl) (λ later. run_grows (f command) (run_of command s later) g later)
 
 order_grows : (dpi : Dpi) (f : Said → Run → Situation → Performance) (place : ℕ) (commands : List Said)
     → ((command : Said) (r : Run) → Grows (f command r)) → Grows (in_order (step dpi f) place commands)
 order_grows dpi f place [] g = stays_there
 order_grows dpi f place (command ∷ commands) g = λ s.
-    then_grows (step dpi f place command s) s (in_order (step dpi f) (place + 1) commands) (step_grows dpi f place (g command) s)
-    (order_grows dpi f (place + 1) commands g)
+    then_grows _ s _ (step_grows dpi f place (g command) s) (order_grows dpi f (place + 1) commands g)
 
 left_grows : (dpi : Dpi) (saved : Option Settings) → Grows (λ later. done (macro_ended dpi saved later))
 left_grows dpi None = stays_there
@@ -221,9 +204,7 @@ left_grows dpi (Some settings) = stays_there
 rest_grows : (levels : ℕ) (dpi : Dpi) (all : List Said) (run : Run) → ((command : Said) (r : Run) → Grows (runs levels dpi all command r))
     → Grows (rest_of levels dpi all run)
 rest_grows levels dpi all run g = λ s.
-    then_grows (in_order (step dpi (runs levels dpi all)) run.next (commands_left all run) s) s
-    (λ later. done (macro_ended dpi run.saved later))
-    (order_grows dpi (runs levels dpi all) run.next (commands_left all run) g s) (left_grows dpi run.saved)
+    then_grows _ s _ (order_grows dpi (runs levels dpi all) run.next (commands_left all run) g s) (left_grows dpi run.saved)
 
 runs_grow : (levels : ℕ) (dpi : Dpi) (all : List Said) (command : Said) (run : Run) → Grows (runs levels dpi all command run)
 runs_grow zero dpi all command run = stays_there
@@ -237,22 +218,18 @@ pub resumed_grow : (levels : ℕ) (dpi : Dpi) (all : List Said) (running : List 
 resumed_grow levels dpi all [] = stays_there
 resumed_grow zero dpi all (running ∷ newer) = stays_there
 resumed_grow (suc levels) dpi all (running ∷ newer) = λ s.
-    then_grows (resumed levels dpi all newer s) s (rest_of levels dpi all (run_in running)) (resumed_grow levels dpi all newer s)
-    (rest_grows levels dpi all (run_in running) (runs_grow levels dpi all))
+    then_grows _ s _ (resumed_grow levels dpi all newer s) (rest_grows levels dpi all (run_in running) (runs_grow levels dpi all))
 
 pub begun_grow : (dpi : Dpi) (all : List Said) (place : ℕ) (command : Said) (running : List Running)
     → Grows (begun_among dpi all place command running)
 begun_grow dpi all place command running = λ s.
-    then_grows (step dpi (runs (macro_limit - length running) dpi all) place command s) s (resumed macro_limit dpi all running)
-    (step_grows dpi (runs (macro_limit - length running) dpi all) place
-    (runs_grow (macro_limit - length running) dpi all command) s) (resumed_grow macro_limit dpi all running)
+    let f = runs (macro_limit - length running) dpi all in
+    then_grows (step dpi f place command s) s _ (step_grows dpi f place (runs_grow (macro_limit - length running) dpi all command) s)
+    (resumed_grow macro_limit dpi all running)
 
 -- after a command that isn't refused
 pub begun_after : (dpi : Dpi) (all : List Said) (place : ℕ) (command : Said) (running : List Running) (s : Situation) {later : Situation}
     → after_command dpi place command s ≡ Ok later → Onward later (begun_among dpi all place command running s).situation
 begun_after dpi all place command running s {later} e =
-    let f = runs (macro_limit - length running) dpi all in
-    rw e
-    (then_grows (and_run (f command) (run_of command s later) later) later (resumed macro_limit dpi all running)
-    (run_grows (f command) (run_of command s later) (runs_grow (macro_limit - length running) dpi all command) later)
+    rw e (then_grows _ later _ (run_grows _ (run_of command s later) (runs_grow (macro_limit - length running) dpi all command) later)
     (resumed_grow macro_limit dpi all running))

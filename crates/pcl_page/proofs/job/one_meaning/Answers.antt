@@ -36,6 +36,6 @@ returns-clause-apart c = λ dpi job pages refusal p r.
     elim r [
       | inl f ↦ c.one_outcome.ensures.apart job p.commands refusal p.reading f
       | inr s ↦
-          let same = c.one_outcome.ensures.reading job p.commands s.commands p.reading s.reading in
-          let n = rw same at p.accepted in let t = s.refused in absurd cc
+          let n = rw (c.one_outcome.ensures.reading job p.commands s.commands p.reading s.reading) at p.accepted in
+          let t = s.refused in absurd cc
     ]

@@ -10,10 +10,8 @@ use Rattle.pcl_page.proofs.interpreter.Interpreter.go_on.Goals.{in_default-via-i
 pub returns-in-Some-clause-done : goal.returns-in-Some-clause-done
 returns-in-Some-clause-done g c = λ s at.
     let all = g.L.CommandList.commands c.args.commands.now in
-    command_goes g.S.PageSink.takes c.args.dpi all c.args.self.now.running.items c.push.new.self.items c.args.newest
-    (view c.in-Some.command) s c.perform_at.result c.perform_at.new.self c.args.sink.now c.perform_at.new.sink c.requires.level
-    (sym c.in-Some.ensures.command) c.if-place-newest.true c.push.ensures.items
-    (c.perform_at.ensures.done all s (at_running refl refl at))
+    command_goes _ _ all _ _ c.args.newest _ s _ _ _ _ c.requires.level (sym c.in-Some.ensures.command) c.if-place-newest.true
+    c.push.ensures.items (c.perform_at.ensures.done all s (at_running refl refl at))
 
 pub returns-in_default-clause-done : goal.returns-in_default-clause-done
 returns-in_default-clause-done g c = λ s at.
@@ -23,14 +21,11 @@ returns-in_default-clause-done g c = λ s at.
       | in_default-via-in-Some+else-place-newest w ↦ inr (omega (arith, w.if-place-newest.false))
       | in_default-via-in_default w ↦ inl (sym w.in_default.ensures.command)
     ] in
-    end_goes g.S.PageSink.takes c.args.dpi all c.args.self.now c.leave.new.self c.args.newest s c.args.sink.now
-    c.requires.level ended (c.leave.ensures.situation s at) c.leave.ensures.rest.0
+    end_goes _ _ all c.args.self.now _ c.args.newest s _ c.requires.level ended (c.leave.ensures.situation s at) c.leave.ensures.rest.0
 
 pub returns-in_default-clause-less : goal.returns-in_default-clause-less
 returns-in_default-clause-less g c =
-    rw (c.leave.ensures.rest.0, c.leave.ensures.rest.1)
-    (ended_less (length (g.L.CommandList.commands c.args.commands.now)) c.args.self.now.performer.performed c.args.self.now.running.items
-    c.args.newest)
+    rw (c.leave.ensures.rest.0, c.leave.ensures.rest.1) (ended_less _ c.args.self.now.performer.performed _ c.args.newest)
 
 pub returns-in-Some-clause-less : goal.returns-in-Some-clause-less
 returns-in-Some-clause-less g c =

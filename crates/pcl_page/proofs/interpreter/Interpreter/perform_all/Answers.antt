@@ -1,44 +1,29 @@
-use Rattle.std.proofs.Common.{◌≡◌, ◌∷◌, ◌+◌, suc, [], List, ℕ, Some, drop, refl, sym, arith}
+use Rattle.std.proofs.Common.{◌≡◌, ◌∷◌, ◌+◌, suc, [], List, ℕ, Some, drop, refl, sym, arith, add-one}
 use Rattle.std.specs.Prelude.{slice_get}
 use Rattle.std.proofs.lemmas.Option.{slice_get_within}
 use Rattle.std.proofs.lemmas.Result.{err_from_is_err_and}
 use Rattle.pcl_escape.specs.Said.{Said}
-use Rattle.pcl_page.specs.Performing.{performance}
 use Rattle.pcl_page.proofs.Jobs.{command_stopped, has_begun, macros_stopped, macros_reached, end_reached}
 use Rattle.pcl_page.proofs.Progress.{got_there, past_end}
 use Rattle.pcl_page.proofs.interpreter.Interpreter.perform_all.Goals as goal
 
 -- the next command and those after it
 next_is : (all : List Said) (i : ℕ) {command : Said} → Some command ≡ slice_get all i → drop i all ≡ command ∷ drop (i + 1) all
-next_is all i got =
-    let plus : suc i ≡ i + 1 = omega arith in rw plus at (got_there all i (sym got))
+next_is all i got = rw add-one (got_there all i (sym got))
 
 pub loop-command-preserved : goal.loop-command-preserved
 loop-command-preserved g c =
     let all = g.L.CommandList.commands c.args.commands.now in
-    let whole = performance c.args.dpi c.args.end all in
-    let next = next_is all c.loop-command.place c.in-Some.ensures.command in
-    let r = rw next at c.loop-command.invariant in
-    let b = has_begun g.S.PageSink.takes c.args.dpi c.args.end all whole c.loop-command.place _ _ c.loop-command.self
-    c.perform_at.new.self c.args.sink.now c.loop-command.sink c.perform_at.new.sink r
-    (c.in_ok-perform_at.ensures.done all r.situation r.is_at) in
-    macros_reached g.S.PageSink.takes c.args.dpi c.args.end all whole c.loop-command.place _ _ c.perform_at.new.self c.run_macros.new.self
-    c.args.sink.now c.loop-command.sink c.perform_at.new.sink c.run_macros.new.sink b (λ s at. c.in_ok-run_macros.ensures.done s at)
-    c.in_ok-run_macros.ensures.idle
+    let r = rw (next_is all c.loop-command.place c.in-Some.ensures.command) at c.loop-command.invariant in
+    let b = has_begun _ _ _ all _ _ _ _ _ _ _ _ _ r (c.in_ok-perform_at.ensures.done all r.situation r.is_at) in
+    macros_reached _ _ _ all _ _ _ _ _ _ _ _ _ _ b (λ s at. c.in_ok-run_macros.ensures.done s at) c.in_ok-run_macros.ensures.idle
 
 pub returns-in_err-perform_at : goal.returns-in_err-perform_at
 returns-in_err-perform_at g c =
     let all = g.L.CommandList.commands c.args.commands.now in
-    let whole = performance c.args.dpi c.args.end all in
-    let next = next_is all c.loop-command.place c.in-Some.ensures.command in
-    let r = rw next at c.loop-command.invariant in
+    let r = rw (next_is all c.loop-command.place c.in-Some.ensures.command) at c.loop-command.invariant in
     let p = err_from_is_err_and c.from_residual.result c.from_residual.ensures.1 in
-    rw (p.1, p.2) (
-      command_stopped g.S.PageSink.takes c.args.dpi c.args.end all whole c.loop-command.place _ _ c.loop-command.self
-          c.perform_at.new.self c.args.sink.now c.loop-command.sink c.perform_at.new.sink _ r
-          (c.in_err-perform_at.ensures.done all r.situation r.is_at),
-      tt,
-    )
+    rw (p.1, p.2) (command_stopped _ _ _ all _ _ _ _ _ _ _ _ _ _ r (c.in_err-perform_at.ensures.done all r.situation r.is_at), tt)
 
 pub run_macros-requires : goal.run_macros-requires
 run_macros-requires g c =
@@ -48,31 +33,17 @@ run_macros-requires g c =
 pub returns-in_err-run_macros : goal.returns-in_err-run_macros
 returns-in_err-run_macros g c =
     let all = g.L.CommandList.commands c.args.commands.now in
-    let whole = performance c.args.dpi c.args.end all in
-    let next = next_is all c.loop-command.place c.in-Some.ensures.command in
-    let r = rw next at c.loop-command.invariant in
-    let b = has_begun g.S.PageSink.takes c.args.dpi c.args.end all whole c.loop-command.place _ _ c.loop-command.self
-    c.perform_at.new.self c.args.sink.now c.loop-command.sink c.perform_at.new.sink r
-    (c.in_ok-perform_at.ensures.done all r.situation r.is_at) in
+    let r = rw (next_is all c.loop-command.place c.in-Some.ensures.command) at c.loop-command.invariant in
+    let b = has_begun _ _ _ all _ _ _ _ _ _ _ _ _ r (c.in_ok-perform_at.ensures.done all r.situation r.is_at) in
     let p = err_from_is_err_and c.from_residual-in_err-run_macros.result c.from_residual-in_err-run_macros.ensures.1 in
-    rw (p.1, p.2) (
-      macros_stopped g.S.PageSink.takes c.args.dpi c.args.end all whole c.loop-command.place _ _ c.perform_at.new.self c.run_macros.new.self
-          c.args.sink.now c.loop-command.sink c.perform_at.new.sink c.run_macros.new.sink _ b
-          (λ s at. c.in_err-run_macros.ensures.done s at),
-      tt,
-    )
+    rw (p.1, p.2) (macros_stopped _ _ _ all _ _ _ _ _ _ _ _ _ _ _ b (λ s at. c.in_err-run_macros.ensures.done s at), tt)
 
 pub returns : goal.returns
 returns g c =
     let all = g.L.CommandList.commands c.args.commands.now in
-    let whole = performance c.args.dpi c.args.end all in
-    let done : drop c.loop-command.place all ≡ [] = past_end all c.loop-command.place (sym c.in_default.ensures.command) in
-    end_reached g.S.PageSink.takes c.args.dpi c.args.end all whole c.loop-command.place c.loop-command.self c.finish.new.self.performer
-    c.args.sink.now c.loop-command.sink c.finish.new.sink c.finish.result
-    (rw done at c.loop-command.invariant)
-    (λ dpi s at. c.finish.ensures dpi s at)
+    let done = past_end all c.loop-command.place (sym c.in_default.ensures.command) in
+    end_reached _ _ _ all _ c.loop-command.place _ _ _ _ _ _ (rw done at c.loop-command.invariant) (λ dpi s at. c.finish.ensures dpi s at)
 
 pub loop-command-smaller : goal.loop-command-smaller
 loop-command-smaller g c =
-    let within = slice_get_within (g.L.CommandList.commands c.args.commands.now) c.loop-command.place _ (sym c.in-Some.ensures.command) in
-    omega (arith, within)
+    omega (arith, slice_get_within (g.L.CommandList.commands c.args.commands.now) c.loop-command.place _ (sym c.in-Some.ensures.command))

@@ -1,6 +1,5 @@
 use Rattle.std.proofs.Common.{◌≡◌, ◌∙◌, true, sym}
 use Rattle.pcl_base.specs.Operation.{operation_of}
-use Rattle.pcl_escape.specs.Said.{view}
 use Rattle.pcl_macros.specs.Table.{is_begun}
 use Rattle.pcl_page.specs.declared.macros.Keeping.TheVariants.{Ends}
 use Rattle.pcl_page.specs.Macros.{keeping_of}
@@ -10,12 +9,10 @@ use Rattle.pcl_page.proofs.interpreter.Interpreter.try_command.Goals as goal
 pub returns-in-Kept : goal.returns-in-Kept
 returns-in-Kept g c = λ s at.
     let begun : is_begun c.args.self.now.macros ≡ true = sym c.is_begun.ensures ∙ c.if-not-is_begun.false in
-    stepped_kept g.S.PageSink.takes c.args.dpi c.args.place (view c.args.command.now) s c.args.self.now c.args.sink.now at begun
-    (sym c.keeping_of.ensures ∙ c.in-Kept.is)
+    stepped_kept _ _ _ _ s _ _ at begun (sym c.keeping_of.ensures ∙ c.in-Kept.is)
 
 pub returns-in-Ends : goal.returns-in-Ends
 returns-in-Ends g c = λ s at.
     let begun : is_begun c.args.self.now.macros ≡ true = cc in
     let ends : keeping_of (operation_of c.args.command.now.name) c.args.command.now.value ≡ Ends = cc in
-    stepped_ending g.S.PageSink.takes c.args.dpi c.args.place (view c.args.command.now) s c.try_counted-in-Ends.result c.args.self.now
-    c.try_counted-in-Ends.new.self c.args.sink.now c.try_counted-in-Ends.new.sink at begun ends (c.try_counted-in-Ends.ensures s at)
+    stepped_ending _ _ _ _ s _ _ _ _ _ at begun ends (c.try_counted-in-Ends.ensures s at)

@@ -9,10 +9,8 @@ returns-then-self-ge-PAGE_LIMIT g c = λ dpi s i.
 
 pub returns-in_ok-eject : goal.returns-in_ok-eject
 returns-in_ok-eject g c = λ dpi s i.
-    end_marked g.S.PageSink.takes dpi s c.copies-copies.result c.asked-asked.result c.args.self.now c.eject.new.self c.args.sink.now
-    c.eject.new.sink i c.if-self.true (omega (arith, c.if-self-ge-PAGE_LIMIT.false)) c.copies-copies.ensures.value
+    end_marked _ dpi s _ _ _ _ _ _ i c.if-self.true (omega (arith, c.if-self-ge-PAGE_LIMIT.false)) c.copies-copies.ensures.value
     c.asked-asked.ensures c.in_ok-eject.ensures.ok.0 c.in_ok-eject.ensures.ok.1
 
 pub returns-else-self : goal.returns-else-self
-returns-else-self g c = λ dpi s i. end_unmarked g.S.PageSink.takes dpi s c.args.self.now c.args.sink.now c.args.sink.now i c.if-self.false
-    c.args.self.now.few_pages refl
+returns-else-self g c = λ dpi s i. end_unmarked _ dpi s _ _ _ i c.if-self.false c.args.self.now.few_pages refl

@@ -1,4 +1,4 @@
-use Rattle.std.proofs.Common.{◌≡◌, ◌/◌, refl}
+use Rattle.std.proofs.Common.{◌≡◌, ◌/◌, ℕ, rules}
 use Rattle.pcl_page.specs.Marks.{dot_at, dots_of}
 use Rattle.pcl_page.proofs.performer.Performer.ink_rectangle.Goals as goal
 
@@ -12,14 +12,5 @@ returns-clause-drawn c =
     cc (c.div_ceil-width.ensures, c.rectangle_width.ensures.value, c.from-unit.ensures, c.unit.ensures) in
     let height : c.div_ceil-height.result ≡ dots_of dpi s.rectangle_height =
     cc (c.div_ceil-height.ensures, c.rectangle_height.ensures.value, c.from-unit.ensures, c.unit.ensures) in
-    record {
-      settings = refl;
-      marked = refl;
-      ejected = refl;
-      performed = refl;
-      asks = refl;
-      fonts = refl;
-      size = c.fill.ensures.size;
-      resolution = c.fill.ensures.dpi;
-      dots = λ x y wide high. rw (left, top, width, height) at (c.fill.ensures.dots x y wide high);
-    }
+    let dots = λ (x y : ℕ). rw (left, top, width, height) at (c.fill.ensures.dots x y) in
+    search (rules, c.fill.ensures, dots)

@@ -1,4 +1,4 @@
-use Rattle.std.proofs.Common.{◌≡◌, ◌∙◌, ◌+◌, ◌*◌, ℕ, true, Some, refl, sym, ap}
+use Rattle.std.proofs.Common.{◌≡◌, ◌∙◌, ◌+◌, ◌*◌, ℕ, true, Some, refl, sym, ap, rules}
 use Rattle.pcl_base.specs.declared.dpi.Dpi.{Dpi}
 use Rattle.pcl_base.specs.Dpi.{units_per_dot}
 use Rattle.pcl_env.specs.Settings.{Settings, put}
@@ -30,13 +30,4 @@ returns c =
       | in-Some w ↦ rw w.self-is (refl, refl, refl, refl, refl, refl)
       | in_default w ↦ rw w.self-is (refl, refl, refl, refl, refl, refl)
     ] in
-    record {
-      settings = rw ends settings;
-      raster = rw ends refl;
-      fonts = kept.0;
-      bitmap = ap (λ (p : Page). p.bitmap) kept.1;
-      marked = kept.2;
-      ejected = kept.3;
-      performed = kept.4;
-      asks = kept.5;
-    }
+    search (rules, ends, settings, kept, ap (λ (p : Page). p.bitmap) kept.1)

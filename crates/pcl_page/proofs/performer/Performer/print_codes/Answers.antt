@@ -11,7 +11,7 @@ use Rattle.pcl_page.proofs.performer.Performer.print_codes.Goals.{in-Some, in-No
 
 -- the next code and those after it
 next_is : (codes : List ℕ) {i : ℕ} (default : ℕ) → i < length codes → drop i codes ≡ get_or codes i default ∷ drop (i + 1) codes
-next_is codes {i} default lt = rw (add-one, drop-cons codes i default lt) refl
+next_is codes {i} default lt = rw (add-one, drop-cons codes i default) refl
 
 pub loop-code-preserved : goal.loop-code-preserved
 loop-code-preserved c = λ s i.

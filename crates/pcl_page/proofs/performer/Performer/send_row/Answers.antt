@@ -1,6 +1,5 @@
-use Rattle.std.proofs.Common.{◌≡◌, ◌∙◌, Option, refl, sym, ap}
-use Rattle.pcl_bitmap.specs.Bitmap.{dot}
-use Rattle.pcl_page.specs.Raster.{Raster, row_sent, row_mark}
+use Rattle.std.proofs.Common.{◌≡◌, ◌∙◌, Option, refl, sym, ap, ℕ, rules}
+use Rattle.pcl_page.specs.Raster.{Raster}
 use Rattle.pcl_page.specs.Situation.{raster_for_row}
 use Rattle.pcl_page.proofs.Painted.{or_is}
 use Rattle.pcl_page.proofs.performer.Performer.send_row.Goals as goal
@@ -19,21 +18,10 @@ returns c =
           ∙ sym (ap (λ (r : Option Raster). raster_for_row c.args.dpi r old.environment) (sym c.take.ensures.value ∙ w.in-None.is))
     ] in
     let method = c.method.ensures in
+    let dots = λ (x y : ℕ). rw (method, or_is) at (c.send.ensures.dots x y) in
     record {
       raster = raster;
       raster_is = is;
-      sent = rw c.send.ensures.raster (rw method refl);
-      drawn = record {
-        settings = refl;
-        marked = refl;
-        ejected = refl;
-        performed = refl;
-        asks = refl;
-        fonts = refl;
-        size = c.send.ensures.size;
-        resolution = c.send.ensures.dpi;
-        dots = λ x y wide high.
-            (rw method at (c.send.ensures.dots x y wide high))
-            ∙ or_is ((row_mark (row_sent old.environment.method c.args.bytes.now raster) raster).covers x y) (dot old.page.bitmap x y);
-      };
+      sent = rw (c.send.ensures.raster, method) refl;
+      drawn = search (rules, c.send.ensures, dots);
     }

@@ -1,7 +1,7 @@
 use Rattle.std.proofs.Common.{◌∙◌, refl, sym, arith}
 use Rattle.std.proofs.lemmas.Result.{err_from_is_err_and}
 use Rattle.pcl_page.specs.inner.Reflecting.{IsFollowed}
-use Rattle.pcl_page.proofs.Turns.{turned_stays, turned_ejects, turned_short, turned_memory}
+use Rattle.pcl_page.proofs.Turns.{turned_stays, turned_ejects, turned_short, turned_memory, ejected_as}
 use Rattle.pcl_page.proofs.performer.Performer.turn.Goals as goal
 use Rattle.pcl_page.proofs.performer.Performer.turn.Goals.{then-ejects+else-self-ge-PAGE_LIMIT+in_ok-eject, else-ejects}
 
@@ -11,25 +11,9 @@ returns-in_err-follow_size-clause-turned g c = λ s i.
     rw (p.1, p.2) (elim c.if-ejects.branch [
       | then-ejects+else-self-ge-PAGE_LIMIT+in_ok-eject w ↦
           rw w.sink-is
-          (turned_short g.S.PageSink.takes c.args.dpi c.args.operation c.args.value c.in-Ok.effect s c.copies-copies.result
-          c.args.self.now w.eject.new.self _ c.args.sink.now w.eject.new.sink
-          (record {
-            is_in = i;
-            answered_as = c.in-Ok.ensures;
-            yes = sym c.ejects.ensures ∙ w.if-ejects.true;
-            few = omega (arith, w.if-self-ge-PAGE_LIMIT.false);
-            page = refl;
-            ejected = refl;
-            performed = refl;
-            asks = refl;
-            asked = c.asked-asked.result;
-            asked_is = c.asked-asked.ensures;
-            raster = refl;
-            fonts = refl;
-            copies_are = c.copies-copies.ensures.value;
-            is_ejected = w.in_ok-eject.ensures.ok.0;
-            taken = w.in_ok-eject.ensures.ok.1;
-          }))
+          (turned_short _ _ _ _ _ s _ c.args.self.now w.eject.new.self _ _ _ (ejected_as _ _ _ _ _ _ i c.in-Ok.ensures
+          (sym c.ejects.ensures ∙ w.if-ejects.true) (omega (arith, w.if-self-ge-PAGE_LIMIT.false)) c.copies-copies.ensures.value
+          c.asked-asked.ensures w.in_ok-eject.ensures.ok refl refl refl refl refl refl))
       | else-ejects w ↦ turned_memory g.S.PageSink.takes c.args.dpi _ s _ w.sink-is
     ])
 
@@ -40,30 +24,12 @@ returns-clause-turned g c = λ s i.
           let f : IsFollowed w.eject.new.self c.follow_size.new.self =
           rw w.self-is at c.in_ok-follow_size.ensures in
           rw w.sink-is
-          (turned_ejects g.S.PageSink.takes c.args.dpi c.args.operation c.args.value c.in-Ok.effect s c.copies-copies.result
-          c.args.self.now w.eject.new.self c.follow_size.new.self c.args.sink.now w.eject.new.sink
-          (record {
-            is_in = i;
-            answered_as = c.in-Ok.ensures;
-            yes = sym c.ejects.ensures ∙ w.if-ejects.true;
-            few = omega (arith, w.if-self-ge-PAGE_LIMIT.false);
-            page = refl;
-            ejected = refl;
-            performed = refl;
-            asks = refl;
-            asked = c.asked-asked.result;
-            asked_is = c.asked-asked.ensures;
-            raster = refl;
-            fonts = refl;
-            copies_are = c.copies-copies.ensures.value;
-            is_ejected = w.in_ok-eject.ensures.ok.0;
-            taken = w.in_ok-eject.ensures.ok.1;
-          })
-          f)
+          (turned_ejects _ _ _ _ _ s _ c.args.self.now w.eject.new.self c.follow_size.new.self _ _ (ejected_as _ _ _ _ _ _ i c.in-Ok.ensures
+          (sym c.ejects.ensures ∙ w.if-ejects.true) (omega (arith, w.if-self-ge-PAGE_LIMIT.false)) c.copies-copies.ensures.value
+          c.asked-asked.ensures w.in_ok-eject.ensures.ok refl refl refl refl refl refl) f)
       | else-ejects w ↦
-          turned_stays g.S.PageSink.takes c.args.dpi c.args.operation c.args.value c.in-Ok.effect s c.args.self.now c.if-ejects.self
-          c.follow_size.new.self c.args.sink.now c.if-ejects.sink
-          i (rw w.self-is c.in-Ok.ensures) (sym c.ejects.ensures ∙ w.if-ejects.false) c.args.self.now.few_pages
+          turned_stays _ _ _ _ c.in-Ok.effect s c.args.self.now c.if-ejects.self c.follow_size.new.self _ _ i
+          (rw w.self-is c.in-Ok.ensures) (sym c.ejects.ensures ∙ w.if-ejects.false) c.args.self.now.few_pages
           (rw w.self-is refl) (rw w.self-is refl) (rw w.self-is refl) (rw w.self-is refl) (rw w.self-is refl) (rw w.self-is refl)
           (rw w.self-is refl) c.in_ok-follow_size.ensures w.sink-is
     ]
