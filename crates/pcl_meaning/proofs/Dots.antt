@@ -62,14 +62,7 @@ row_inks k {width} bytes {x} y within =
     let at : (x - 0) / 1 ≡ x = omega arith in
     let wide : nat_lt x width ≡ true = grind (arith, nat_tests) in
     let left : nat_le 0 x ≡ true = grind (arith, nat_tests) in
-    rw (left, at, wide)
-    (elim (cases_lt y k) [
-      | inl above ↦ grind (arith, nat_tests)
-      | inr from ↦ elim (cases_lt k y) [
-        | inl below ↦ grind (arith, nat_tests)
-        | inr same ↦ grind (arith, nat_tests)
-      ]
-    ])
+    rw (left, at, wide) (grind (arith, nat_tests))
 
 -- ---- the rows of a page
 

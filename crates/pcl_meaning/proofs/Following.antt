@@ -6,7 +6,7 @@ use Rattle.pcl_base.specs.declared.kind.Kind.{Kind}
 use Rattle.pcl_base.specs.declared.kind.Kind.TheVariants.{UnsupportedCommand}
 use Rattle.pcl_base.specs.declared.name.Name.TheVariants.{Empty}
 use Rattle.pcl_base.specs.declared.operation.Operation.{Operation}
-use Rattle.pcl_base.specs.declared.operation.Operation.TheVariants.{Reset, UniversalExit, ControlMacros, FillRectangle, ControlFonts, DownloadFont, DownloadCharacter, SelectFont, PrintText, StartRaster, RasterOffset, RasterRow}
+use Rattle.pcl_base.specs.declared.operation.Operation.TheVariants.{Reset, ControlMacros, ControlFonts}
 use Rattle.pcl_base.specs.declared.value.Value.{Value}
 use Rattle.pcl_escape.specs.Said.{Said}
 use Rattle.pcl_env.specs.Outcome.{outcome}
@@ -32,24 +32,10 @@ nameless command = record { at = 0; name = Empty; value = command.value; bytes =
 module _ (command : Said) (s : Situation) where
   drawn_same : (dpi : Dpi) (operation : Operation) → drawn dpi operation command s ≡ drawn dpi operation (nameless command) s
   drawn_same dpi Reset = refl
-  drawn_same dpi UniversalExit = refl
-  drawn_same dpi ControlFonts = refl
-  drawn_same dpi DownloadFont = refl
-  drawn_same dpi DownloadCharacter = refl
-  drawn_same dpi (SelectFont side) = refl
-  drawn_same dpi PrintText = refl
-  drawn_same dpi FillRectangle = refl
-  drawn_same dpi StartRaster = refl
-  drawn_same dpi RasterOffset = refl
-  drawn_same dpi RasterRow = refl
   drawn_same dpi other = refl
 
   refusal_same : (operation : Operation) → draw_refusal operation command s ≡ draw_refusal operation (nameless command) s
   refusal_same ControlFonts = refl
-  refusal_same FillRectangle = refl
-  refusal_same DownloadFont = refl
-  refusal_same DownloadCharacter = refl
-  refusal_same PrintText = refl
   refusal_same other = refl
 
 after_same : (dpi : Dpi) (operation : Operation) (command : Said) (s : Situation)
@@ -60,8 +46,7 @@ after_same dpi operation command s =
     ap (λ (o : Result Situation Kind). cond (is_ignored operation s) (Ok s) o)
     (drawn_alike (turned_by (outcome dpi operation command.value (is_marked before) before.settings) before))
   where
-    drawn_alike : (o : Result Situation Kind)
-        → (o |> drawn_on dpi operation command) ≡ (o |> drawn_on dpi operation (nameless command))
+    drawn_alike : (o : Result Situation Kind) → (o |> drawn_on dpi operation command) ≡ (o |> drawn_on dpi operation (nameless command))
     drawn_alike (Err kind) = refl
     drawn_alike (Ok now) = rw (refusal_same command now operation, drawn_same command now dpi operation) refl
 
@@ -92,8 +77,7 @@ pub record AreLeading (dpi : Dpi) (deeds : List Deed) (s later : Situation) : Ty
 
 pub leading_append : {dpi : Dpi} {one two : List Deed} {s middle later : Situation} → AreLeading dpi one s middle
     → AreLeading dpi two middle later → AreLeading dpi (one ++ two) s later
-leading_append {dpi} {one} {two} {s} {middle} {later} a b =
-    record { leads = leads_append dpi one two s middle later a.leads b.leads }
+leading_append {one = one} a b = record { leads = leads_append _ one _ _ _ _ a.leads b.leads }
 
 -- what a deed does to macros: nothing that can run, and it opens no definition
 record IsQuiet (operation : Operation) (value : Value) (s next : Situation) : Type 0 where
@@ -105,8 +89,6 @@ record IsQuiet (operation : Operation) (value : Value) (s next : Situation) : Ty
 
 quiet : (operation : Operation) {value : Value} {s next : Situation} → quietly operation value s ≡ Ok next
     → IsQuiet operation value s next
-quiet Reset e = record { anywhere = λ place. e; runs = refl; begun = cc; performed = cc; pages = cc }
-quiet UniversalExit e = record { anywhere = λ place. e; runs = refl; begun = cc; performed = cc; pages = cc }
 quiet ControlMacros e = absurd cc
 quiet other e = record { anywhere = λ place. e; runs = refl; begun = cc; performed = cc; pages = cc }
 
@@ -129,15 +111,12 @@ is_done {dpi} {d} {s} e =
 
 -- performing a command is its deed
 deed_done : (dpi : Dpi) (command : Said) {d : Deed} (s : Situation) {next : Situation} → IsSaid command d
-    → after dpi d.operation (said_of d) s ≡ Ok next
-    → after dpi d.operation command s ≡ Ok next
-deed_done dpi command {d} s is e =
-    after_same dpi d.operation command s ∙ rw (is.1, is.2) e
+    → after dpi d.operation (said_of d) s ≡ Ok next → after dpi d.operation command s ≡ Ok next
+deed_done dpi command {d} s is e = after_same dpi d.operation command s ∙ rw (is.1, is.2) e
 
 -- pages that fit, and are the same, fit too
 fits_too : (now next : Situation) → next.pages ≡ now.pages → page_refusal next ≡ None → within_page_limit now ≡ Ok now
-fits_too now next e fits =
-    let same : page_refusal now ≡ None = rw (← e) fits in rw same refl
+fits_too now next e fits = let same : page_refusal now ≡ None = rw (← e) fits in rw same refl
 
 -- outside of a definition a deed's command leads where the deed does, and runs no macro
 command_done : {dpi : Dpi} (place : ℕ) (command : Said) {d : Deed} {s next : Situation} → IsSaid command d → IsDone dpi d s next
@@ -155,8 +134,7 @@ pub commands_done : (dpi : Dpi) (f : Said → Run → Situation → Performance)
     (s : Situation) {later : Situation} → AreSaid commands deeds → Leads dpi deeds s later → s.performed + length deeds ≤ 100000000
     → s.begun ≡ None
     → (in_order (step dpi f) place commands s ≡ done later) × (later.begun ≡ None)
-commands_done dpi f place [] [] s a l few none =
-    (cc, rw l none)
+commands_done dpi f place [] [] s a l few none = (cc, rw l none)
 commands_done dpi f place (command ∷ commands) (d ∷ deeds) s a l few none =
     let one = is_done l.1 in
     let is = command_done place command a.0 one l.2 (omega arith) none in

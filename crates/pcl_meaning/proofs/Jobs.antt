@@ -1,5 +1,5 @@
 -- Whole jobs of page texts are accepted, and mean the pages of the texts.
-use Rattle.std.proofs.Common.{◌≡◌, ℕ, ◌+◌, ◌*◌, ◌<◌, ◌≤◌, List, [], ◌∷◌, ◌++◌, length, Option, Some, None, refl, sym, ap, subst, ◌∙◌, append_assoc, append-nil, length-append, arith, lit≤}
+use Rattle.std.proofs.Common.{◌≡◌, ℕ, ◌+◌, ◌*◌, ◌<◌, ◌≤◌, List, [], ◌∷◌, ◌++◌, length, Option, Some, None, refl, sym, ap, subst, ◌∙◌, append_assoc, append-nil, length-append, arith, lit≤, false}
 use Rattle.std.specs.List.{flat_map}
 use Rattle.std.proofs.lemmas.Bool.Decides.{nat_tests}
 use Rattle.pcl_base.specs.declared.dpi.Dpi.{Dpi}
@@ -19,12 +19,13 @@ use Rattle.pcl_fonts.specs.declared.fonts.FontControl.TheVariants.{Temporary}
 use Rattle.pcl_fonts.specs.History.{control}
 use Rattle.pcl_macros.specs.declared.table.MacroControl.TheVariants as macros
 use Rattle.pcl_macros.specs.History.{control as macro_control}
+use Rattle.pcl_page.proofs.Turns.{pages_fit}
 use Rattle.pcl_page.specs.Marks.{Mark, is_black}
 use Rattle.pcl_page.specs.Situation.{Sheet, Situation, at_begin, at_end, after}
 use Rattle.pcl_page.specs.Performing.{Shows, Performance, done, unless, then_on, runs, after_all, end_refusal, ended, after_end, performance, pages_of, asks_among}
 use Rattle.pcl_page.specs.Asks.{Asks}
 use Rattle.pcl_page.specs.Jobs.{HasPages, HasAsks, performance_of}
-use Rattle.pcl_output.specs.Tokens.{Token, opening, method, skip, send, commands_in, command_count, token_bytes, start_bytes, end_bytes, frame_bytes}
+use Rattle.pcl_output.specs.Tokens.{Token, opening, method, commands_in, command_count, token_bytes, start_bytes, end_bytes, frame_bytes}
 use Rattle.pcl_output.specs.PageText.{IsPageText, bitmap_rows}
 use Rattle.pcl_writer.specs.Appending.{IsWrittenPage}
 use Rattle.pcl_page.specs.Alike.{AreAlike, AllAlike}
@@ -32,10 +33,10 @@ use Rattle.pcl_meaning.specs.JobTexts.{PrintEach, most_commands, nothing_for}
 use Rattle.pcl_meaning.specs.PageTexts.{dot_of_rows, job_of, MeansRows}
 use Rattle.pcl_meaning.proofs.Deeds.{Deed}
 use Rattle.pcl_meaning.proofs.Readings.{ReadsAs, reads_joined, reads_none, said_many}
-use Rattle.pcl_meaning.proofs.Sequences.{token_deeds, body_deeds, reset, body_read, start_read, end_read, frame_read}
+use Rattle.pcl_meaning.proofs.Sequences.{token_deeds, body_deeds, reset, tokens_read, start_read, end_read, frame_read}
 use Rattle.pcl_meaning.proofs.Following.{Leads, AreLeading, leading_append, commands_done}
 use Rattle.pcl_meaning.proofs.Dots.{page_dot}
-use Rattle.pcl_meaning.proofs.Printing.{IsBetween, reset_fonts, reset_macros, between, pages_fit, text_deeds, text_taken}
+use Rattle.pcl_meaning.proofs.Printing.{IsBetween, reset_fonts, reset_macros, between, text_deeds, text_taken}
 
 -- ---- a page text
 
@@ -46,19 +47,13 @@ pub text_read : {dpi : Dpi} {size : Size} {copies : ℕ} {rows : List (List ℕ)
 text_read {dpi} {size} {copies} {rows} printed =
     let few : length rows ≤ 65535 = omega (arith, printed.count, height_small size dpi) in
     let small : copies ≤ 65535 = omega (arith, printed.few_copies) in
-    let start = start_bytes dpi copies size in
-    let body = flat_map token_bytes printed.tokens in
     subst (λ (bytes : List ℕ). ReadsAs bytes (text_deeds dpi size copies printed.tokens))
-    (sym (printed.spelled ∙ append_assoc start body end_bytes))
-    (reads_joined
-    (start_read dpi size small)
-    (reads_joined (body_read _ _ printed.tokens rows printed.prints few) end_read))
+    (sym (printed.spelled ∙ append_assoc (start_bytes dpi copies size) (flat_map token_bytes printed.tokens) end_bytes))
+    (reads_joined (start_read dpi size small) (reads_joined (tokens_read false printed.tokens _ _ rows printed.prints few) end_read))
 
 token_counted : (token : Token) → length (token_deeds token) ≡ commands_in token
 token_counted opening = refl
-token_counted (method digits next ends) = refl
-token_counted (skip digits count ends) = refl
-token_counted (send digits bytes) = refl
+token_counted other = refl
 
 body_counted : (tokens : List Token) → length (body_deeds tokens) ≡ command_count tokens
 body_counted [] = refl
@@ -124,16 +119,9 @@ pub text_means_page : (dpi : Dpi) (size : Size) (copies : ℕ) (rows : List (Lis
     → MeansRows dpi size copies rows (job_of text)
 text_means_page dpi size copies rows text printed few =
     let t = text_taken printed {n = 1} (record { method = refl; height = refl; asked = refl }) (lit≤ tt) in
-    let sheet : Sheet = record { size = size; copies = copies; marks = t.inked } in
     let job = job_accepted t.settings t.count (text_read printed) t.leads (lit≤ tt)
     (omega (arith, few, text_counted dpi size copies printed.tokens)) in
-    record {
-      sheet = sheet;
-      meaning = job.meaning;
-      size_is = refl;
-      copies_are = refl;
-      dots = λ x y wide high. t.black x y wide;
-    }
+    record { sheet = _; meaning = job.meaning; size_is = refl; copies_are = refl; dots = λ x y wide high. t.black x y wide }
 
 -- ---- texts one after the other
 
@@ -172,8 +160,7 @@ sheet_alike {dpi} {sheet} {page} shows black = record {
 at_resolution : (page : Page) {text : List ℕ} {dpi : Dpi} → page.dpi ≡ dpi → IsWrittenPage page text
     → (printed : IsPageText dpi page.size page.copies (bitmap_rows page.bitmap) text)
     × (command_count printed.tokens ≤ 3 * page_height page.size dpi)
-at_resolution page {text} e w =
-    rw (← e) (w.0, w.1)
+at_resolution page e w = rw (← e) (w.0, w.1)
 
 pub texts_taken : {dpi : Dpi} (meant : List Sheet) {texts : List ℕ} {t : Settings} {pages : List Sheet} {n : ℕ}
     → PrintEach IsWrittenPage dpi meant texts → IsBetween t → length pages + length meant ≤ 256
@@ -199,30 +186,17 @@ texts_taken {dpi} (sheet ∷ meant) {t} {pages} {n} p b few =
     let again : Sheet = record { size = page.size; copies = page.copies; marks = one.inked } in
     let more = pages ++ again ∷ [] in
     let rest = texts_taken meant {pages = more} {n = one.count} p.4 one.stands (omega (arith, length-append pages (again ∷ []))) in
-    let behind : AreLeading dpi rest.deeds (between one.settings more one.count)
-    (between rest.settings (pages ++ (again ∷ rest.again)) rest.count) =
-    rw (append_assoc pages (again ∷ []) rest.again) at rest.leads in
     record {
       deeds = deeds ++ rest.deeds;
-      read = subst (λ (bytes : List ℕ). ReadsAs bytes (deeds ++ rest.deeds)) (sym p.3)
-          (reads_joined (text_read printed) rest.read);
+      read = subst (λ (bytes : List ℕ). ReadsAs bytes (deeds ++ rest.deeds)) (sym p.3) (reads_joined (text_read printed) rest.read);
       again = again ∷ rest.again;
       settings = rest.settings;
       count = rest.count;
-      leads = leading_append one.leads behind;
-      alike = (
-        sheet_alike shows one.black,
-        rest.alike,
-      );
+      leads = leading_append one.leads (rw (append_assoc pages (again ∷ []) rest.again) at rest.leads);
+      alike = (sheet_alike shows one.black, rest.alike);
       same_many = omega (arith, rest.same_many);
-      few = omega (
-        arith,
-        rest.few,
-        written.1,
-        ap (λ (size : Size). page_height size dpi) shows.size,
-        text_counted dpi page.size page.copies printed.tokens,
-        length-append deeds rest.deeds,
-      );
+      few = let high = ap (λ (size : Size). page_height size dpi) shows.size in
+          omega (arith, rest.few, written.1, high, text_counted dpi page.size page.copies printed.tokens, length-append deeds rest.deeds);
     }
 
 -- ---- the pages of an accepted job
@@ -235,8 +209,7 @@ end_fits : (dpi : Dpi) (s : Situation) → end_refusal dpi s ≡ None → length
 end_fits dpi s n = grind (arith, nat_tests)
 
 ended_fits : (dpi : Dpi) (end : ℕ) (s : Situation) (why : Option Kind) → end_refusal dpi s ≡ why → Fits (ended dpi end why s)
-ended_fits dpi end s None e =
-    λ n. end_fits dpi s e
+ended_fits dpi end s None e = λ n. end_fits dpi s e
 ended_fits dpi end s (Some kind) e = λ n. absurd cc
 
 -- it is the end of the input that tells
@@ -249,8 +222,7 @@ performance_fits dpi end commands =
     let first = after_all dpi commands 0 commands at_begin in unless_fits dpi end first.refusal first.situation
 
 pub job_fits : {dpi : Dpi} {job : List ℕ} {pages : List Sheet} → HasPages dpi job pages → length pages ≤ 256
-job_fits {dpi} {job} h =
-    rw h.ejected (performance_fits dpi (length job) h.commands h.accepted)
+job_fits {dpi} {job} h = rw h.ejected (performance_fits dpi (length job) h.commands h.accepted)
 
 -- ---- a job that is written again
 

@@ -8,7 +8,7 @@ use Rattle.std.proofs.lemmas.Bool.Decides.{nat_tests}
 use Rattle.pcl_base.specs.declared.dpi.Dpi.{Dpi}
 use Rattle.pcl_base.specs.declared.dpi.Dpi.TheVariants.{Dpi300, Dpi600}
 use Rattle.pcl_base.specs.declared.method.Method.{Method}
-use Rattle.pcl_base.specs.declared.method.Method.TheVariants.{Plain, Runs, Packed, Delta}
+use Rattle.pcl_base.specs.declared.method.Method.TheVariants.{Plain}
 use Rattle.pcl_base.specs.declared.operation.Axis.TheVariants.{Horizontal, Vertical}
 use Rattle.pcl_base.specs.declared.operation.Unit.TheVariants.{PclUnit}
 use Rattle.pcl_base.specs.declared.operation.Operation.{Operation}
@@ -29,10 +29,11 @@ use Rattle.pcl_fonts.specs.History.{FontEvent, control}
 use Rattle.pcl_macros.specs.declared.table.MacroControl.TheVariants as macros
 use Rattle.pcl_macros.specs.History.{MacroEvent, control as macro_control}
 use Rattle.pcl_env.specs.declared.asked.Asked.{Asked}
+use Rattle.pcl_page.proofs.Turns.{pages_fit}
 use Rattle.pcl_page.specs.Asks.{with_page}
 use Rattle.pcl_page.specs.Marks.{Mark, is_black, dot_at}
 use Rattle.pcl_page.specs.Raster.{Raster, ends_raster, scale_of, raster_from, bytes_of_width, row_sent, row_mark}
-use Rattle.pcl_page.specs.Situation.{Sheet, Situation, ◌|>◌, below, ejects, end_raster, drawn_on, after, page_refusal}
+use Rattle.pcl_page.specs.Situation.{Sheet, Situation, ◌|>◌, below, ejects, end_raster, drawn_on, after}
 use Rattle.pcl_rows.specs.Rows.{IsRowData}
 use Rattle.pcl_rows.proofs.Decoded.{decoded_is}
 use Rattle.pcl_output.specs.Tokens.{Token, opening, method, skip, send, PrintsRows}
@@ -76,10 +77,6 @@ between t pages n = record {
   performed = n;
 }
 
--- as many pages as there may be
-pub pages_fit : (s : Situation) → length s.pages ≤ 256 → page_refusal s ≡ None
-pages_fit s le = let t : nat_le (length s.pages) 256 ≡ true = grind (arith, nat_tests) in rw t refl
-
 prepared_is : (dpi : Dpi) (ends : Bool) {t : Settings} {pages : List Sheet} {n : ℕ}
     → cond ends (end_raster dpi (between t pages n)) (between t pages n) ≡ between t pages n
 prepared_is dpi true = refl
@@ -99,9 +96,7 @@ size_out : (dpi : Dpi) (size : Size) (t : Settings)
     → outcome dpi PageSize (number_value (code_of size)) false t ≡ Some (with_size size t, page.EjectMarked)
 unfolding outcome
 size_out dpi Executive t = refl
-size_out dpi Letter t = refl
-size_out dpi Legal t = refl
-size_out dpi A4 t = refl
+size_out dpi other t = refl
 
 abbrev top_zero : Settings → Settings
 top_zero t = to_first_line (record t { top = 0; bottom = units_high t.size - 3600 })
@@ -134,13 +129,10 @@ width_out : (size : Size) (dpi : Dpi) (t : Settings)
     ≡ Some (record t { raster_width = Some (page_width size dpi) }, page.Stay)
 unfolding outcome
 width_out Executive Dpi300 t = refl
-width_out Executive Dpi600 t = refl
 width_out Letter Dpi300 t = refl
-width_out Letter Dpi600 t = refl
 width_out Legal Dpi300 t = refl
-width_out Legal Dpi600 t = refl
 width_out A4 Dpi300 t = refl
-width_out A4 Dpi600 t = refl
+width_out size dpi t = refl
 
 -- the settings of a text's raster
 abbrev pub ready : Dpi → Size → ℕ → Settings → Settings
@@ -175,11 +167,8 @@ start_after : {size : Size} (dpi : Dpi) {copies : ℕ} {t : Settings} {pages : L
     ≡ Ok (in_body size dpi (ready dpi size copies t) Plain 0 (zeros size dpi) [] pages (n + 1))
 unfolding after outcome
 start_after {size} dpi {copies} {t} {pages} n b =
-    let at = ready dpi size copies t in
-    let y : at.cursor.y ≡ 0 = omega arith in
-    let raster : raster_from dpi 0 at ≡ body_raster size dpi 0 (zeros size dpi) =
-    one_scale dpi size b.height (first_dot dpi y) in
-    rw (raster, b.method) refl
+    let raster : raster_from dpi 0 (ready dpi size copies t) ≡ body_raster size dpi 0 (zeros size dpi) =
+    one_scale dpi size b.height (first_dot dpi (omega arith)) in rw (raster, b.method) refl
 
 -- a command that sets something between texts, and the deeds behind it
 set_leads : {dpi : Dpi} {operation : Operation} {value : Value} {t next : Settings} {effect : Effect} {pages : List Sheet} {n : ℕ}
@@ -228,9 +217,7 @@ module _ (size : Size) (dpi : Dpi) (t : Settings) (m : Method) (k : ℕ) (seed :
         → does dpi (deed RasterMethod (number_value (method_code next)) []) here ≡ Ok (in_body size dpi t next k seed marks pages (n + 1))
     unfolding after outcome
     method_after Plain = refl
-    method_after Runs = refl
-    method_after Packed = refl
-    method_after Delta = refl
+    method_after other = refl
 
     skip_after : (count : ℕ)
         → does dpi (deed RasterOffset (number_value count) []) here
@@ -267,9 +254,8 @@ record IsPrinted (size : Size) (dpi : Dpi) (t : Settings) (deeds : List Deed) (r
 -- a newer mark beside dots of rows below it
 newer_mark : (below row older : Bool) → (below || cond row true older) ≡ ((row || below) || older)
 newer_mark true true older = refl
-newer_mark true false older = refl
 newer_mark false true older = refl
-newer_mark false false older = refl
+newer_mark below row older = refl
 
 sent_dots : (size : Size) (dpi : Dpi) (k : ℕ) (seed row : List ℕ) (rest : List (List ℕ)) (inked : List Mark) (x y : ℕ)
     → x < page_width size dpi
@@ -317,14 +303,11 @@ body_printed true (method digits next ends ∷ tokens) {size} {dpi} t {m} {seed}
     (body_printed (not ends) tokens t rows k inked pages (n + 1) p.1 are long fits) (λ x y within. refl)
 body_printed true (skip digits count ends ∷ tokens) {size} {dpi} t {m} {seed} rows k inked pages n p are long fits =
     let r = body_printed (not ends) tokens t (drop count rows) (k + count) inked pages (n + 1) (rw long at p.4)
-    (rows_below count size dpi rows are)
-    (length-replicate (bytes_of_width (page_width size dpi)) 0) fits in
+    (rows_below count size dpi rows are) (length-replicate _ 0) fits in
     printed_after (skip_after size dpi t m k seed inked pages n count) fits r (λ x y within. rw (skipped_dots count k rows x y p.3) refl)
 body_printed true (send digits bytes ∷ tokens) {size} {dpi} t {m} {seed} (row ∷ rest) k inked pages n p are long fits =
-    let newer = sent_mark size dpi k seed row ∷ inked in
     printed_after (row_after size dpi t m k seed inked pages n p.1 are.0) fits
-    (body_printed false tokens t rest (k + 1) newer pages (n + 1) p.2 are.1 are.0.0 fits)
-    (sent_dots size dpi k seed row rest inked)
+    (body_printed false tokens t rest (k + 1) _ pages (n + 1) p.2 are.1 are.0.0 fits) (sent_dots size dpi k seed row rest inked)
 body_printed inside tokens t rows k inked pages n p are long fits = absurd p
 
 -- ---- the end
@@ -354,7 +337,7 @@ feed_after dpi u marks pages n e = rw (asks_more pages (record { size = u.size; 
 feed_between : (test : Bool) (u : Settings) → u.method ≡ Plain → u.raster_height ≡ None → u.asked ≡ nothing_asked
     → IsBetween (to_first_line (cond test (return_carriage u) u))
 feed_between true u plain none asked = record { method = plain; height = none; asked = asked }
-feed_between false u plain none asked = record { method = plain; height = none; asked = asked }
+feed_between other u plain none asked = record { method = plain; height = none; asked = asked }
 
 -- where the settings are between texts again
 abbrev ended_at : Size → Dpi → Settings → Method → ℕ → List ℕ → Settings
@@ -394,8 +377,7 @@ pub record IsTextTaken (dpi : Dpi) (size : Size) (copies : ℕ) (deeds : List De
 all_rows : (rows : List (List ℕ)) (x y : ℕ) → (dot_from 0 rows x y || false) ≡ dot_of_rows rows x y
 all_rows rows x y =
     let place : y - 0 ≡ y = omega arith in
-    let below : nat_le 0 y ≡ true = grind (arith, nat_tests) in
-    rw (or-false (dot_from 0 rows x y), below, place) refl
+    let below : nat_le 0 y ≡ true = grind (arith, nat_tests) in rw (or-false (dot_from 0 rows x y), below, place) refl
 
 pub text_taken : {dpi : Dpi} {size : Size} {copies : ℕ} {rows : List (List ℕ)} {text : List ℕ}
     (printed : IsPageText dpi size copies rows text)
@@ -406,11 +388,10 @@ text_taken {dpi} {size} {copies} {rows} printed {t} {pages} {n} b few =
     let m = n + 1 + 1 + 1 + 1 + 1 + 1 + 1 + 1 in
     let start = start_leads size dpi copies pages n b printed.some_copies printed.few_copies (omega arith) in
     let body = body_printed false printed.tokens u rows 0 [] pages m printed.prints printed.rows_are
-    (length-replicate (bytes_of_width (page_width size dpi)) 0) (omega arith) in
+    (length-replicate _ 0) (omega arith) in
     let end = end_leads size dpi u body.last body.end body.seed body.all pages body.count b.height b.asked few in
-    let settings = ended_at size dpi u body.last body.end body.seed in
     record {
-      settings = settings;
+      settings = _;
       stands = end.0;
       inked = body.all;
       count = body.count + 1 + 1;

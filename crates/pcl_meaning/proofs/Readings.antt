@@ -40,7 +40,7 @@ said_append one before two after a b = absurd a
 
 pub said_many : (commands : List Said) (deeds : List Deed) → AreSaid commands deeds → length commands ≡ length deeds
 said_many [] [] said = refl
-said_many (command ∷ commands) (deed ∷ deeds) said = let rest = said_many commands deeds said.1 in omega (arith, rest)
+said_many (command ∷ commands) (deed ∷ deeds) said = omega (arith, said_many commands deeds said.1)
 said_many commands deeds said = absurd said
 
 -- ---- pieces
@@ -145,9 +145,7 @@ abbrev pub number_value : ℕ → Value
 number_value n = record { sign = Absent; parts = n * 10000 }
 
 value_is : (digits : List ℕ) {n : ℕ} → IsSpelled digits n → field_value (number_field digits) ≡ number_value n
-value_is digits {n} s =
-    let parts : number_of digits * 10000 + 0 ≡ n * 10000 = omega (arith, s.1) in
-    rw parts refl
+value_is digits {n} s = let parts : number_of digits * 10000 + 0 ≡ n * 10000 = omega (arith, s.1) in rw parts refl
 
 pub whole_is : (n : ℕ) → whole_of (number_value n) ≡ n
 whole_is n = omega arith

@@ -54,14 +54,11 @@ prints_same {text} same printed = moved (λ size dpi copies bitmap. IsPageText d
 -- ---- texts in order
 
 pub least_together : (dpi : Dpi) (sheets : List Sheet) (texts others : List ℕ) → PrintEach PrintsShortest dpi sheets texts
-    → PrintEach PrintsPage dpi sheets others
-    → length texts ≤ length others
-least_together dpi [] texts others l p = let none : length texts ≡ 0 = ap length l in omega arith
+    → PrintEach PrintsPage dpi sheets others → length texts ≤ length others
+least_together dpi [] texts others l p = omega (arith, ap length l)
 least_together dpi (sheet ∷ sheets) texts others l p =
-    let rest = least_together dpi sheets l.1 p.1 l.4 p.4 in
-    let first : length l.0 ≤ length p.0 =
-    l.2.2.1 p.0 (prints_same (pages_same p.2.1 l.2.1) p.2.2) in
-    omega (arith, ap length l.3, ap length p.3, length-append {A = ℕ}, rest, first)
+    let first = l.2.2.1 p.0 (prints_same (pages_same p.2.1 l.2.1) p.2.2) in
+    omega (arith, ap length l.3, ap length p.3, length-append {A = ℕ}, least_together dpi sheets l.1 p.1 l.4 p.4, first)
 
 pub least_job : {dpi : Dpi} {sheets : List Sheet} (texts : List ℕ) {job : List ℕ} → PrintEach PrintsShortest dpi sheets texts
     → job ≡ frame_bytes ++ texts ++ frame_bytes → IsLeastJobText dpi sheets job

@@ -1,5 +1,6 @@
 -- Page texts are read as deeds.
-use Rattle.std.proofs.Common.{ℕ, ◌≤◌, true, false, List, [], ◌∷◌, ◌++◌, length, drop, replicate, Some, refl, append_assoc, append-nil, arith, lit≤}
+use Rattle.pcl_escape.specs.Letter.{may_go_on}
+use Rattle.std.proofs.Common.{◌≡◌, ℕ, ◌≤◌, true, false, List, [], ◌∷◌, ◌++◌, length, drop, Some, refl, append_assoc, append-nil, arith, lit≤, Bool}
 use Rattle.std.specs.Prelude.{decimal}
 use Rattle.std.specs.List.{flat_map, AllByRecursion}
 use Rattle.std.proofs.lemmas.List.{length-drop}
@@ -7,13 +8,13 @@ use Rattle.std.proofs.lemmas.List.Concat.{flat_map-append}
 use Rattle.pcl_base.specs.declared.dpi.Dpi.{Dpi}
 use Rattle.pcl_base.specs.declared.dpi.Dpi.TheVariants.{Dpi300, Dpi600}
 use Rattle.pcl_base.specs.declared.method.Method.{Method}
-use Rattle.pcl_base.specs.declared.method.Method.TheVariants.{Plain, Runs, Packed, Delta}
+use Rattle.pcl_base.specs.declared.method.Method.TheVariants.{Plain}
 use Rattle.pcl_base.specs.declared.operation.Axis.TheVariants.{Horizontal, Vertical}
 use Rattle.pcl_base.specs.declared.operation.Unit.TheVariants.{PclUnit}
 use Rattle.pcl_base.specs.declared.operation.Operation.{Operation}
 use Rattle.pcl_base.specs.declared.operation.Operation.TheVariants.{Reset, FormFeed, PageSize, Copies, TopMargin, Move, RasterResolution, RasterWidth, StartRaster, EndRasterResetMethod, RasterMethod, RasterOffset, RasterRow}
 use Rattle.pcl_base.specs.declared.size.Size.{Size}
-use Rattle.pcl_base.specs.declared.size.Size.TheVariants.{Executive, Letter, Legal, A4}
+use Rattle.pcl_base.specs.declared.size.Size.TheVariants.{Executive}
 use Rattle.pcl_base.specs.Dpi.{dots_per_inch}
 use Rattle.pcl_base.specs.Method.{method_code}
 use Rattle.pcl_base.specs.Operation.{operation_of}
@@ -21,11 +22,11 @@ use Rattle.pcl_base.specs.Size.{code_of, page_width}
 use Rattle.pcl_base.specs.Value.{zero_value}
 use Rattle.pcl_base.proofs.PageBounds.{width_small}
 use Rattle.pcl_escape.specs.declared.step.Prefix.{Prefix}
-use Rattle.pcl_escape.specs.Pieces.{Parameter, parameter_bytes, control, two_character, IsPrefix, IsMiddle}
+use Rattle.pcl_escape.specs.Pieces.{Parameter, parameter_bytes, control, two_character, IsPrefix, IsMiddle, IsEnd}
 use Rattle.pcl_output.specs.Tokens.{Token, opening, method, skip, send, token_bytes, IsSpelled, PrintsRows, start_bytes, end_bytes, frame_bytes}
 use Rattle.pcl_meaning.proofs.Deeds.{Deed, deed}
 use Rattle.pcl_output.proofs.Numbers.{decimal_spelled}
-use Rattle.pcl_meaning.proofs.Readings.{ReadsAs, reads_joined, reads_none, reads_piece, reads_sequence, AreMeant, meant_more, middle_more, number_parameter, number_value, IsSetting, setting_middle, setting_end, setting_meant, row_prefix, row_end, row_meant}
+use Rattle.pcl_meaning.proofs.Readings.{ReadsAs, reads_joined, reads_none, reads_piece, reads_sequence, AreMeant, meant_more, middle_more, number_parameter, number_value, IsSetting, setting_middle, setting_end, setting_meant, row_prefix, row_end, row_meant, IsMeant}
 
 -- ---- the deeds of a text
 
@@ -71,43 +72,42 @@ row_prefix_is = (refl, refl)
 
 code_small : (m : Method) → method_code m ≤ 65535
 code_small Plain = lit≤ tt
-code_small Runs = lit≤ tt
-code_small Packed = lit≤ tt
-code_small Delta = lit≤ tt
+code_small other = lit≤ tt
 
 -- the bytes of a sequence's parameters so far, and after them those of tokens
 abbrev inside_bytes : List Parameter → List Token → List ℕ
 inside_bytes middle tokens = 27 ∷ 42 ∷ 98 ∷ (flat_map parameter_bytes middle ++ flat_map token_bytes tokens)
 
 -- outside a sequence tokens are read as their deeds; inside one they are read with the parameters before them
-abbrev IsTokensRead : List Token → Type 0
-IsTokensRead tokens =
-    ((current : Method) (seed : List ℕ) (rows : List (List ℕ)) → PrintsRows false current seed tokens rows → length rows ≤ 65535
-    → ReadsAs (flat_map token_bytes tokens) (body_deeds tokens))
-    × ((current : Method) (seed : List ℕ) (rows : List (List ℕ)) (middle : List Parameter) (deeds : List Deed)
+abbrev pub AreRead : Bool → List Token → Type 0
+AreRead false tokens = (current : Method) (seed : List ℕ) (rows : List (List ℕ)) → PrintsRows false current seed tokens rows
+    → length rows ≤ 65535 → ReadsAs (flat_map token_bytes tokens) (body_deeds tokens)
+AreRead true tokens = (current : Method) (seed : List ℕ) (rows : List (List ℕ)) (middle : List Parameter) (deeds : List Deed)
     → PrintsRows true current seed tokens rows → length rows ≤ 65535
     → AllByRecursion (IsMiddle row_prefix) middle → AreMeant row_prefix middle deeds
-    → ReadsAs (inside_bytes middle tokens) (deeds ++ body_deeds tokens))
+    → ReadsAs (inside_bytes middle tokens) (deeds ++ body_deeds tokens)
 
--- a setting after which the sequence goes on
-more_inside : (tokens : List Token) (digits : List ℕ) (n letter : ℕ) (operation : Operation) (middle : List Parameter) (deeds : List Deed)
-    → ReadsAs (inside_bytes (middle ++ number_parameter digits letter ∷ []) tokens)
-    ((deeds ++ set_to operation n ∷ []) ++ body_deeds tokens)
-    → ReadsAs (27 ∷ 42 ∷ 98 ∷ (flat_map parameter_bytes middle ++ ((digits ++ letter ∷ []) ++ flat_map token_bytes tokens)))
-    (deeds ++ (set_to operation n ∷ body_deeds tokens))
-more_inside tokens digits n letter operation middle deeds r =
-    simp append_assoc (simp (flat_map-append, append_assoc, append-nil) at r)
+module _ {digits : List ℕ} (n : ℕ) {letter : ℕ} {operation : Operation} (tokens : List Token) (middle : List Parameter)
+    (deeds : List Deed) (each : AllByRecursion (IsMiddle row_prefix) middle) (meant : AreMeant row_prefix middle deeds) where
+  -- a setting after which the sequence goes on
+  more_inside : IsSetting row_prefix letter digits n operation → may_go_on row_prefix letter ≡ true
+      → ((middle : List Parameter) (deeds : List Deed) → AllByRecursion (IsMiddle row_prefix) middle → AreMeant row_prefix middle deeds
+      → ReadsAs (inside_bytes middle tokens) (deeds ++ body_deeds tokens))
+      → ReadsAs (27 ∷ 42 ∷ 98 ∷ (flat_map parameter_bytes middle ++ ((digits ++ letter ∷ []) ++ flat_map token_bytes tokens)))
+      (deeds ++ (set_to operation n ∷ body_deeds tokens))
+  more_inside s goes read =
+      let r = read _ _ (middle_more middle each (setting_middle s goes)) (meant_more row_prefix middle deeds _ meant (setting_meant s)) in
+      simp append_assoc (simp (flat_map-append, append_assoc, append-nil) at r)
 
--- a setting that ends the sequence
-ended_inside : (tokens : List Token) (digits : List ℕ) (n letter : ℕ) (operation : Operation) (bytes : List ℕ)
-    (middle : List Parameter) (deeds : List Deed)
-    → ReadsAs (27 ∷ 42 ∷ 98 ∷ (flat_map parameter_bytes middle ++ (parameter_bytes (number_parameter digits letter) ++ bytes)))
-    (deeds ++ deed operation (number_value n) bytes ∷ [])
-    → ReadsAs (flat_map token_bytes tokens) (body_deeds tokens)
-    → ReadsAs (27 ∷ 42 ∷ 98 ∷ (flat_map parameter_bytes middle ++ ((digits ++ letter ∷ bytes) ++ flat_map token_bytes tokens)))
-    (deeds ++ (deed operation (number_value n) bytes ∷ body_deeds tokens))
-ended_inside tokens digits n letter operation bytes middle deeds first rest =
-    simp append_assoc (simp (append_assoc, append-nil) at (reads_joined first rest))
+  -- a setting that ends the sequence
+  ended_inside : {bytes : List ℕ} → IsEnd row_prefix (number_parameter digits letter) bytes
+      → IsMeant row_prefix (number_parameter digits letter) bytes (deed operation (number_value n) bytes)
+      → ReadsAs (flat_map token_bytes tokens) (body_deeds tokens)
+      → ReadsAs (27 ∷ 42 ∷ 98 ∷ (flat_map parameter_bytes middle ++ ((digits ++ letter ∷ bytes) ++ flat_map token_bytes tokens)))
+      (deeds ++ (deed operation (number_value n) bytes ∷ body_deeds tokens))
+  ended_inside ends is rest =
+      let first = reads_sequence middle deeds row_prefix_is each meant ends is in
+      simp append_assoc (simp (append_assoc, append-nil) at (reads_joined first rest))
 
 -- what is read of a row's token and what stands after it
 record IsSent (digits bytes : List ℕ) (tokens : List Token) (rows : List (List ℕ)) (current : Method) : Type 0 where
@@ -125,64 +125,35 @@ sent_parts seed [] p = absurd p
 sent_parts seed (first ∷ rest) p =
     record { spelled = p.0; small = p.1.fits; row = first; rest = rest; prints = p.2; fewer = omega arith }
 
-tokens_read : (tokens : List Token) → IsTokensRead tokens
+pub tokens_read : (inside : Bool) (tokens : List Token) → AreRead inside tokens
 unfolding PrintsRows operation_of
-tokens_read [] = (λ current seed rows p few. reads_none, λ current seed rows middle deeds p few each meant. absurd p)
-tokens_read (opening ∷ tokens) = (
-  λ current seed rows p few. (tokens_read tokens).1 current seed rows [] [] p few tt tt,
-  λ current seed rows middle deeds p few each meant. absurd p,
-)
-tokens_read (method digits next false ∷ tokens) = (
-  λ current seed rows p few. absurd p,
-  λ current seed rows middle deeds p few each meant.
-      let s : IsSetting row_prefix 109 digits (method_code next) RasterMethod =
-      record { spelled = p.0; small = code_small next; named = refl; alone = refl; stays = refl } in
-      more_inside tokens digits (method_code next) 109 RasterMethod middle deeds
-      ((tokens_read tokens).1 next seed rows _ _ p.1 few
-      (middle_more middle each (setting_middle s refl))
-      (meant_more row_prefix middle deeds _ meant (setting_meant s))),
-)
-tokens_read (method digits next true ∷ tokens) = (
-  λ current seed rows p few. absurd p,
-  λ current seed rows middle deeds p few each meant.
-      let s : IsSetting row_prefix 77 digits (method_code next) RasterMethod =
-      record { spelled = p.0; small = code_small next; named = refl; alone = refl; stays = refl } in
-      ended_inside tokens digits (method_code next) 77 RasterMethod [] middle deeds
-      (reads_sequence middle deeds row_prefix_is each meant (setting_end s refl) (setting_meant s))
-      ((tokens_read tokens).0 next seed rows p.1 few),
-)
-tokens_read (skip digits count false ∷ tokens) = (
-  λ current seed rows p few. absurd p,
-  λ current seed rows middle deeds p few each meant.
-      let s : IsSetting row_prefix 121 digits count RasterOffset =
-      record { spelled = p.0; small = omega (arith, p.2); named = refl; alone = refl; stays = refl } in
-      more_inside tokens digits count 121 RasterOffset middle deeds
-      ((tokens_read tokens).1 current (replicate (length seed) 0) (drop count rows) _ _ p.4 (omega (arith, length-drop count rows))
-      (middle_more middle each (setting_middle s refl))
-      (meant_more row_prefix middle deeds _ meant (setting_meant s))),
-)
-tokens_read (skip digits count true ∷ tokens) = (
-  λ current seed rows p few. absurd p,
-  λ current seed rows middle deeds p few each meant.
-      let s : IsSetting row_prefix 89 digits count RasterOffset =
-      record { spelled = p.0; small = omega (arith, p.2); named = refl; alone = refl; stays = refl } in
-      ended_inside tokens digits count 89 RasterOffset [] middle deeds
-      (reads_sequence middle deeds row_prefix_is each meant (setting_end s refl) (setting_meant s))
-      ((tokens_read tokens).0 current (replicate (length seed) 0) (drop count rows) p.4 (omega (arith, length-drop count rows))),
-)
-tokens_read (send digits bytes ∷ tokens) = (
-  λ current seed rows p few. absurd p,
-  λ current seed rows middle deeds p few each meant.
-      let s = sent_parts seed rows p in
-      ended_inside tokens digits (length bytes) 87 RasterRow bytes middle deeds
-      (reads_sequence middle deeds row_prefix_is each meant
-      (row_end s.spelled s.small) (row_meant digits s.spelled))
-      ((tokens_read tokens).0 current s.row s.rest s.prints (omega (arith, s.fewer))),
-)
-
-pub body_read : (current : Method) (seed : List ℕ) (tokens : List Token) (rows : List (List ℕ))
-    → PrintsRows false current seed tokens rows → length rows ≤ 65535 → ReadsAs (flat_map token_bytes tokens) (body_deeds tokens)
-body_read current seed tokens rows p few = (tokens_read tokens).0 current seed rows p few
+tokens_read false [] = λ current seed rows p few. reads_none
+tokens_read false (opening ∷ tokens) = λ current seed rows p few. tokens_read true tokens current seed rows [] [] p few tt tt
+tokens_read true (method digits next false ∷ tokens) = λ current seed rows middle deeds p few each meant.
+    let s : IsSetting row_prefix 109 digits (method_code next) RasterMethod =
+    record { spelled = p.0; small = code_small next; named = refl; alone = refl; stays = refl } in
+    more_inside _ tokens middle deeds each meant s refl (λ m d. tokens_read true tokens next seed rows m d p.1 few)
+tokens_read true (method digits next true ∷ tokens) = λ current seed rows middle deeds p few each meant.
+    let s : IsSetting row_prefix 77 digits (method_code next) RasterMethod =
+    record { spelled = p.0; small = code_small next; named = refl; alone = refl; stays = refl } in
+    ended_inside (method_code next) tokens middle deeds each meant (setting_end s refl) (setting_meant s)
+    (tokens_read false tokens next seed rows p.1 few)
+tokens_read true (skip digits count false ∷ tokens) = λ current seed rows middle deeds p few each meant.
+    let s : IsSetting row_prefix 121 digits count RasterOffset =
+    record { spelled = p.0; small = omega (arith, p.2); named = refl; alone = refl; stays = refl } in
+    more_inside _ tokens middle deeds each meant s refl
+    (λ m d. tokens_read true tokens current _ (drop count rows) m d p.4 (omega (arith, length-drop count rows)))
+tokens_read true (skip digits count true ∷ tokens) = λ current seed rows middle deeds p few each meant.
+    let s : IsSetting row_prefix 89 digits count RasterOffset =
+    record { spelled = p.0; small = omega (arith, p.2); named = refl; alone = refl; stays = refl } in
+    ended_inside count tokens middle deeds each meant (setting_end s refl) (setting_meant s)
+    (tokens_read false tokens current _ (drop count rows) p.4 (omega (arith, length-drop count rows)))
+tokens_read true (send digits bytes ∷ tokens) = λ current seed rows middle deeds p few each meant.
+    let s = sent_parts seed rows p in
+    ended_inside (length bytes) tokens middle deeds each meant (row_end s.spelled s.small) (row_meant digits s.spelled)
+    (tokens_read false tokens current s.row s.rest s.prints (omega (arith, s.fewer)))
+tokens_read false other = λ current seed rows p few. absurd p
+tokens_read true other = λ current seed rows middle deeds p few each meant. absurd p
 
 -- ---- begin and end
 
@@ -203,9 +174,7 @@ zero_digit = ((refl, tt), refl)
 
 size_code_small : (size : Size) → code_of size ≤ 65535
 size_code_small Executive = lit≤ tt
-size_code_small Letter = lit≤ tt
-size_code_small Legal = lit≤ tt
-size_code_small A4 = lit≤ tt
+size_code_small other = lit≤ tt
 
 dots_small : (dpi : Dpi) → dots_per_inch dpi ≤ 65535
 dots_small Dpi300 = lit≤ tt
@@ -228,8 +197,7 @@ page_read {copies} size le =
     record { spelled = zero_digit; small = lit≤ tt; named = refl; alone = refl; stays = refl } in
     reads_sequence (number_parameter (decimal copies) 120 ∷ number_parameter (decimal (code_of size)) 97 ∷ [])
     (set_to Copies copies ∷ set_to PageSize (code_of size) ∷ []) (refl, refl)
-    (setting_middle c refl, (setting_middle s refl, tt))
-    (setting_meant c, (setting_meant s, tt))
+    (setting_middle c refl, (setting_middle s refl, tt)) (setting_meant c, (setting_meant s, tt))
     (setting_end margin refl) (setting_meant margin)
 
 place_read : ReadsAs (27 ∷ 42 ∷ 112 ∷ 48 ∷ 120 ∷ 48 ∷ 89 ∷ [])
@@ -240,10 +208,8 @@ place_read =
     record { spelled = zero_digit; small = lit≤ tt; named = refl; alone = refl; stays = refl } in
     let down : IsSetting place_prefix 89 (48 ∷ []) 0 (Move Vertical PclUnit) =
     record { spelled = zero_digit; small = lit≤ tt; named = refl; alone = refl; stays = refl } in
-    reads_sequence (number_parameter (48 ∷ []) 120 ∷ [])
-    (set_to (Move Horizontal PclUnit) 0 ∷ []) (refl, refl)
-    (setting_middle across refl, tt) (setting_meant across, tt)
-    (setting_end down refl) (setting_meant down)
+    reads_sequence (number_parameter (48 ∷ []) 120 ∷ []) (set_to (Move Horizontal PclUnit) 0 ∷ []) (refl, refl)
+    (setting_middle across refl, tt) (setting_meant across, tt) (setting_end down refl) (setting_meant down)
 
 resolution_read : (dpi : Dpi)
     → ReadsAs (27 ∷ 42 ∷ 116 ∷ (parameter_bytes (number_parameter (decimal (dots_per_inch dpi)) 82) ++ []))
@@ -253,9 +219,7 @@ resolution_read dpi =
     let small = dots_small dpi in
     let r : IsSetting resolution_prefix 82 (decimal (dots_per_inch dpi)) (dots_per_inch dpi) RasterResolution =
     record { spelled = decimal_spelled _ (omega (arith, small)); small = small; named = refl; alone = refl; stays = refl } in
-    reads_sequence []
-    [] (refl, refl) tt tt
-    (setting_end r refl) (setting_meant r)
+    reads_sequence [] [] (refl, refl) tt tt (setting_end r refl) (setting_meant r)
 
 raster_read : (size : Size) (dpi : Dpi)
     → ReadsAs (27 ∷ 42 ∷ 114 ∷ (flat_map parameter_bytes (number_parameter (decimal (page_width size dpi)) 115 ∷ []) ++ (48 ∷ 65 ∷ [])))
@@ -269,24 +233,21 @@ raster_read size dpi =
     record { spelled = zero_digit; small = lit≤ tt; named = refl; alone = refl; stays = refl } in
     reads_sequence (number_parameter (decimal (page_width size dpi)) 115 ∷ [])
     (set_to RasterWidth (page_width size dpi) ∷ []) (refl, refl)
-    (setting_middle w refl, tt) (setting_meant w, tt)
-    (setting_end start refl) (setting_meant start)
+    (setting_middle w refl, tt) (setting_meant w, tt) (setting_end start refl) (setting_meant start)
 
 pub start_read : (dpi : Dpi) {copies : ℕ} (size : Size) → copies ≤ 65535
     → ReadsAs (start_bytes dpi copies size) (start_deeds dpi copies size)
 start_read dpi {copies} size le =
-    simp append_assoc (simp (append_assoc, append-nil) at (reads_joined (page_read size le)
-    (reads_joined place_read (reads_joined (resolution_read dpi) (raster_read size dpi)))))
+    let r = reads_joined (page_read size le) (reads_joined place_read (reads_joined (resolution_read dpi) (raster_read size dpi))) in
+    simp append_assoc (simp (append_assoc, append-nil) at r)
 
 pub end_read : ReadsAs end_bytes end_deeds
 unfolding operation_of
 end_read =
     let end : IsSetting raster_prefix 67 [] 0 EndRasterResetMethod =
     record { spelled = (tt, refl); small = lit≤ tt; named = refl; alone = refl; stays = refl } in
-    reads_joined
-    (reads_sequence [] [] (refl, refl) tt tt (setting_end end refl) (setting_meant end))
-    (reads_piece (control 12) (λ behind. (refl, refl, refl))
-    (λ at. ((refl, refl, refl), tt)))
+    reads_joined (reads_sequence [] [] (refl, refl) tt tt (setting_end end refl) (setting_meant end))
+    (reads_piece (control 12) (λ behind. (refl, refl, refl)) (λ at. ((refl, refl, refl), tt)))
 
 pub frame_read : ReadsAs frame_bytes (reset ∷ [])
 unfolding operation_of
