@@ -35,43 +35,41 @@ pub turn_adds : (next : ℕ → Said → List Item → Unfolding)
 turn_adds next adds place [] items = ([], refl)
 turn_adds next adds place (command ∷ commands) items =
     let first = next place command items in
-    and_goes_on first.refusal first.items (in_turn next (place + 1) commands) (adds place command items)
-    (turn_adds next adds (place + 1) commands first.items)
+    and_goes_on first.refusal first.items _ (adds place command items) (turn_adds next adds (place + 1) commands first.items)
 
 abbrev pub BodiesAdd : Bodies → Type 0
 BodiesAdd bodies = (command : Said) (control : Option Action) (body : MacroBody) (items : List Item)
     → GoesOn items (bodies command control body items).items
-
-body_adds : (bodies : Bodies) → BodiesAdd bodies → (command : Said) (control : Option Action) (body : Option MacroBody) (items : List Item)
-    → GoesOn items (with_body bodies command control body items).items
-body_adds bodies adds command control None items = ([], refl)
-body_adds bodies adds command control (Some body) items = adds command control body items
-
-command_adds : (bodies : Bodies) → BodiesAdd bodies → (place : ℕ) (command : Said) (control : Option Action) (led : Result Situation Kind)
-    (items : List Item) → GoesOn items (with_command bodies place command control led items).items
-command_adds bodies adds place command control (Err kind) items = ([], refl)
-command_adds bodies adds place command control (Ok later) items =
-    goes_on_more (one_more (performed place command) ([], refl))
-    (body_adds bodies adds command control (body_run control later) (performed place command ∷ items))
 
 kept_adds : (kept : Bool) (items : List Item) (u : Unfolding) → GoesOn items u.items
     → GoesOn items (if kept then goes_on items else u).items
 kept_adds true items u a = ([], refl)
 kept_adds false items u a = a
 
-add_adds : (dpi : Dpi) (bodies : Bodies) → BodiesAdd bodies → (place : ℕ) (command : Said) (items : List Item)
-    → GoesOn items (add dpi bodies place command items).items
-add_adds dpi bodies adds place command items =
-    kept_adds (is_kept command (now dpi items)) items _
-    (command_adds bodies adds place command (control_of command (now dpi items)) (after_command dpi place command (now dpi items)) items)
+module _ (dpi : Dpi) (bodies : Bodies) (adds : BodiesAdd bodies) where
+  body_adds : (command : Said) (control : Option Action) (body : Option MacroBody) (items : List Item)
+      → GoesOn items (with_body bodies command control body items).items
+  body_adds command control None items = ([], refl)
+  body_adds command control (Some body) items = adds command control body items
 
--- what stands between a macro's start and its end, where the macros that it runs add
-within : (dpi : Dpi) (bodies : Bodies) → BodiesAdd bodies → (all : List Said) (body : MacroBody) (items : List Item)
-    → GoesOn items (in_turn (add dpi bodies) body.from (commands_in all body) items).items
-within dpi bodies adds all body items =
-    turn_adds (add dpi bodies) (λ place command later. add_adds dpi bodies adds place command later) body.from (commands_in all body) items
+  command_adds : (place : ℕ) (command : Said) (control : Option Action) (led : Result Situation Kind) (items : List Item)
+      → GoesOn items (with_command bodies place command control led items).items
+  command_adds place command control (Err kind) items = ([], refl)
+  command_adds place command control (Ok later) items =
+      goes_on_more (one_more (performed place command) ([], refl)) (body_adds command control (body_run control later) _)
 
-unfolded_adds : (levels : ℕ) (dpi : Dpi) (all : List Said) → BodiesAdd (unfolded levels dpi all)
+  add_adds : (place : ℕ) (command : Said) (items : List Item) → GoesOn items (add dpi bodies place command items).items
+  add_adds place command items =
+      let control = control_of command (now dpi items) in
+      kept_adds (is_kept command (now dpi items)) items (with_command bodies place command control _ items)
+      (command_adds place command control (after_command dpi place command (now dpi items)) items)
+
+  -- what stands between a macro's start and its end, where the macros that it runs add
+  pub within : (all : List Said) (body : MacroBody) (items : List Item)
+      → GoesOn items (in_turn (add dpi bodies) body.from (commands_in all body) items).items
+  within all body items = turn_adds (add dpi bodies) add_adds body.from (commands_in all body) items
+
+pub unfolded_adds : (levels : ℕ) (dpi : Dpi) (all : List Said) → BodiesAdd (unfolded levels dpi all)
 unfolded_adds zero dpi all command control body items = ([], refl)
 unfolded_adds (suc levels) dpi all command control body items =
     let inner = in_turn (add dpi (unfolded levels dpi all)) body.from (commands_in all body) (enter ∷ items) in
@@ -80,19 +78,11 @@ unfolded_adds (suc levels) dpi all command control body items =
     (within dpi (unfolded levels dpi all) (unfolded_adds levels dpi all) all body (enter ∷ items)))
     (one_more (end_of control (length inner.items - length (enter ∷ items))) ([], refl))
 
-pub body_within : (levels : ℕ) (dpi : Dpi) (all : List Said) (body : MacroBody) (items : List Item)
-    → GoesOn items (in_turn (add dpi (unfolded levels dpi all)) body.from (commands_in all body) items).items
-body_within levels dpi all body items = within dpi (unfolded levels dpi all) (unfolded_adds levels dpi all) all body items
-
 -- ---- the look back
-
-ago_same : {n m : ℕ} (past : List Situation) → n ≡ m → ago n past ≡ ago m past
-ago_same past e = ap (λ (k : ℕ). ago k past) e
 
 pub looked_back : (dpi : Dpi) (more old : List Item)
     → ago (length (more ++ old) - length old) (situations dpi (more ++ old)) ≡ now dpi old
-looked_back dpi [] old = ago_same (situations dpi old) (let none : length old - length old ≡ 0 = omega arith in none)
+looked_back dpi [] old = let none : length old - length old ≡ 0 = omega arith in rw none refl
 looked_back dpi (item ∷ more) old =
-    let long = length-append more old in
-    let next : length (item ∷ (more ++ old)) - length old ≡ suc (length (more ++ old) - length old) = omega (arith, long) in
-    ago_same (situations dpi (item ∷ (more ++ old))) next ∙ looked_back dpi more old
+    let next : length (item ∷ (more ++ old)) - length old ≡ suc (length (more ++ old) - length old) =
+    omega (arith, length-append more old) in rw next (looked_back dpi more old)

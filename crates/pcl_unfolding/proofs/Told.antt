@@ -1,6 +1,6 @@
 -- Performing and unfolding say the same.
 use Rattle.std.proofs.Common.{◌≡◌, ℕ, ◌+◌, ◌-◌, zero, suc, Bool, true, false, List, [], ◌∷◌, length, Option, Some, None, Result, Ok, Err, refl, sym, ap, subst, ◌∙◌, if◌then◌else◌}
-use Rattle.std.specs.Prelude.{is_some, ◌&&◌}
+use Rattle.std.specs.Prelude.{◌&&◌}
 use Rattle.std.specs.Option.{option_map}
 use Rattle.pcl_base.specs.declared.dpi.Dpi.{Dpi}
 use Rattle.pcl_base.specs.declared.kind.Kind.{Kind}
@@ -14,14 +14,14 @@ use Rattle.pcl_env.specs.Settings.{Settings, kept}
 use Rattle.pcl_escape.specs.Said.{Said}
 use Rattle.pcl_macros.specs.History.{MacroBody}
 use Rattle.pcl_page.specs.declared.macros.Action.{Action}
-use Rattle.pcl_page.specs.declared.macros.Action.TheVariants.{Begin, End, Execute, Call, Control}
+use Rattle.pcl_page.specs.declared.macros.Action.TheVariants.{Call}
 use Rattle.pcl_page.specs.declared.macros.Keeping.{Keeping}
-use Rattle.pcl_page.specs.declared.macros.Keeping.TheVariants.{Kept, Ends, Refused}
+use Rattle.pcl_page.specs.declared.macros.Keeping.TheVariants.{Ends}
 use Rattle.pcl_page.specs.Situation.{Situation}
 use Rattle.pcl_page.specs.Macros.{Run, run_with, run_by, run_from, macro_ended, keeping_of, counting, defining, after_command}
 use Rattle.pcl_page.specs.Performing.{Performance, done, then_on, unless as unless_performed, in_order, concluded, and_run, step, runs, after_end}
 use Rattle.pcl_unfolding.specs.FlatList.{Item, performed, enter, situations, now, ago, or_as_before, Unfolding, goes_on, unless, in_turn, keeps, control_in, body_run, commands_in, Bodies, with_body, with_command, add, ended_by, unfolded, performed_by, PerformingIsUnfolding}
-use Rattle.pcl_unfolding.proofs.Added.{GoesOn, body_within, looked_back}
+use Rattle.pcl_unfolding.proofs.Added.{GoesOn, within, unfolded_adds, looked_back}
 
 -- ---- one after the other
 
@@ -40,8 +40,7 @@ turn_told dpi perform add_one told place [] items = refl
 turn_told dpi perform add_one told place (command ∷ commands) items =
     let first = add_one place command items in
     ap (λ (p : Performance). then_on p (in_order perform (place + 1) commands)) (told place command items)
-    ∙ told_on dpi first.refusal first.items (in_order perform (place + 1) commands) (in_turn add_one (place + 1) commands)
-    (turn_told dpi perform add_one told (place + 1) commands first.items)
+    ∙ told_on dpi first.refusal first.items _ _ (turn_told dpi perform add_one told (place + 1) commands first.items)
 
 -- ---- the macro that a command runs
 
@@ -54,12 +53,8 @@ abbrev run_with_body : Option Action → Situation → Option Run
 run_with_body control s = option_map (run_with (saved_by control s)) (body_run control s)
 
 run_is_by : (control : Option Action) (s : Situation) → run_by control s ≡ run_with_body control s
-run_is_by None s = refl
-run_is_by (Some Begin) s = refl
-run_is_by (Some End) s = refl
-run_is_by (Some Execute) s = refl
 run_is_by (Some Call) s = refl
-run_is_by (Some (Control what)) s = refl
+run_is_by other s = refl
 
 -- ---- one command
 
@@ -68,32 +63,10 @@ abbrev pub AreTold : Dpi → (Said → Run → Situation → Performance) → Bo
 AreTold dpi run bodies = (command : Said) (control : Option Action) (body : MacroBody) (items : List Item)
     → run command (run_with (saved_by control (now dpi items)) body) (now dpi items) ≡ performed_by dpi (bodies command control body items)
 
-body_told : (dpi : Dpi) (run : Said → Run → Situation → Performance) (bodies : Bodies) → AreTold dpi run bodies
-    → (command : Said) (control : Option Action) (body : Option MacroBody) (items : List Item)
-    → and_run (run command) (option_map (run_with (saved_by control (now dpi items))) body) (now dpi items)
-    ≡ performed_by dpi (with_body bodies command control body items)
-body_told dpi run bodies told command control None items = refl
-body_told dpi run bodies told command control (Some body) items = told command control body items
-
--- a command by what it leads to
-led_told : (dpi : Dpi) (run : Said → Run → Situation → Performance) (bodies : Bodies) → AreTold dpi run bodies
-    → (place : ℕ) (command : Said) (control : Option Action) (items : List Item) (led : Result Situation Kind)
-    → after_command dpi place command (now dpi items) ≡ led
-    → then_on (concluded command (now dpi items) led) (λ (later : Situation). and_run (run command) (run_with_body control later) later)
-    ≡ performed_by dpi (with_command bodies place command control led items)
-led_told dpi run bodies told place command control items (Err kind) e = refl
-led_told dpi run bodies told place command control items (Ok later) e =
-    let list = performed place command ∷ items in
-    let here : now dpi list ≡ later = ap (or_as_before (now dpi items)) e in
-    subst (λ (s : Situation). and_run (run command) (run_with_body control s) s
-    ≡ performed_by dpi (with_body bodies command control (body_run control s) list)) here
-    (body_told dpi run bodies told command control (body_run control (now dpi list)) list)
-
 from_told : (operation : Option Operation) (value : Value) (s : Situation)
     → run_from operation value s ≡ run_with_body (control_in operation value) s
-from_told None value s = refl
 from_told (Some ControlMacros) value s = run_is_by (control_in (Some ControlMacros) value) s
-from_told (Some _) value s = refl
+from_told other value s = refl
 
 -- the same macro is run
 later_told : (run : Said → Run → Situation → Performance) (command : Said) {one other : Situation → Option Run}
@@ -101,54 +74,58 @@ later_told : (run : Said → Run → Situation → Performance) (command : Said)
     → then_on (concluded command s led) (λ (later : Situation). and_run (run command) (one later) later)
     ≡ then_on (concluded command s led) (λ (later : Situation). and_run (run command) (other later) later)
 later_told run command same s (Err kind) = refl
-later_told run command same s (Ok later) = ap (λ (r : Option Run). and_run (run command) r later) (same later)
+later_told run command same s (Ok later) = rw (same later) refl
 
--- in a definition or outside
-step_by : (dpi : Dpi) (run : Said → Run → Situation → Performance) (bodies : Bodies) → AreTold dpi run bodies
-    → (place : ℕ) (command : Said) (items : List Item) (begun : Bool) (keeping : Keeping)
-    → after_command dpi place command (now dpi items)
-    ≡ (if begun then defining dpi place keeping command (now dpi items) else counting dpi place command (now dpi items))
-    → then_on
-    (concluded command (now dpi items)
-    (if begun then defining dpi place keeping command (now dpi items) else counting dpi place command (now dpi items)))
-    (λ (later : Situation).
-    and_run (run command) (if begun then None else run_from (operation_of command.name) command.value later) later)
-    ≡ performed_by dpi (if begun && keeps keeping then goes_on items else with_command bodies place command
-    (if begun then None else control_in (operation_of command.name) command.value)
-    (if begun then defining dpi place keeping command (now dpi items) else counting dpi place command (now dpi items)) items)
-step_by dpi run bodies told place command items true Kept e = refl
-step_by dpi run bodies told place command items true Ends e = led_told dpi run bodies told place command None items
-    (counting dpi place command (now dpi items)) e
-step_by dpi run bodies told place command items true (Refused kind) e = refl
-step_by dpi run bodies told place command items false keeping e =
-    let led = counting dpi place command (now dpi items) in
-    let control = control_in (operation_of command.name) command.value in
-    later_told run command (λ later. from_told (operation_of command.name) command.value later) (now dpi items) led
-    ∙ led_told dpi run bodies told place command control items led e
+module _ (dpi : Dpi) (run : Said → Run → Situation → Performance) (bodies : Bodies) (told : AreTold dpi run bodies) where
+  body_told : (command : Said) (control : Option Action) (body : Option MacroBody) (items : List Item)
+      → and_run (run command) (option_map (run_with (saved_by control (now dpi items))) body) (now dpi items)
+      ≡ performed_by dpi (with_body bodies command control body items)
+  body_told command control None items = refl
+  body_told command control (Some body) items = told command control body items
 
-step_told : (dpi : Dpi) (run : Said → Run → Situation → Performance) (bodies : Bodies) → AreTold dpi run bodies
-    → (place : ℕ) (command : Said) (items : List Item)
-    → step dpi run place command (now dpi items) ≡ performed_by dpi (add dpi bodies place command items)
-step_told dpi run bodies told place command items =
-    step_by dpi run bodies told place command items (is_some (now dpi items).begun)
-    (keeping_of (operation_of command.name) command.value) refl
+  -- a command by what it leads to
+  led_told : (place : ℕ) (command : Said) (control : Option Action) (items : List Item) (led : Result Situation Kind)
+      → after_command dpi place command (now dpi items) ≡ led
+      → then_on (concluded command (now dpi items) led) (λ (later : Situation). and_run (run command) (run_with_body control later) later)
+      ≡ performed_by dpi (with_command bodies place command control led items)
+  led_told place command control items (Err kind) e = refl
+  led_told place command control items (Ok later) e =
+      let here : now dpi (performed place command ∷ items) ≡ later = ap (or_as_before (now dpi items)) e in
+      rw (← here) (body_told command control _ (performed place command ∷ items))
+
+  -- in a definition or outside
+  step_by : (place : ℕ) (command : Said) (items : List Item) (begun : Bool) (keeping : Keeping)
+      → after_command dpi place command (now dpi items)
+      ≡ (if begun then defining dpi place keeping command (now dpi items) else counting dpi place command (now dpi items))
+      → then_on (concluded command (now dpi items)
+      (if begun then defining dpi place keeping command (now dpi items) else counting dpi place command (now dpi items)))
+      (λ (later : Situation).
+      and_run (run command) (if begun then None else run_from (operation_of command.name) command.value later) later)
+      ≡ performed_by dpi (if begun && keeps keeping then goes_on items else with_command bodies place command
+      (if begun then None else control_in (operation_of command.name) command.value)
+      (if begun then defining dpi place keeping command (now dpi items) else counting dpi place command (now dpi items)) items)
+  step_by place command items true Ends e = led_told place command None items _ e
+  step_by place command items true other e = refl
+  step_by place command items false keeping e =
+      later_told run command (λ later. from_told (operation_of command.name) command.value later) (now dpi items) _
+      ∙ led_told place command (control_in (operation_of command.name) command.value) items _ e
+
+  step_told : (place : ℕ) (command : Said) (items : List Item)
+      → step dpi run place command (now dpi items) ≡ performed_by dpi (add dpi bodies place command items)
+  step_told place command items = step_by place command items _ (keeping_of (operation_of command.name) command.value) refl
 
 -- ---- macros
 
 -- the end of a macro finds the situation at its start
 end_told : (dpi : Dpi) (control : Option Action) (items inner : List Item) → GoesOn (enter ∷ items) inner
     → done (macro_ended dpi (saved_by control (now dpi items)) (now dpi inner)) ≡ performed_by dpi (ended_by control (enter ∷ items) inner)
-end_told dpi None items inner goes = refl
-end_told dpi (Some Begin) items inner goes = refl
-end_told dpi (Some End) items inner goes = refl
-end_told dpi (Some Execute) items inner goes = refl
-end_told dpi (Some (Control what)) items inner goes = refl
 end_told dpi (Some Call) items inner goes =
     let begun = enter ∷ items in
     let back : ago (length inner - length begun) (situations dpi inner) ≡ now dpi items =
     subst (λ (list : List Item). ago (length list - length begun) (situations dpi list) ≡ now dpi items) (sym goes.1)
     (looked_back dpi goes.0 begun) in
-    ap (λ (s : Situation). done (macro_ended dpi (Some (kept s.settings)) (now dpi inner))) (sym back)
+    rw back refl
+end_told dpi other items inner goes = refl
 
 runs_told : (levels : ℕ) (dpi : Dpi) (all : List Said) → AreTold dpi (runs levels dpi all) (unfolded levels dpi all)
 runs_told zero dpi all command control body items = refl
@@ -157,10 +134,9 @@ runs_told (suc levels) dpi all command control body items =
     let ends = λ (later : Situation). done (macro_ended dpi (saved_by control (now dpi items)) later) in
     ap (λ (p : Performance). then_on p ends)
     (turn_told dpi (step dpi (runs levels dpi all)) (add dpi (unfolded levels dpi all))
-    (λ place one list. step_told dpi (runs levels dpi all) (unfolded levels dpi all) (runs_told levels dpi all) place one list) body.from
-    (commands_in all body) (enter ∷ items))
+    (step_told dpi _ (unfolded levels dpi all) (runs_told levels dpi all)) body.from (commands_in all body) (enter ∷ items))
     ∙ told_on dpi inner.refusal inner.items ends (ended_by control (enter ∷ items))
-    (end_told dpi control items inner.items (body_within levels dpi all body (enter ∷ items)))
+    (end_told dpi control items inner.items (within dpi (unfolded levels dpi all) (unfolded_adds levels dpi all) all body (enter ∷ items)))
 
 -- ---- a job
 
@@ -168,5 +144,4 @@ pub performing_told : PerformingIsUnfolding
 performing_told dpi end commands =
     ap (λ (p : Performance). then_on p (after_end dpi end))
     (turn_told dpi (step dpi (runs macro_limit dpi commands)) (add dpi (unfolded macro_limit dpi commands))
-    (λ place command items. step_told dpi (runs macro_limit dpi commands) (unfolded macro_limit dpi commands)
-    (runs_told macro_limit dpi commands) place command items) 0 commands [])
+    (step_told dpi _ (unfolded macro_limit dpi commands) (runs_told macro_limit dpi commands)) 0 commands [])
