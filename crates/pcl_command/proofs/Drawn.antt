@@ -1,10 +1,10 @@
 -- Faults that come of an image.
-use Rattle.std.proofs.Common.{List, ℕ, Option, Some, None, Result, Ok, Err, inl, inr, refl, sym, subst}
+use Rattle.std.proofs.Common.{List, ℕ, Option, Some, Result, Ok, Err, inl, inr, refl, sym, subst}
 use Rattle.std.specs.Borrow.{Bor}
 use Rattle.pcl_base.specs.declared.dpi.Dpi.{Dpi}
 use Rattle.pcl_bitmap.specs.Bitmap.{Picture}
 use Rattle.pcl_tool.specs.declared.fault.Fault.{Fault}
-use Rattle.pcl_tool.specs.declared.fault.Fault.TheVariants.{Refused, Memory, ReadFault, TooLong, WriteFault, NoSuchPage}
+use Rattle.pcl_tool.specs.declared.fault.Fault.TheVariants.{Memory, WriteFault}
 use Rattle.pcl_tool.specs.Image.{IsImageWritten}
 use Rattle.pcl_command.specs.declared.files.FileFault.{FileFault}
 use Rattle.pcl_command.specs.declared.files.FileFault.TheVariants as file
@@ -15,10 +15,7 @@ use Rattle.pcl_command.specs.DifferenceImages.{IsDifferingPage, IsImageMade, IsD
 abbrev pub IsImageFault : Fault → Type 0
 IsImageFault WriteFault = Unit {0}
 IsImageFault Memory = Unit {0}
-IsImageFault ReadFault = ⊥
-IsImageFault TooLong = ⊥
-IsImageFault (Refused refusal) = ⊥
-IsImageFault NoSuchPage = ⊥
+IsImageFault other = ⊥
 
 abbrev IsUndrawn : Result (Unit {0}) Fault → Type 0
 IsUndrawn (Err fault) = IsImageFault fault
@@ -28,14 +25,11 @@ written_fault : (old new : Option (List ℕ)) (image : Picture) (fault : Fault) 
     → IsImageFault fault
 written_fault old new image WriteFault w = tt
 written_fault old new image Memory w = tt
-written_fault old new image ReadFault w = w
-written_fault old new image TooLong w = w
-written_fault old new image (Refused refusal) w = w
-written_fault old new image NoSuchPage w = w
+written_fault old new image other w = w
 
 unmade_fault : (why : FileFault) → IsImageFault (write_fault_of why)
 unmade_fault file.Memory = tt
-unmade_fault file.System = tt
+unmade_fault other = tt
 
 made_fault : {F : Type 0} (acts : F → FileAct → F → Type 0) (name : List ℕ) (image : Picture) (files kept : F) (fault : Fault)
     → IsImageMade acts name image files kept (Err fault) → IsImageFault fault
@@ -46,18 +40,12 @@ pub drawn_fault : {F : Type 0} (acts : F → FileAct → F → Type 0) (name : O
     (first second : List ℕ) (files kept : F) (fault : Fault) → IsDrawnTo acts name number dpi first second files kept (Err fault)
     → IsImageFault fault
 drawn_fault acts (Some name) (Some number) dpi first second files kept fault (inl m) = subst IsUndrawn (sym m.1) tt
-drawn_fault acts (Some name) (Some number) dpi first second files kept fault (inr m) =
-    made_fault acts name.now m.0 files kept fault m.2
-drawn_fault acts (Some name) None dpi first second files kept fault m = subst IsUndrawn (sym m.1) tt
-drawn_fault acts None number dpi first second files kept fault m = subst IsUndrawn (sym m.1) tt
+drawn_fault acts (Some name) (Some number) dpi first second files kept fault (inr m) = made_fault acts name.now m.0 files kept fault m.2
+drawn_fault acts name number dpi first second files kept fault m = subst IsUndrawn (sym m.1) tt
 
 -- an image that can't be drawn
 pub undrawn : {F : Type 0} (acts : F → FileAct → F → Type 0) (name : Bor (List ℕ)) (number : ℕ) (dpi : Dpi) (first second : List ℕ)
     (files : F) (fault : Fault) → IsDifferingPage dpi first second number (Err fault)
     → IsDrawnTo acts (Some name) (Some number) dpi first second files files (Err fault)
 undrawn acts name number dpi first second files Memory d = inl (refl, refl)
-undrawn acts name number dpi first second files ReadFault d = absurd d
-undrawn acts name number dpi first second files TooLong d = absurd d
-undrawn acts name number dpi first second files WriteFault d = absurd d
-undrawn acts name number dpi first second files NoSuchPage d = absurd d
-undrawn acts name number dpi first second files (Refused refusal) d = absurd d
+undrawn acts name number dpi first second files other d = absurd d

@@ -2,7 +2,7 @@
 use Rattle.std.proofs.Common.{List, ℕ, Result, Ok, Err, inl, inr, sym, subst}
 use Rattle.std.specs.Global.{Vec}
 use Rattle.pcl_tool.specs.declared.fault.Fault.{Fault}
-use Rattle.pcl_tool.specs.declared.fault.Fault.TheVariants.{Refused, Memory, ReadFault, TooLong, WriteFault, NoSuchPage}
+use Rattle.pcl_tool.specs.declared.fault.Fault.TheVariants.{Memory, ReadFault, TooLong}
 use Rattle.pcl_command.specs.Files.{FileAct}
 use Rattle.pcl_command.specs.Checks.{IsFileRead}
 
@@ -11,9 +11,7 @@ abbrev pub IsReadFault : Fault → Type 0
 IsReadFault ReadFault = Unit {0}
 IsReadFault TooLong = Unit {0}
 IsReadFault Memory = Unit {0}
-IsReadFault (Refused refusal) = ⊥
-IsReadFault WriteFault = ⊥
-IsReadFault NoSuchPage = ⊥
+IsReadFault other = ⊥
 
 abbrev IsFailedRead : Result (Vec ℕ) Fault → Type 0
 IsFailedRead (Err fault) = IsReadFault fault
@@ -25,6 +23,4 @@ read_fault acts files name fault (inl r) = subst IsFailedRead (sym r.1) tt
 read_fault acts files name ReadFault (inr r) = tt
 read_fault acts files name TooLong (inr r) = tt
 read_fault acts files name Memory (inr r) = tt
-read_fault acts files name (Refused refusal) (inr r) = r.3
-read_fault acts files name WriteFault (inr r) = r.3
-read_fault acts files name NoSuchPage (inr r) = r.3
+read_fault acts files name other (inr r) = r.3

@@ -9,11 +9,10 @@ use Rattle.pcl_escape.specs.Said.{Said}
 use Rattle.pcl_escape.specs.Pieces.{IsReading}
 use Rattle.pcl_escape.proofs.Again.{reading_again, fault_found_of}
 use Rattle.pcl_page.specs.Situation.{Sheet}
-use Rattle.pcl_page.specs.Performing.{pages_of}
-use Rattle.pcl_page.specs.Jobs.{HasPages, performance_of}
+use Rattle.pcl_page.specs.Jobs.{HasPages}
 use Rattle.pcl_page.specs.Delivering.{IsRefusal}
 use Rattle.pcl_tool.specs.declared.fault.Fault.{Fault}
-use Rattle.pcl_tool.specs.declared.fault.Fault.TheVariants.{Refused, Memory, ReadFault, TooLong, WriteFault, NoSuchPage}
+use Rattle.pcl_tool.specs.declared.fault.Fault.TheVariants.{Refused, Memory, NoSuchPage}
 use Rattle.pcl_tool.specs.Preview.{HasPage, HasNoPage, IsPageDots}
 use Rattle.pcl_same.proofs.OneAnswer.{alike_count}
 use Rattle.pcl_command.specs.DifferenceImages.{DifferInDots, IsDifferingPage}
@@ -24,15 +23,12 @@ same_commands : {job : List ℕ} {commands others : List Said} → IsReading job
 same_commands r s = let a = reading_again r in let b = reading_again s in cc
 
 same_pages : {dpi : Dpi} {job : List ℕ} {pages others : List Sheet} → HasPages dpi job pages → HasPages dpi job others → pages ≡ others
-same_pages {dpi} {job} p q =
-    p.ejected ∙ ap (λ (commands : List Said). pages_of (performance_of dpi job commands)) (same_commands p.reading q.reading)
-    ∙ sym q.ejected
+same_pages p q = p.ejected ∙ rw (same_commands p.reading q.reading) (sym q.ejected)
 
 not_refused : (dpi : Dpi) (job : List ℕ) {pages : List Sheet} (refusal : Refusal) → HasPages dpi job pages → IsRefusal dpi job refusal → ⊥
 not_refused dpi job refusal p (inl f) = let a = reading_again p.reading in let b = fault_found_of f in absurd cc
 not_refused dpi job refusal p (inr s) =
-    let e = ap (λ (commands : List Said). (performance_of dpi job commands).refusal) (same_commands p.reading s.reading) in
-    let n = sym p.accepted ∙ e ∙ s.refused in absurd cc
+    let accepted = rw (same_commands p.reading s.reading) at p.accepted in let refused = s.refused in absurd cc
 
 -- ---- the page of a number
 
@@ -41,7 +37,7 @@ at_seam [] after page = refl
 at_seam (sheet ∷ before) after page = at_seam before after page
 
 -- the job is accepted, and this is its page of this number
-record Numbers (dpi : Dpi) (job : List ℕ) (number : ℕ) (page : Sheet) : Type 0 where
+pub record Numbers (dpi : Dpi) (job : List ℕ) (number : ℕ) (page : Sheet) : Type 0 where
   before : List Sheet
   after : List Sheet
   meaning : HasPages dpi job (before ++ page ∷ after)
@@ -50,11 +46,9 @@ record Numbers (dpi : Dpi) (job : List ℕ) (number : ℕ) (page : Sheet) : Type
 has_size : {dpi : Dpi} {job : List ℕ} {number : ℕ} {page : Sheet} {picture : Picture} → Numbers dpi job number page
     → HasPage dpi job number picture → (picture.size ≡ page.size) × (picture.dpi ≡ dpi)
 has_size {dpi} {number} {page} {picture} n h =
-    let at : h.pages ≡ n.before ++ page ∷ n.after = same_pages h.meaning n.meaning in
     let place : number - 1 ≡ length n.before = omega (arith, n.counted) in
     let some : Some h.sheet ≡ Some page =
-    sym h.chosen ∙ ap (λ (pages : List Sheet). slice_get pages (number - 1)) at
-    ∙ ap (slice_get (n.before ++ page ∷ n.after)) place ∙ at_seam n.before n.after page in
+    sym h.chosen ∙ rw (same_pages h.meaning n.meaning, place) (at_seam n.before n.after page) in
     let sheet : h.sheet ≡ page = cc in (
       ap (λ (p : Picture). p.size) h.dots ∙ h.page.size_is ∙ h.shows.size ∙ ap (λ (s : Sheet). s.size) sheet,
       ap (λ (p : Picture). p.dpi) h.dots ∙ h.page.dpi_is ∙ h.shows.resolution,
@@ -69,14 +63,15 @@ is_there {number} {page} n h =
 -- ---- two jobs
 
 -- the pages of this number, of one size
-record BothNumber (dpi : Dpi) (first second : List ℕ) (number : ℕ) : Type 0 where
+pub record BothNumber (dpi : Dpi) (first second : List ℕ) (number : ℕ) : Type 0 where
   page : Sheet
-  page_is : Numbers dpi first number page
+  pub page_is : Numbers dpi first number page
   other : Sheet
-  other_is : Numbers dpi second number other
+  pub other_is : Numbers dpi second number other
   size : page.size ≡ other.size
 
-both_number : (dpi : Dpi) (first second : List ℕ) (number : ℕ) → DifferInDots dpi first second number → BothNumber dpi first second number
+pub both_number : (dpi : Dpi) (first second : List ℕ) (number : ℕ) → DifferInDots dpi first second number
+    → BothNumber dpi first second number
 both_number dpi first second number d =
     let c = d.2 in
     let f = c.compare.1 in
@@ -98,28 +93,15 @@ both_number dpi first second number d =
       size = f.differ.0;
     }
 
-page_fails : (dpi : Dpi) (job first second : List ℕ) (number : ℕ) {page : Sheet} (fault : Fault) → Numbers dpi job number page
+pub page_fails : (dpi : Dpi) (job first second : List ℕ) (number : ℕ) {page : Sheet} (fault : Fault) → Numbers dpi job number page
     → IsPageDots dpi job number (Err fault) → IsDifferingPage dpi first second number (Err fault)
 page_fails dpi job first second number Memory n p = tt
 page_fails dpi job first second number (Refused refusal) n p = absurd (not_refused dpi job refusal n.meaning p)
 page_fails dpi job first second number NoSuchPage n p = absurd (is_there n p)
-page_fails dpi job first second number ReadFault n p = absurd p
-page_fails dpi job first second number TooLong n p = absurd p
-page_fails dpi job first second number WriteFault n p = absurd p
-
-pub first_fails : (dpi : Dpi) (first second : List ℕ) (number : ℕ) (fault : Fault) → DifferInDots dpi first second number
-    → IsPageDots dpi first number (Err fault) → IsDifferingPage dpi first second number (Err fault)
-first_fails dpi first second number fault d p =
-    page_fails dpi first first second number fault (both_number dpi first second number d).page_is p
-
-pub second_fails : (dpi : Dpi) (first second : List ℕ) (number : ℕ) (fault : Fault) → DifferInDots dpi first second number
-    → IsPageDots dpi second number (Err fault) → IsDifferingPage dpi first second number (Err fault)
-second_fails dpi first second number fault d p =
-    page_fails dpi second first second number fault (both_number dpi first second number d).other_is p
+page_fails dpi job first second number other n p = absurd p
 
 pub same_size : (dpi : Dpi) (first second : List ℕ) (number : ℕ) {one other : Picture} → DifferInDots dpi first second number
     → HasPage dpi first number one → HasPage dpi second number other → (one.size ≡ other.size) × (one.dpi ≡ other.dpi)
 same_size dpi first second number d p q =
     let both = both_number dpi first second number d in
-    let one_is = has_size both.page_is p in
-    let other_is = has_size both.other_is q in (one_is.0 ∙ both.size ∙ sym other_is.0, one_is.1 ∙ sym other_is.1)
+    let one_is = has_size both.page_is p in let other_is = has_size both.other_is q in (cc both.size, cc)

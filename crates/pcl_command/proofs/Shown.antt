@@ -1,8 +1,8 @@
 -- What was read and written where pages are shown.
-use Rattle.std.proofs.Common.{◌≤◌, ℕ, List, Option, Result, Ok, Err, length, arith}
+use Rattle.std.proofs.Common.{◌≤◌, ℕ, List, Option, Result, Err, length, arith}
 use Rattle.pcl_base.specs.declared.dpi.Dpi.{Dpi}
 use Rattle.pcl_tool.specs.declared.fault.Fault.{Fault}
-use Rattle.pcl_tool.specs.declared.fault.Fault.TheVariants.{Refused, Memory, ReadFault, TooLong, WriteFault, NoSuchPage}
+use Rattle.pcl_tool.specs.declared.fault.Fault.TheVariants.{Memory, ReadFault, TooLong}
 use Rattle.pcl_tool.specs.Minimizing.{IsRead, input_limit}
 use Rattle.pcl_tool.specs.declared.page_images.PageChoice.{PageChoice}
 use Rattle.pcl_tool.specs.PageImages.{IsPagesPreview}
@@ -12,10 +12,7 @@ use Rattle.pcl_command.specs.Runs.{IsPreviewRun}
 pub shown : (dpi : Dpi) (choice : PageChoice) {given left : Option (List ℕ)} (old new : Option (List ℕ)) {job : List ℕ}
     (result : Result (Unit {0}) Fault) → IsRead given left job → length job ≤ input_limit
     → IsPagesPreview dpi job choice old new result → IsPreviewRun dpi choice given left old new result
-shown dpi choice old new {job} (Ok done) read short p = (job, read, p)
 shown dpi choice old new {job} (Err Memory) read short p = ((job, read.given, omega (arith, short)), p)
-shown dpi choice old new {job} (Err WriteFault) read short p = (job, read, p)
-shown dpi choice old new {job} (Err (Refused refusal)) read short p = (job, read, p)
-shown dpi choice old new {job} (Err NoSuchPage) read short p = (job, read, p)
 shown dpi choice old new (Err ReadFault) read short p = absurd p
 shown dpi choice old new (Err TooLong) read short p = absurd p
+shown dpi choice old new {job} other read short p = (job, read, p)

@@ -1,7 +1,6 @@
 -- What was read and written where a text on a job is.
-use Rattle.std.proofs.Common.{◌≤◌, ◌+◌, ℕ, List, Option, Result, Ok, Err, length, arith}
+use Rattle.std.proofs.Common.{◌≤◌, ℕ, List, Option, Result, Ok, Err, length, arith}
 use Rattle.std.proofs.KnownBytes.{Keeps-refl}
-use Rattle.std.specs.Global.{Vec}
 use Rattle.pcl_base.specs.declared.dpi.Dpi.{Dpi}
 use Rattle.pcl_base.specs.declared.fault.JobFault.{JobFault}
 use Rattle.pcl_base.specs.declared.fault.JobFault.TheVariants as fault
@@ -9,7 +8,7 @@ use Rattle.pcl_base.specs.declared.refusal.Refusal.{Refusal}
 use Rattle.pcl_page.specs.Delivering.{IsRefusal}
 use Rattle.pcl_tool.specs.JobFaults.{fault_of}
 use Rattle.pcl_tool.specs.declared.fault.Fault.{Fault}
-use Rattle.pcl_tool.specs.declared.fault.Fault.TheVariants.{Refused, Memory, ReadFault, TooLong, WriteFault, NoSuchPage}
+use Rattle.pcl_tool.specs.declared.fault.Fault.TheVariants.{Refused, Memory, WriteFault}
 use Rattle.pcl_tool.specs.Minimizing.{IsRead, input_limit}
 use Rattle.pcl_tool.specs.Transfer.{IsWritten}
 use Rattle.pcl_pages.specs.Describing.{IsDescribed}
@@ -22,11 +21,7 @@ pub told : (Tells : List ℕ → List ℕ → Type 0) (Refuses : List ℕ → Re
     → IsWritten old new text result → IsTextRun Tells Refuses given left old new result
 told Tells Refuses old new {job} {text} (Ok done) read t w = (job, text, read, t, w)
 told Tells Refuses old new {job} {text} (Err WriteFault) read t w = (job, text, read, t, w)
-told Tells Refuses old new (Err Memory) read t w = absurd w
-told Tells Refuses old new (Err (Refused refusal)) read t w = absurd w
-told Tells Refuses old new (Err NoSuchPage) read t w = absurd w
-told Tells Refuses old new (Err ReadFault) read t w = absurd w
-told Tells Refuses old new (Err TooLong) read t w = absurd w
+told Tells Refuses old new other read t w = absurd w
 
 -- a job is refused so, or memory ran out
 abbrev pub IsUntold : Dpi → List ℕ → JobFault → Type 0

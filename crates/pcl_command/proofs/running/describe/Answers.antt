@@ -1,8 +1,6 @@
 use Rattle.std.proofs.Common.{List, ℕ, Err, subst}
 use Rattle.std.proofs.lemmas.Result.{err_from_is_err_and}
 use Rattle.pcl_page.specs.Delivering.{IsRefusal}
-use Rattle.pcl_tool.specs.Transfer.{IsWritten}
-use Rattle.pcl_page.specs.Accepting.{IsAccepted}
 use Rattle.pcl_pages.specs.Describing.{IsDescribed}
 use Rattle.pcl_command.specs.Runs.{TellsOfPages}
 use Rattle.pcl_command.proofs.Told.{told, untold, undescribed}
@@ -21,6 +19,4 @@ pub returns : goal.returns
 returns g c =
     let r = c.in_ok-job.ensures in
     told (TellsOfPages c.args.dpi) (IsRefusal c.args.dpi) _ _ _ (record { given = r.0; ended = r.1 })
-    (subst (IsAccepted c.args.dpi) c.deref.ensures.value c.in_ok-text.ensures)
-    (subst (λ (text : List ℕ). IsWritten (g.W.Write.contents c.args.out.now) (g.W.Write.contents c.write_all.new.out) text
-    c.write_all.result) c.deref-3.ensures.value c.write_all.ensures)
+    (rw c.deref.ensures.value at c.in_ok-text.ensures) (rw c.deref-3.ensures.value at c.write_all.ensures)

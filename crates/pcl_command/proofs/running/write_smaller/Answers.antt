@@ -1,7 +1,6 @@
 use Rattle.std.proofs.Common.{List, ℕ, Err, subst}
 use Rattle.std.proofs.lemmas.Result.{err_from_is_err_and}
 use Rattle.pcl_page.specs.Delivering.{IsRefusal}
-use Rattle.pcl_tool.specs.Transfer.{IsWritten}
 use Rattle.pcl_shrink.specs.Shrinking.{IsSmallerJob, IsShrunk}
 use Rattle.pcl_command.proofs.Told.{told, untold, unshrunk}
 use Rattle.pcl_command.proofs.running.write_smaller.Goals as goal
@@ -19,7 +18,4 @@ pub returns : goal.returns
 returns g c =
     let r = c.in_ok-job.ensures in
     told (IsSmallerJob c.args.dpi) (IsRefusal c.args.dpi) _ _ _ (record { given = r.0; ended = r.1 })
-    (subst (λ (job : List ℕ). IsSmallerJob c.args.dpi job c.in_ok-shrunk.shrunk.job.items) c.deref.ensures.value
-    c.in_ok-shrunk.ensures.smaller)
-    (subst (λ (text : List ℕ). IsWritten (g.W.Write.contents c.args.out.now) (g.W.Write.contents c.write_all.new.out) text
-    c.write_all.result) c.deref-2.ensures.value c.write_all.ensures)
+    (rw c.deref.ensures.value at c.in_ok-shrunk.ensures.smaller) (rw c.deref-2.ensures.value at c.write_all.ensures)

@@ -1,15 +1,12 @@
 use Rattle.std.proofs.Common.{◌≡◌, refl}
 use Rattle.pcl_tool.specs.declared.job_verdict.JobVerdict.{JobVerdict}
-use Rattle.pcl_tool.specs.declared.job_verdict.JobVerdict.TheVariants.{Certificate, PageCount, Frame, Page, Proved}
+use Rattle.pcl_tool.specs.declared.job_verdict.JobVerdict.TheVariants.{Proved}
 use Rattle.pcl_command.specs.Checks.{verdict_status_for}
 use Rattle.pcl_command.proofs.verdicts.verdict_status.Goals as goal
 
 not_proved : (verdict : JobVerdict) → (verdict ≡ Proved → ⊥) → 1 ≡ verdict_status_for verdict
-not_proved (Certificate fault) other = refl
-not_proved PageCount other = refl
-not_proved Frame other = refl
-not_proved (Page page verdict) other = refl
 not_proved Proved other = absurd (other refl)
+not_proved found other = refl
 
 pub returns-in-Proved : goal.returns-in-Proved
 returns-in-Proved c = rw c.in-Proved.is
