@@ -10,16 +10,11 @@ pub texts_listed : (dpi : Dpi) (sheets : List Sheet) (old : List (List ℕ)) {ne
 texts_listed dpi [] old h = ([], tt, h ∙ sym (append-nil old))
 texts_listed dpi (sheet ∷ sheets) old h =
     let rest = texts_listed dpi sheets h.1 h.4 in
-    let text = h.3.0 in (
-      text ∷ rest.0,
-      ((h.0, h.2, h.3.2), rest.1),
-      rest.2 ∙ ap (λ (ts : List (List ℕ)). ts ++ rest.0) h.3.1 ∙ append_assoc old (text ∷ []) rest.0,
-    )
+    (h.3.0 ∷ rest.0, ((h.0, h.2, h.3.2), rest.1), cc (rest.2, h.3.1, append_assoc old (h.3.0 ∷ []) rest.0))
 
 -- a list that was empty before
 pub texts_from_none : (dpi : Dpi) (sheets : List Sheet) {old : List (List ℕ)} (new : List (List ℕ))
-    → Hands TakesText dpi sheets old new → old ≡ []
-    → AreLeastTexts dpi sheets new
+    → Hands TakesText dpi sheets old new → old ≡ [] → AreLeastTexts dpi sheets new
 texts_from_none dpi sheets {old} new h e =
     let t = texts_listed dpi sheets old h in
     subst (AreLeastTexts dpi sheets) (sym (t.2 ∙ ap (λ (o : List (List ℕ)). o ++ t.0) e)) t.1
@@ -28,6 +23,5 @@ texts_from_none dpi sheets {old} new h e =
 pub as_many_texts : (dpi : Dpi) (sheets : List Sheet) (texts : List (List ℕ)) → AreLeastTexts dpi sheets texts
     → length texts ≡ length sheets
 as_many_texts dpi [] [] least = refl
-as_many_texts dpi [] (text ∷ texts) least = absurd least
-as_many_texts dpi (sheet ∷ sheets) [] least = absurd least
 as_many_texts dpi (sheet ∷ sheets) (text ∷ texts) least = ap suc (as_many_texts dpi sheets texts least.1)
+as_many_texts dpi sheets texts least = absurd least

@@ -37,19 +37,15 @@ answered one found false decides is = unlike one found (λ e. false≢true (deci
 pub refused : OneAnswer → (dpi : Dpi) (job candidate : List ℕ) {fault : JobFault} {refusal : Refusal} → fault ≡ faults.Refused refusal
     → IsComparedBeside dpi job candidate (Err fault) → IsAskedComparison dpi job candidate Same → ⊥
 refused one dpi job candidate {fault} {refusal} is beside same =
-    let why : IsRefusal dpi candidate refusal =
-    subst (λ (f : JobFault). IsComparedBeside dpi job candidate (Err f)) is beside in
-    let equal =
-    one dpi job candidate (Err (Refused Second refusal)) (Ok Same) (same.pages, same.meaning, why) same (λ e. cc) (λ e. cc) in cc
+    let why : IsRefusal dpi candidate refusal = rw is at beside in
+    let equal = one dpi job candidate (Err (Refused Second refusal)) (Ok Same) (_, same.meaning, why) same (λ e. cc) (λ e. cc) in cc
 
 -- ---- what follows of an answer, on bytes that were lent
 
 pub says_same : (dpi : Dpi) (job : List ℕ) {lent bytes : List ℕ} (same : Bool) → same ≡ true → lent ≡ bytes → SaysIfSame dpi job lent same
     → IsAskedComparison dpi job bytes Same
-says_same dpi job {lent} same is there look =
-    subst (λ (bs : List ℕ). IsAskedComparison dpi job bs Same) there (subst (SaysIfSame dpi job lent) is look)
+says_same dpi job same is there look = rw there at (rw is at look)
 
 pub says_unlike : (dpi : Dpi) (job : List ℕ) {lent bytes : List ℕ} (same : Bool) → same ≡ false → lent ≡ bytes
     → SaysIfSame dpi job lent same → IsAskedComparison dpi job bytes Same → ⊥
-says_unlike dpi job {lent} same is there look =
-    subst (λ (bs : List ℕ). IsAskedComparison dpi job bs Same → ⊥) there (subst (SaysIfSame dpi job lent) is look)
+says_unlike dpi job same is there look = rw there at (rw is at look)

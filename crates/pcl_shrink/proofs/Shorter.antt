@@ -1,5 +1,5 @@
 -- The shorter of the best job so far and a proposal, and what comes of it.
-use Rattle.std.proofs.Common.{◌≡◌, ℕ, ◌<◌, ◌≤◌, List, length, ◌++◌, refl, sym, ap, ◌∙◌, subst, arith}
+use Rattle.std.proofs.Common.{◌≡◌, ℕ, ◌<◌, ◌≤◌, List, length, ◌++◌, refl, ap, ◌∙◌, arith}
 use Rattle.pcl_base.specs.declared.dpi.Dpi.{Dpi}
 use Rattle.pcl_page.specs.Asks.{Asks}
 use Rattle.pcl_page.specs.Situation.{Sheet}
@@ -39,15 +39,11 @@ pub smaller_job : OnePages → OneAsks → AskNothing → {dpi : Dpi} {job last 
     (texts : List (List ℕ)) → IsBest dpi job last → HasPages dpi job pages → HasAsks dpi job asks → AreLeastTexts dpi pages texts
     → (IsAskedComparison dpi job (asked_job asks texts) Same → length last ≤ length (asked_job asks texts)) → IsSmallerJob dpi job last
 smaller_job one one_asks ask_nothing {dpi} {job} {last} {pages} {asks} texts s meaning asked least shorter =
-    let asks_are : asks ≡ s.asks = one_asks dpi job asks s.asks asked s.asked in
-    let each = subst (λ (ps : List Sheet). AreLeastTexts dpi ps texts) (one dpi job pages s.pages meaning s.meaning) least in
-    let within : IsAskedComparison dpi job (asked_job s.asks texts) Same → length last ≤ length (asked_job s.asks texts) =
-    subst (λ (a : Asks). IsAskedComparison dpi job (asked_job a texts) Same → length last ≤ length (asked_job a texts)) asks_are
-    shorter in
+    let each = rw (one dpi job pages s.pages meaning s.meaning) at least in
+    let within = rw (one_asks dpi job asks s.asks asked s.asked) at shorter in
     let raster = frame_bytes ++ joined texts ++ frame_bytes in
     let w = job_of_texts dpi job frame_bytes (frame_bytes ++ joined texts) raster (joined texts) s.pages s.meaning refl
     (print_each dpi s.pages texts each) refl refl in
-    let pages_are : s.pages ≡ w.pages = one dpi job s.pages w.pages s.meaning w.meaning in
     record {
       pages = s.pages;
       meaning = s.meaning;
@@ -59,11 +55,9 @@ smaller_job one one_asks ask_nothing {dpi} {job} {last} {pages} {asks} texts s m
       raster = raster;
       raster_is = w;
       within_raster = λ nothing.
-          let raster_here : asked_job s.asks texts ≡ raster =
-          ap (λ (a : Asks). asked_job a texts) nothing ∙ job_of_nothing s.pages texts in
-          let same = same_as_raster ask_nothing w s.asks s.asked (nothing ∙ ap nothing_for pages_are) in
-          subst (λ (bytes : List ℕ). length last ≤ length bytes) raster_here
-          (within (subst (λ (bytes : List ℕ). IsAskedComparison dpi job bytes Same) (sym raster_here) same));
+          let raster_here : asked_job s.asks texts ≡ raster = rw nothing (job_of_nothing s.pages texts) in
+          let pages_are = one dpi job s.pages w.pages s.meaning w.meaning in
+          (rw raster_here at within) (same_as_raster ask_nothing w s.asks s.asked (nothing ∙ ap nothing_for pages_are));
       texts = texts;
       least = each;
       within_asked = within;
@@ -80,5 +74,5 @@ pub raster_job : OnePages → OneAsks → AskNothing → {dpi : Dpi} {job best l
     (texts : List (List ℕ)) → HasPages dpi job pages → HasAsks dpi job asks → AreLeastTexts dpi pages texts
     → asked_texts ≡ asked_job asks texts → IsShorter dpi job best asked_texts last → IsBest dpi job best → IsSmallerJob dpi job last
 raster_job one one_asks ask_nothing {dpi} {job} {best} {last} {asks} texts meaning asked least spelled look s =
-    let here = subst (λ (bytes : List ℕ). IsShorter dpi job best bytes last) spelled look in
+    let here = rw spelled at look in
     smaller_job one one_asks ask_nothing texts (here.keeps s) meaning asked least here.takes

@@ -67,19 +67,17 @@ proposal_smaller one one_asks {dpi} {job} {best} {proposal} s looked short = rec
   prints = record {
     again = looked.others;
     accepted = looked.other_meaning;
-    alike = subst (λ (pages : List Sheet). AllAlike dpi pages looked.others)
-        (one dpi job looked.pages s.pages looked.meaning s.meaning) looked.compare;
+    alike = rw (one dpi job looked.pages s.pages looked.meaning s.meaning) at looked.compare;
   };
   asks = looked.asks;
   asked = looked.asked;
   asked_again = subst (HasAsks dpi proposal) (sym looked.compare_asks) looked.other_asked;
-  within_input = let within = s.within_input in omega (arith, within, short);
+  within_input = omega (arith, s.within_input, short);
 }
 
 pub prints_pages : OnePages → (dpi : Dpi) (job output : List ℕ) (pages : List Sheet) → IsSmallerJob dpi job output → HasPages dpi job pages
     → PrintsAlike dpi pages output
-prints_pages one dpi job output pages s meaning =
-    subst (λ (ps : List Sheet). PrintsAlike dpi ps output) (one dpi job s.pages pages s.meaning meaning) s.prints
+prints_pages one dpi job output pages s meaning = rw (one dpi job s.pages pages s.meaning meaning) at s.prints
 
 pub asks_again : OneAsks → (dpi : Dpi) (job output : List ℕ) (asks : Asks) → IsSmallerJob dpi job output → HasAsks dpi job asks
     → HasAsks dpi output asks

@@ -11,8 +11,7 @@ loop-exit-preserved c =
     let i = c.loop-exit.exit-index in
     let old = c.args.out.now.items in
     let mid = c.loop-exit.out.items in
-    let so_far =
-    subst (λ (exits : List Exit). WritesExits number exits i old mid c.loop-exit.found) (sym lent) c.loop-exit.invariant in
+    let so_far = subst (λ (exits : List Exit). WritesExits number exits i old mid c.loop-exit.found) (sym lent) c.loop-exit.invariant in
     subst (λ (exits : List Exit). WritesExits number exits (i + 1) old c.if-exit-pages.out.items c.if-exit-pages.found) lent
     (elim c.if-exit-pages.branch [
       | then-exit-pages+in_ok-append_exit w ↦

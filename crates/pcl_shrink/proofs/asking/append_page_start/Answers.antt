@@ -6,18 +6,14 @@ use Rattle.pcl_shrink.proofs.asking.append_page_start.Goals as goal
 
 pub returns-else-is_left-clause-text : goal.returns-else-is_left-clause-text
 returns-else-is_left-clause-text c =
-    let some = c.in-Some.ensures in
-    let place : suc c.in-Some.before ≡ c.args.page = omega (arith, some.0, some.1) in
-    let exits = c.in_ok-is_left.ensures in
-    starts_later (asks_of c.args.asks.now) c.args.page c.in-Some.before c.in_ok-is_left.is_left c.args.out.now.items
-    c.asked_already-old.result c.asked_at-2.result place exits.found exits.text c.asked_already-old.ensures c.asked_at-2.ensures
+    starts_later (asks_of c.args.asks.now) _ c.in-Some.before _ _ _ _ (omega (arith, c.in-Some.ensures.0, c.in-Some.ensures.1))
+    c.in_ok-is_left.ensures.found c.in_ok-is_left.ensures.text c.asked_already-old.ensures c.asked_at-2.ensures
     c.in_ok-is_reset.ensures.text
 
 pub returns-else-is_left-clause-reset : goal.returns-else-is_left-clause-reset
 returns-else-is_left-clause-reset c =
-    let some = c.in-Some.ensures in
-    let place : suc c.in-Some.before ≡ c.args.page = omega (arith, some.0, some.1) in
+    let place : suc c.in-Some.before ≡ c.args.page = omega (arith, c.in-Some.ensures.0, c.in-Some.ensures.1) in
     subst (λ (left : Bool). (left || c.in_ok-is_reset.is_reset) ≡ is_reset_before (asks_of c.args.asks.now) c.args.page)
     c.if-is_left.false
-    (resets_later (asks_of c.args.asks.now) c.args.page c.in-Some.before c.asked_already-old.result c.asked_at-2.result place
-    c.in_ok-is_left.ensures.found c.asked_already-old.ensures c.asked_at-2.ensures c.in_ok-is_reset.ensures.reset)
+    (resets_later (asks_of c.args.asks.now) _ c.in-Some.before _ _ place c.in_ok-is_left.ensures.found c.asked_already-old.ensures
+    c.asked_at-2.ensures c.in_ok-is_reset.ensures.reset)

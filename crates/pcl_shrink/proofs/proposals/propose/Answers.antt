@@ -1,8 +1,7 @@
-use Rattle.std.proofs.Common.{◌≤◌, List, length, subst, arith}
+use Rattle.std.proofs.Common.{length, arith}
 use Rattle.std.proofs.lemmas.List.{length-map}
 use Rattle.pcl_page.specs.Asks.{asks_of}
 use Rattle.pcl_shrink.specs.declared.rasters.Text.{Text}
-use Rattle.pcl_shrink.specs.Asking.{asked_job}
 use Rattle.pcl_shrink.specs.Texts.{least_of}
 use Rattle.pcl_shrink.proofs.Listed.{as_many_texts}
 use Rattle.pcl_shrink.proofs.proposals.propose.Goals as goal
@@ -11,8 +10,6 @@ pub returns : goal.returns
 returns c =
     let found = c.in_ok-texts.ensures in
     let texts = c.in_ok-texts.texts.items in
-    let counted = as_many_texts c.args.dpi found.0.0 (least_of texts) found.0.2 in
-    let many = c.len-pages.ensures in
     record {
       limit_is = record {
         pages = found.0.0;
@@ -21,8 +18,12 @@ returns c =
         asked = found.1;
         texts = least_of texts;
         least = found.0.2;
-        within = subst (λ (ts : List Text). c.in_ok-limit.limit ≤ length (asked_job (asks_of c.in_ok-texts.found.asks) (least_of ts)))
-            c.deref.ensures.value c.in_ok-limit.ensures;
+        within = rw c.deref.ensures.value at c.in_ok-limit.ensures;
       };
-      counted = omega (arith, many, counted, length-map texts (λ (t : Text). t.least.items));
+      counted = omega (
+        arith,
+        c.len-pages.ensures,
+        as_many_texts c.args.dpi found.0.0 (least_of texts) found.0.2,
+        length-map texts (λ (t : Text). t.least.items),
+      );
     }

@@ -8,8 +8,7 @@ returns c =
     let job = c.args.job.now in
     let kept = c.in_ok-kept.ensures in
     let measured = c.in_ok-proposed.ensures in
-    let looked = c.in_ok-best.ensures kept in
-    let smaller = c.in_ok-best-2.ensures kept measured.limit_is (looked.keeps (input_best kept)) in
+    let smaller = c.in_ok-best-2.ensures kept measured.limit_is ((c.in_ok-best.ensures kept).keeps (input_best kept)) in
     let s = subst (IsSmallerJob c.args.dpi job) (sym c.in_ok-best_or_input.ensures.job) smaller in
     record {
       smaller = s;
