@@ -27,9 +27,7 @@ pub proved_length : (dpi : Dpi) (sheets : List Sheet) (texts : List ℕ) (proofs
     → length texts ≡ text_bytes proofs
 proved_length dpi [] texts [] p = ap length p.1
 proved_length dpi (sheet ∷ sheets) texts (proof ∷ proofs) p =
-    let first = p.1 in
-    let rest = proved_length dpi sheets first.1 proofs (omega (arith, p.0), first.4) in
-    omega (arith, rest, simp length-append at (ap length first.3), first.2.as_long)
+    omega (arith, proved_length dpi sheets p.1.1 proofs (omega (arith, p.0), p.1.4), simp length-append at (ap length p.1.3), p.1.2.as_long)
 proved_length dpi sheets texts proofs p = absurd (omega (arith, p.0))
 
 -- ---- texts that are cut at the same place
@@ -46,21 +44,18 @@ proved_behind (first ∷ before) behind (one ∷ proofs_before) proof proofs_beh
     let those = b.1 in
     let whole : these.0 ++ these.1 ≡ those.0 ++ (those.1 ++ rest) = rw (← these.3, e, those.3, append_assoc) in
     let cut = same_fronts these.0 those.0 (these.2.as_long ∙ sym those.2.as_long) whole in
-    proved_behind before behind proofs_before proof proofs_behind those.1 (omega (arith, b.0), those.4) cut.1
-    (omega (arith, p.0), these.4)
+    proved_behind before behind proofs_before proof proofs_behind those.1 (omega (arith, b.0), those.4) cut.1 (omega (arith, p.0), these.4)
 proved_behind before behind proofs_before proof proofs_behind texts_before none e p = absurd (omega (arith, none.0))
 
 none_fails : {dpi : Dpi} {pages : List Sheet} {texts : List ℕ} {proofs : List PageProof} {number : ℕ} {verdict : Verdict}
     → AreProved dpi pages texts proofs → IsFirstFailure dpi pages texts proofs number verdict → ⊥
 none_fails {verdict} p f =
-    let behind = proved_behind f.pages_before f.pages_behind f.proofs_before f.proof f.proofs_behind f.texts_before f.proved_before
-    f.texts_are (rw (f.pages_are, f.proofs_are) at p) in
-    let here = behind.1 in
+    let here = (proved_behind f.pages_before f.pages_behind f.proofs_before f.proof f.proofs_behind f.texts_before f.proved_before
+    f.texts_are (rw (f.pages_are, f.proofs_are) at p)).1 in
     let is = here.2 in
     let cut = same_fronts f.text here.0 (f.answered.as_long ∙ sym is.as_long) here.3 in
-    f.not_proved
-    (verdict_again f.proof.table f.proof.places verdict (pages_same is.shows f.answered.shows) (rw (← cut.0) at is.verdict_is)
-    f.answered.verdict_is)
+    f.not_proved (verdict_again f.proof.table f.proof.places verdict (pages_same is.shows f.answered.shows)
+    (rw (← cut.0) at is.verdict_is) f.answered.verdict_is)
 
 -- ---- the verdict
 
@@ -86,12 +81,9 @@ certified_proved one dpi input output certificate (job.Certificate Memory) i v =
 certified_proved one dpi input output certificate (job.Certificate fault) i v = cc (read_again i, v.2)
 certified_proved one dpi input output certificate job.PageCount i v = absurd (v.1 (compared_same one i v.0).0)
 certified_proved one dpi input output certificate job.Frame i v =
-    let as_long = proved_length dpi v.0.pages i.texts v.0.proofs (compared_same one i v.0) in
-    absurd (v.2 i.texts (record { spelled = i.spelled; as_long = as_long }))
+    absurd (v.2 i.texts (record { spelled = i.spelled; as_long = proved_length _ _ i.texts _ (compared_same one i v.0) }))
 certified_proved one dpi input output certificate (job.Page number verdict) i v =
-    let same : i.texts ≡ v.2 =
-    append_cancel_right i.texts v.2 frame_bytes
-    (append_cancel_left frame_bytes (i.texts ++ frame_bytes) (v.2 ++ frame_bytes) (sym i.spelled ∙ v.3.spelled)) in
+    let same = append_cancel_right i.texts v.2 frame_bytes (append_cancel_left frame_bytes _ _ (sym i.spelled ∙ v.3.spelled)) in
     absurd (none_fails (rw same at (compared_same one i v.0)) v.4)
 certified_proved one dpi input output certificate job.Proved i v = refl
 

@@ -155,10 +155,9 @@ module _ (dpi : Dpi) where
       let next = simp f at s.2 in
       let found : IsFound h.0 (take proof.text_len texts) proof (taken + 1) h.1.found = rw (← t, ← n) next.1 in
       let rest = drop proof.text_len texts in
-      at_page sheet sheets texts (take proof.text_len texts) rest proof proofs taken h.0 h.1.found new.found found h.2
+      at_page sheet sheets texts _ rest proof proofs taken h.0 h.1.found new.found found h.2
       (length-take-le proof.text_len texts (omega (arith, long))) (sym (take-append-drop proof.text_len texts))
-      (λ proved.
-      outcome sheets rest proofs (taken + 1) h.1 new proved (rw (s.1, n)) (rw (next.0, t)) s.0
+      (λ proved. outcome sheets rest proofs (taken + 1) h.1 new proved (rw (s.1, n)) (rw (next.0, t)) s.0
       (omega (arith, long, length-drop proof.text_len texts)) (omega arith) h.4)
       (λ wrong. stays sheets proofs h.1 new wrong refl s.0 (omega arith) h.4)
   outcome sheets texts proofs taken old new f n t e long same h = absurd (omega (arith, same))

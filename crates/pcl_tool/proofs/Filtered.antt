@@ -36,11 +36,10 @@ filtered old new result r j w = absurd w
 
 -- the job wasn't written whole
 pub stopped_in_job : {dpi : Dpi} {format : Format} {given left : Option (List ℕ)} (old new cert : Option (List ℕ))
-    {job output certificate : List ℕ}
-    (fault : Fault) → IsRead given left job → IsCertifiedJobOf dpi format job output certificate → IsWritten old new output (Err fault)
+    {job output certificate : List ℕ} (fault : Fault)
+    → IsRead given left job → IsCertifiedJobOf dpi format job output certificate → IsWritten old new output (Err fault)
     → IsFilteredCert dpi format given left old new cert cert (Err fault)
-stopped_in_job old new cert {job} {output} {certificate} WriteFault r j w =
-    (job, output, certificate, r, j, inl (w, Keeps-refl cert))
+stopped_in_job old new cert WriteFault r j w = (_, _, _, r, j, inl (w, Keeps-refl cert))
 stopped_in_job old new cert fault r j w = absurd w
 
 -- it was, and then the certificate or a prefix of it
@@ -48,8 +47,6 @@ pub filtered_cert : {dpi : Dpi} {format : Format} {given left : Option (List ℕ
     {job output certificate : List ℕ} (result : Result (Unit {0}) Fault) → IsRead given left job
     → IsCertifiedJobOf dpi format job output certificate → Appends old new output → IsWritten cert_old cert_new certificate result
     → IsFilteredCert dpi format given left old new cert_old cert_new result
-filtered_cert old new cert_old cert_new {job} {output} {certificate} (Ok done) r j a w =
-    (job, output, certificate, r, j, a, w)
-filtered_cert old new cert_old cert_new {job} {output} {certificate} (Err WriteFault) r j a w =
-    (job, output, certificate, r, j, inr (a, w))
+filtered_cert old new cert_old cert_new (Ok done) r j a w = (_, _, _, r, j, a, w)
+filtered_cert old new cert_old cert_new (Err WriteFault) r j a w = (_, _, _, r, j, inr (a, w))
 filtered_cert old new cert_old cert_new result r j a w = absurd w

@@ -1,5 +1,6 @@
 -- What the checker of a job answers after the last page.
-use Rattle.std.proofs.Common.{◌≡◌, ℕ, zero, suc, ◌⊎◌, inl, inr, List, length, refl, ap, arith, Ok}
+use Rattle.std.proofs.lemmas.Bool.{cases_eq}
+use Rattle.std.proofs.Common.{◌≡◌, ℕ, zero, suc, inl, inr, List, length, refl, arith, Ok}
 use Rattle.pcl_base.specs.declared.dpi.Dpi.{Dpi}
 use Rattle.pcl_page.specs.Situation.{Sheet}
 use Rattle.pcl_page.specs.Delivering.{Hands}
@@ -16,15 +17,6 @@ use Rattle.pcl_tool.specs.JobVerdicts.{AreCompared, IsFramed, IsJobVerdict}
 use Rattle.pcl_tool.specs.inner.CheckerSteps.{BeginsWith, IsBegun, TakesPage, proofs_left, answer}
 use Rattle.pcl_tool.proofs.Checkers.{stays, none_left, miscounted, IsOutcome, outcome}
 
-same_or : (a b : ℕ) → (a ≡ b) ⊎ (a ≡ b → ⊥)
-same_or zero zero = inl refl
-same_or zero (suc b) = inr (λ (e : 0 ≡ suc b). absurd (omega arith))
-same_or (suc a) zero = inr (λ (e : suc a ≡ 0). absurd (omega arith))
-same_or (suc a) (suc b) = elim (same_or a b) [
-  | inl e ↦ inl (ap suc e)
-  | inr other ↦ inr (λ (e : suc a ≡ suc b). other (omega arith))
-]
-
 -- what is found of as many pages as there are proofs
 of_outcome : {dpi : Dpi} {input output certificate : List ℕ} (compared : AreCompared dpi input certificate) {texts : List ℕ}
     → length compared.pages ≡ length compared.proofs → IsFramed output texts compared.proofs → (found : JobVerdict)
@@ -40,8 +32,7 @@ of_begin : {dpi : Dpi} {input : List ℕ} (output : List ℕ) {certificate : Lis
     → BeginsWith output compared.proofs begun.texts.now found → length compared.pages ≡ length compared.proofs
     → Hands TakesPage dpi compared.pages begun new → IsJobVerdict dpi input output certificate new.found
 of_begin {dpi} output compared begun new job.Proved f e n b same h =
-    of_outcome compared same b new.found
-    (outcome dpi compared.pages begun.texts.now compared.proofs 0 begun new f n refl e b.as_long same h)
+    of_outcome compared same b new.found (outcome dpi compared.pages _ compared.proofs 0 begun new f n refl e b.as_long same h)
 of_begin {dpi} output compared begun new job.Frame f e n b same h =
     rw (stays dpi compared.pages compared.proofs begun new (λ (p : job.Frame ≡ job.Proved). cc) f e same h) (compared, same, b)
 of_begin output compared begun new found f e n b same h = absurd b
@@ -55,7 +46,7 @@ job_answered {dpi} {input} {output} certificate {format} {proofs} {pages} {begun
     let compared : AreCompared dpi input certificate =
     record { pages = pages; meaning = meaning; format = format; proofs = proofs; certified = certified } in
     let left : proofs_left begun ≡ proofs = rw b.none_taken b.proofs_are in
-    elim (same_or (length pages) (length proofs)) [
+    elim (cases_eq (length pages) (length proofs)) [
       | inl same ↦
           rw (none_left dpi pages proofs begun new left same h)
           (of_begin output compared begun new begun.found refl left b.none_taken b.begins same h)

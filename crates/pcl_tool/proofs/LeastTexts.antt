@@ -16,25 +16,16 @@ written_texts : (dpi : Dpi) (sheets : List Sheet) (texts : List ℕ) → PrintEa
     → PrintEach PrintsShortest dpi sheets texts
 written_texts dpi [] texts p = p
 written_texts dpi (sheet ∷ sheets) texts p =
-    let is = p.2 in
-    (p.0, p.1, (is.0, is.1, (is.2.0, λ other printed. is.2.2.shortest other printed)), p.3, written_texts dpi sheets p.1 p.4)
+    (p.0, p.1, (p.2.0, p.2.1, (p.2.2.0, p.2.2.2.shortest)), p.3, written_texts dpi sheets p.1 p.4)
 
 proved_texts : (dpi : Dpi) (sheets : List Sheet) (texts : List ℕ) (proofs : List PageProof) → AreProved dpi sheets texts proofs
     → PrintEach PrintsShortest dpi sheets texts
 proved_texts dpi [] texts [] p = p.1
 proved_texts dpi (sheet ∷ sheets) texts (proof ∷ proofs) p =
-    let first = p.1 in
-    let is = first.2 in (
-      first.0,
-      first.1,
-      (
-        is.page,
-        is.shows,
-        (is.verdict_is.0, λ other printed. proved_least is.page first.0 other proof.table proof.places is.verdict_is printed),
-      ),
-      first.3,
-      proved_texts dpi sheets first.1 proofs (omega (arith, p.0), first.4),
-    )
+    let f = p.1 in
+    let least = λ (other : List ℕ). proved_least f.2.page f.0 other proof.table proof.places f.2.verdict_is in
+    let rest = proved_texts dpi sheets f.1 proofs (omega (arith, p.0), f.4) in
+    (f.0, f.1, (f.2.page, f.2.shows, (f.2.verdict_is.0, least)), f.3, rest)
 proved_texts dpi sheets texts proofs p = absurd (omega (arith, p.0))
 
 pub written_least : {dpi : Dpi} {input output : List ℕ} (w : IsJobOf dpi input output) → IsLeastJobText dpi w.pages output

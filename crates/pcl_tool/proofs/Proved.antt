@@ -1,4 +1,5 @@
 -- The page texts that a sink gathers, and what proves them.
+use Rattle.pcl_cert.specs.declared.check.Verdict.TheVariants as verdicts
 use Rattle.std.proofs.Common.{◌≡◌, ℕ, ◌+◌, ◌^◌, ◌<◌, List, [], ◌∷◌, ◌++◌, Option, Some, None, Ok, Err, length, refl, sym, ap, subst, ◌∙◌, append_assoc, arith}
 use Rattle.std.specs.List.{AllByRecursion}
 use Rattle.std.proofs.lemmas.List.{append-nil, length-append}
@@ -23,7 +24,7 @@ use Rattle.pcl_cert.specs.Checking.{HasLeastLists, AreLeastOf}
 use Rattle.pcl_cert.proofs.TablesProved.{table_proved, table_certified}
 use Rattle.pcl_meaning.specs.JobTexts.{PrintEach}
 use Rattle.pcl_meaning.proofs.Jobs.{job_fits}
-use Rattle.pcl_tool.specs.Certified.{AreProved}
+use Rattle.pcl_tool.specs.Certified.{AreProved, IsAnswered}
 use Rattle.pcl_tool.specs.declared.fault.Fault.{Fault}
 use Rattle.pcl_tool.specs.declared.minimizing.Output.{Output}
 use Rattle.pcl_tool.specs.JobFaults.{fault_of, RefusedOrMemory}
@@ -75,34 +76,22 @@ AreProvedIn dpi (Some format) sheets texts old new = ProofsGathered dpi format s
 
 none_proved : (dpi : Dpi) (format : Option Format) (certificate : List ℕ) → AreProvedIn dpi format [] [] certificate certificate
 none_proved dpi None certificate = tt
-none_proved dpi (Some format) certificate = record {
-  proofs = [];
-  behind = λ before few is. rw append-nil is;
-  can_be_said = tt;
-  proved = (refl, refl);
-}
+none_proved dpi (Some format) certificate =
+    record { proofs = []; behind = λ before few is. rw append-nil is; can_be_said = tt; proved = (refl, refl) }
 
 one_more_proved : {dpi : Dpi} (format : Option Format) {page : Page} {sheet : Sheet} (sheets : List Sheet) (text texts : List ℕ)
     (old mid new : List ℕ) → Shows dpi page sheet → IsProvedIn format page text old mid → AreProvedIn dpi format sheets texts mid new
     → AreProvedIn dpi format (sheet ∷ sheets) (text ++ texts) old new
 one_more_proved None sheets text texts old mid new shows one rest = tt
-one_more_proved (Some format) {page} sheets text texts old mid new shows one rest = record {
+one_more_proved {dpi} (Some format) {page} {sheet} sheets text texts old mid new shows one rest = record {
   proofs = one.proof ∷ rest.proofs;
-  behind = λ before few is.
-      rw (← append_assoc before (one.proof ∷ []) rest.proofs)
-      (rest.behind (before ++ one.proof ∷ []) (omega (arith, length-append before (one.proof ∷ [])))
-      (one.certificate before (omega arith) is));
+  behind = λ before few is. rw (← append_assoc before (one.proof ∷ []) rest.proofs)
+      (rest.behind _ (omega (arith, length-append before (one.proof ∷ []))) (one.certificate before (omega arith) is));
   can_be_said = (rw shows.resolution at one.proves.can_be_said, rest.can_be_said);
-  proved = (
-    omega (arith, rest.proved.0),
-    (
-      text,
-      texts,
-      record { page = page; shows = shows; as_long = one.proves.text_len; verdict_is = one.proves.proved },
-      refl,
-      rest.proved.1,
-    ),
-  );
+  proved =
+      let is : IsAnswered dpi sheet text one.proof verdicts.Proved =
+      record { page = page; shows = shows; as_long = one.proves.text_len; verdict_is = one.proves.proved } in
+      (omega (arith, rest.proved.0), (text, texts, is, refl, rest.proved.1));
 }
 
 -- page texts of all sheets, and where a certificate is wanted, what proves them
@@ -113,12 +102,8 @@ pub record Gathered (dpi : Dpi) (sheets : List Sheet) (old new : SoFar) : Type 0
   pub proved : AreProvedIn dpi old.format sheets texts old.certificate new.certificate
 
 gathered : {dpi : Dpi} (sheets : List Sheet) {old new : SoFar} → Hands TakesText dpi sheets old new → Gathered dpi sheets old new
-gathered {dpi} [] {old} h = rw h (record {
-  texts = [];
-  bytes = rw append-nil;
-  print = refl;
-  proved = none_proved dpi old.format old.certificate;
-})
+gathered {dpi} [] {old} h =
+    rw h (record { texts = []; bytes = rw append-nil; print = refl; proved = none_proved dpi old.format old.certificate })
 gathered {dpi} (sheet ∷ sheets) {old} {new} h =
     let rest = gathered sheets h.4 in
     let t = h.3 in
@@ -142,7 +127,7 @@ not_taken takes dpi job begun Memory h = tt
 pub not_written : (dpi : Dpi) (job : List ℕ) (format : Option Format) (fault : Fault) → RefusedOrMemory (IsRefusal dpi job) fault
     → IsOutput dpi job format (Err fault)
 not_written dpi job None fault came = came
-not_written dpi job (Some format) fault came = came
+not_written dpi job other fault came = came
 
 pub written_output : {dpi : Dpi} {job : List ℕ} (format : Option Format) (output : Output) {pages : List Sheet} (old new : SoFar)
     → HasPages dpi job pages → old.format ≡ format → old.bytes ≡ frame_bytes → IsBegun format old.certificate

@@ -21,23 +21,23 @@ use Rattle.pcl_tool.specs.inner.Showing.{Showing, later, next_image, shown_after
 abbrev pub shows_next : Showing → Page → Showing → Type 0
 shows_next old page new = new ≡ shown_after old page
 
+some_more : (n : ℕ) → eqb (suc n) 0 ≡ false
+some_more n = grind (arith, nat_tests)
+
 -- the image of the first page, if it is asked for, and those of the later ones
 next_and_later : (choice : PageChoice) (page : Page) (pages : List Page)
     → images_of (chosen choice (page ∷ pages)) ≡ next_image choice page ++ images_of (chosen (later choice) pages)
 next_and_later All page pages = refl
 next_and_later (Range zero zero) page pages = refl
-next_and_later (Range zero (suc count)) page pages =
-    let some : eqb (suc count) 0 ≡ false = grind (arith, nat_tests) in rw (some, sub-one) refl
-next_and_later (Range (suc before) count) page pages =
-    let some : eqb (suc before) 0 ≡ false = grind (arith, nat_tests) in rw (some, sub-one) refl
+next_and_later (Range zero (suc count)) page pages = rw (some_more count, sub-one) refl
+next_and_later (Range (suc before) count) page pages = rw (some_more before, sub-one) refl
 
 -- what is missing of the later pages is missing of all
 there_later : (choice : PageChoice) (number : ℕ) → AreThere choice (suc number) ↔ AreThere (later choice) number
 there_later All number = (λ there. tt, λ there. tt)
 there_later (Range zero count) number = (λ there. omega (arith, there), λ there. omega (arith, there))
 there_later (Range (suc before) count) number =
-    let some : eqb (suc before) 0 ≡ false = grind (arith, nat_tests) in
-    rw (some, sub-one) (λ there. omega (arith, there), λ there. omega (arith, there))
+    rw (some_more before, sub-one) (λ there. omega (arith, there), λ there. omega (arith, there))
 
 -- what a sink made of the pages that it took
 pub record HasShown (dpi : Dpi) (sheets : List Sheet) (old new : Showing) : Type 0 where
@@ -68,11 +68,7 @@ has_shown dpi (sheet ∷ sheets) old new h =
     record {
       pages = h.0 ∷ rest.pages;
       show = (h.2, rest.show);
-      images = cc (
-        rest.images,
-        append_assoc old.images (next_image old.choice h.0) (images_of (chosen (later old.choice) rest.pages)),
-        next_and_later old.choice h.0 rest.pages,
-      );
+      images = rest.images ∙ rw (next_and_later old.choice h.0 rest.pages) (append_assoc old.images (next_image old.choice h.0) _);
       met = (λ all. rest.met.0 (there.0 all), λ met. there.1 (rest.met.1 met));
     }
 

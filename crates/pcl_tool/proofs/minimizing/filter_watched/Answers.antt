@@ -11,16 +11,11 @@ pub returns-in_err-output : goal.returns-in_err-output
 returns-in_err-output g c =
     let r = c.in_ok-job.ensures in
     let p = err_from_is_err_and c.from_residual-in_err-output.result c.from_residual-in_err-output.ensures.1 in
-    rw (p.1, p.2)
-    (not_performed c.args.dpi _ c.in_err-output.field-0.0
-    (record { given = r.0; ended = r.1 })
-    r.2
+    rw (p.1, p.2) (not_performed c.args.dpi _ c.in_err-output.field-0.0 (record { given = r.0; ended = r.1 }) r.2
     (rw (c.deref.ensures.value, c.in_err-output.was) at c.least_job.ensures))
 
 pub returns : goal.returns
 returns g c =
     let r = c.in_ok-job.ensures in
-    filtered _ _ _
-    (record { given = r.0; ended = r.1 })
-    (rw (c.deref.ensures.value, c.in_ok-output.was) at c.least_job.ensures)
+    filtered _ _ _ (record { given = r.0; ended = r.1 }) (rw (c.deref.ensures.value, c.in_ok-output.was) at c.least_job.ensures)
     (rw c.deref-2.ensures.value at c.write_all.ensures)

@@ -26,14 +26,10 @@ returns-in_err-certificate g c =
 pub returns-in_err-written : goal.returns-in_err-written
 returns-in_err-written g c =
     let p = err_from_is_err_and c.from_residual-in_err-written.result c.from_residual-in_err-written.ensures.1 in
-    let begun : SoFar = record {
-      format = c.args.format;
-      bytes = c.write_frame.new.out.items;
-      certificate = c.in_ok-certificate.certificate.items;
-    } in
-    rw (p.1, p.2)
-    (not_written c.args.dpi c.args.job.now c.args.format _
-    (not_taken TakesText c.args.dpi c.args.job.now begun c.in_err-written.field-0.0 c.in_err-written.ensures))
+    rw (p.1, p.2) (not_written c.args.dpi c.args.job.now c.args.format _
+    (not_taken TakesText _ _
+    (record { format = c.args.format; bytes = c.write_frame.new.out.items; certificate = c.in_ok-certificate.certificate.items })
+    c.in_err-written.field-0.0 c.in_err-written.ensures))
 
 pub returns-in_err-write_frame-2 : goal.returns-in_err-write_frame-2
 returns-in_err-write_frame-2 g c =

@@ -1,6 +1,6 @@
-use Rattle.std.proofs.Common.{◌≡◌, List, ℕ, length, refl, ap, arith, length-append}
+use Rattle.std.proofs.Common.{List, ℕ, length, refl, ap, arith, length-append}
 use Rattle.std.proofs.lemmas.Bool.{false≢true}
-use Rattle.pcl_tool.specs.JobVerdicts.{text_bytes, IsFramed}
+use Rattle.pcl_tool.specs.JobVerdicts.{IsFramed}
 use Rattle.pcl_tool.proofs.page_checks.texts_of.Goals as goal
 
 pub returns-then-have_length : goal.returns-then-have_length
@@ -8,11 +8,6 @@ returns-then-have_length c = record { spelled = c.in_ok-texts.ensures; as_long =
 
 pub returns-else-have_length : goal.returns-else-have_length
 returns-else-have_length c = λ (others : List ℕ) (framed : IsFramed c.args.output.now others c.args.proofs.now).
-    let as_long : length c.in_ok-texts.texts.now ≡ text_bytes c.args.proofs.now =
-    omega (
-      arith,
-      simp length-append at (ap length c.in_ok-texts.ensures),
-      simp length-append at (ap length framed.spelled),
-      framed.as_long,
-    ) in
-    absurd (false≢true (c.if-have_length.ensures.1 as_long))
+    let long = simp length-append at (ap length c.in_ok-texts.ensures) in
+    let longer = simp length-append at (ap length framed.spelled) in
+    absurd (false≢true (c.if-have_length.ensures.1 (omega (arith, long, longer, framed.as_long))))

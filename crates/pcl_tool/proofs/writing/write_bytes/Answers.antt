@@ -10,23 +10,12 @@ more front rest count e = rw (append_assoc, take-append-drop) e
 pub loop-rest-preserved : goal.loop-rest-preserved
 loop-rest-preserved g c =
     let i = c.loop-rest.invariant in
-    let count = c.in-Ok.count in
-    let rest = c.loop-rest.rest.now in (
-      i.0 ++ take count rest,
-      rw take_rest (more i.0 rest count i.1),
-      Appends-trans _ _ _ _ _ i.2 c.in-Ok.ensures.bytes,
-    )
+    (_, rw take_rest (more i.0 c.loop-rest.rest.now c.in-Ok.count i.1), Appends-trans _ _ _ _ _ i.2 c.in-Ok.ensures.bytes)
 
 pub returns-in_default : goal.returns-in_default
 returns-in_default g c =
     let i = c.loop-rest.invariant in
-    let count = c.in-Ok.count in
-    let rest = c.loop-rest.rest.now in (
-      i.0 ++ take count rest,
-      drop count rest,
-      more i.0 rest count i.1,
-      Appends-trans _ _ _ _ _ i.2 c.in-Ok.ensures.bytes,
-    )
+    (_, _, more i.0 c.loop-rest.rest.now c.in-Ok.count i.1, Appends-trans _ _ _ _ _ i.2 c.in-Ok.ensures.bytes)
 
 pub returns-in_default-2 : goal.returns-in_default-2
 returns-in_default-2 g c =
