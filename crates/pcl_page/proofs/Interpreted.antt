@@ -186,9 +186,8 @@ pub enter_acted : {dpi : Dpi} (run_after : Situation → Option Run) (run : Opti
     → IsActed dpi (Ok s) run_after result old new
 enter_acted run_after run {s} new (Ok unit) at e h =
     (s, refl, record { is_in = rw h.1 at.is_in; macros = rw h.2 at.macros; begun = rw h.2 at.begun }, rw e at h.0)
-enter_acted run_after None new (Err fault) at e h = absurd h
 enter_acted run_after (Some run) {s} new (Err (Refused kind)) at e h = inr (s, run, refl, sym e, h.0, h.1)
-enter_acted run_after (Some run) new (Err Memory) at e h = absurd h
+enter_acted run_after run new result at e h = absurd h
 
 -- the macro that is meant
 macro_found : {dpi : Dpi} {id : ℕ} {s : Situation} {old : Interpreter} → IsAt dpi s old → id ≡ old.performer.environment.macro_id

@@ -8,17 +8,15 @@ use Rattle.pcl_base.specs.declared.operation.Operation.{Operation}
 use Rattle.pcl_base.specs.declared.operation.Operation.TheVariants.{FillRectangle, ControlFonts, DownloadFont, DownloadCharacter, PrintText}
 use Rattle.pcl_base.specs.Limits.{command_limit}
 use Rattle.pcl_base.specs.Operation.{operation_of}
-use Rattle.pcl_bitmap.specs.declared.ink.Ink.{Ink}
-use Rattle.pcl_fonts.specs.declared.fonts.FontControl.{FontControl}
 use Rattle.pcl_fonts.specs.Fields.{Character}
 use Rattle.pcl_escape.specs.Said.{Said}
 use Rattle.pcl_env.specs.declared.effect.Effect.{Effect}
 use Rattle.pcl_env.specs.declared.effect.Effect.TheVariants.{EjectMarked}
 use Rattle.pcl_env.specs.Settings.{Settings, defaults, font_in_use}
 use Rattle.pcl_env.specs.Outcome.{Outcome, outcome}
-use Rattle.pcl_page.specs.Text.{control_of, is_proportional, prints}
+use Rattle.pcl_page.specs.Text.{is_proportional, prints}
 use Rattle.pcl_page.specs.Raster.{ends_raster}
-use Rattle.pcl_page.specs.Situation.{Sheet, Situation, ink_of, filled_with, fonts_controlled, with_font, with_character, font_now, code_printed, codes_printed, draw_refusal, unless_refused, ◌|>◌, end_raster, is_marked, ejects, sheet_of, turned, turned_by, drawn, drawn_on, taken, counted, counted_in_limit, prepared, is_ignored, after, after_named, page_refusal, within_page_limit, tried, at_end}
+use Rattle.pcl_page.specs.Situation.{Sheet, Situation, font_now, code_printed, codes_printed, draw_refusal, unless_refused, ◌|>◌, end_raster, is_marked, ejects, sheet_of, turned, turned_by, drawn, drawn_on, taken, counted, counted_in_limit, prepared, is_ignored, after, after_named, page_refusal, within_page_limit, tried, at_end}
 use Rattle.pcl_page.proofs.Turns.{prepared_page}
 
 -- neither pages nor counts, nor what is there of macros, change where something is drawn
@@ -28,26 +26,9 @@ pub record KeepsCounts (s other : Situation) : Type 0 where
   pub macros : other.macros ≡ s.macros
   pub begun : other.begun ≡ s.begun
 
-font_keeps : (bytes : List ℕ) {s : Situation} → KeepsCounts s (with_font bytes s)
-font_keeps [] = search rules
-font_keeps (byte ∷ bytes) = search rules
-
-character_keeps : (bytes : List ℕ) {s : Situation} → KeepsCounts s (with_character bytes s)
-character_keeps [] = search rules
-character_keeps (byte ∷ bytes) = search rules
-
-controlled_keeps : (what : Option FontControl) {s : Situation} → KeepsCounts s (fonts_controlled what s)
-controlled_keeps None = search rules
-controlled_keeps (Some what) = search rules
-
-filled_keeps : (dpi : Dpi) (ink : Option Ink) {s : Situation} → KeepsCounts s (filled_with dpi ink s)
-filled_keeps dpi None = search rules
-filled_keeps dpi (Some ink) = search rules
-
 code_keeps : (dpi : Dpi) (proportional : Bool) (c : Option Character) (code : ℕ) {s : Situation}
     → KeepsCounts s (code_printed dpi proportional c code s)
-code_keeps dpi proportional None code = search rules
-code_keeps dpi proportional (Some c) code = search rules
+code_keeps dpi proportional c code = grind arith
 
 codes_keep : (dpi : Dpi) (proportional : Bool) (characters : ℕ → Option Character) (codes : List ℕ) {s : Situation}
     → KeepsCounts s (codes_printed dpi proportional characters codes s)
@@ -58,12 +39,12 @@ codes_keep dpi proportional characters (code ∷ codes) {s} =
     record { pages = cc; performed = cc; macros = cc; begun = cc }
 
 pub drawn_keeps : (dpi : Dpi) (operation : Operation) (command : Said) {s : Situation} → KeepsCounts s (drawn dpi operation command s)
-drawn_keeps dpi ControlFonts command = controlled_keeps (control_of command.value)
-drawn_keeps dpi DownloadFont command = font_keeps command.bytes
-drawn_keeps dpi DownloadCharacter command = character_keeps command.bytes
+drawn_keeps dpi ControlFonts command = grind arith
+drawn_keeps dpi DownloadFont command = grind arith
+drawn_keeps dpi DownloadCharacter command = grind arith
 drawn_keeps dpi PrintText command {s} =
     codes_keep dpi (is_proportional (font_now s)) (prints s.fonts (font_in_use s.settings)) command.bytes
-drawn_keeps dpi FillRectangle command = filled_keeps dpi (ink_of command.value)
+drawn_keeps dpi FillRectangle command = grind arith
 drawn_keeps dpi other command = search rules
 
 -- ---- pages that are added

@@ -1,5 +1,5 @@
 -- How far commands and macros bring a performance, and how much work they leave.
-use Rattle.std.proofs.Common.{◌≡◌, ℕ, zero, suc, ◌+◌, ◌-◌, ◌*◌, ◌<◌, ◌≤◌, List, [], ◌∷◌, ◌++◌, length, take, drop, Option, Some, None, Result, Ok, Err, refl, sym, ap, ◌∙◌, length-append, suc-mul, arith, inl, inr, rules}
+use Rattle.std.proofs.Common.{◌≡◌, ℕ, zero, suc, ◌+◌, ◌-◌, ◌*◌, ◌<◌, ◌≤◌, List, [], ◌∷◌, ◌++◌, length, take, drop, Option, Some, None, Result, Ok, Err, refl, sym, ap, ◌∙◌, length-append, suc-mul, arith, inl, inr, rules, is_some}
 use Rattle.std.specs.Prelude.{◌⊎◌, slice_get}
 use Rattle.pcl_base.specs.declared.dpi.Dpi.{Dpi}
 use Rattle.pcl_base.specs.declared.fault.CallFault.{CallFault}
@@ -21,7 +21,7 @@ use Rattle.pcl_page.specs.Performing.{Performance, stopped, then_on, step, comma
 use Rattle.pcl_page.specs.inner.Reflecting.{HandsMore}
 use Rattle.pcl_page.specs.inner.Unfolding.{IsAt, run_in, entered, Enters, rest_of, resumed, begun_among, left_in, work_left, GoesOn, IsStepped}
 use Rattle.pcl_page.proofs.Sinks.{no_pages, first_of_more, none_of_more, goes_from, goes_to}
-use Rattle.pcl_page.proofs.Unfolded.{then_assoc, then_same, pushed, begun_refused, begun_deep, begun_entered, command_counts, begun_grow, begun_after}
+use Rattle.pcl_page.proofs.Unfolded.{then_assoc, then_same, pushed, begun_refused, begun_deep, begun_entered, command_by, begun_grow, begun_after}
 
 -- ---- a command
 
@@ -163,7 +163,7 @@ pub stepped_work : (dpi : Dpi) (place count : ℕ) (command : Said) (s later : S
 stepped_work dpi place count command s later old new at e there run =
     let all : left_in count new.running.items ≡ left_in count old.running.items + left_in count (entered (run_of command s later)) =
     ap (left_in count) run ∙ left_append count old.running.items (entered (run_of command s later)) in
-    elim (command_counts dpi place command s later e) [
+    elim (command_by dpi place command {s = s} (is_some s.begun) refl e) [
       | inl kept ↦
           let none : run_of command s later ≡ None = rw kept.1 refl in
           let same : new.performer.performed ≡ old.performer.performed = cc (there.is_in.performed, at.is_in.performed) in

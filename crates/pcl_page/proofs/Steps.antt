@@ -172,7 +172,7 @@ module _ {S : Type 0} (takes : S → Page → S → Type 0) (dpi : Dpi) (operati
       let fits : page_refusal (turned_with done) ≡ None = rw pages (pages_fit s (omega (arith, a.is_in.ejected, old.few_pages))) in
       absurd cc
 
-  refused_by : {old : Performer} (new : Performer) (sink later : S) (o : Outcome) (fault : CallFault)
+  pub refused_by : {old : Performer} (new : Performer) (sink later : S) (o : Outcome) (fault : CallFault)
       → AtTurn dpi operation command s old → set_to ≡ o → IsTurned takes dpi o before (Err fault) new sink later
       → IsTried takes dpi command s (Err fault) new sink later
   refused_by new sink later None (Refused kind) a is t = (rw t.0 (tried_at a is), t.1)
@@ -186,25 +186,17 @@ module _ {S : Type 0} (takes : S → Page → S → Type 0) (dpi : Dpi) (operati
         | inr h ↦ gone_short (turned_with done) new sink later _ (gone_with done sink later a is h.0 h.1) refl
       ]
 
-  pub tried_refused : (old new : Performer) (sink later : S) (fault : CallFault) → AtTurn dpi operation command s old
-      → IsTurned takes dpi set_to before (Err fault) new sink later → IsTried takes dpi command s (Err fault) new sink later
-  tried_refused old new sink later fault a t = refused_by new sink later _ fault a refl t
-
   -- the performer is at the situation after the turn
   pub record Gone (middle : Performer) (sink later : S) : Type 0 where
     pub turned_to : Situation
     pub is_in : IsIn dpi turned_to middle
     pub is_gone : IsGone turned_to sink later
 
-  gone_by : {old : Performer} (middle : Performer) (sink later : S) (o : Outcome) → AtTurn dpi operation command s old → set_to ≡ o
+  pub gone_by : {old : Performer} (middle : Performer) (sink later : S) (o : Outcome) → AtTurn dpi operation command s old → set_to ≡ o
       → IsTurned takes dpi o before (Ok tt) middle sink later → Gone middle sink later
   gone_by middle sink later None a is t = absurd t
   gone_by middle sink later (Some done) a is t =
       record { turned_to = turned_with done; is_in = t.0; is_gone = gone_with done sink later a is t.1 t.2 }
-
-  pub gone : (old middle : Performer) (sink later : S) → AtTurn dpi operation command s old
-      → IsTurned takes dpi set_to before (Ok tt) middle sink later → Gone middle sink later
-  gone old middle sink later a t = gone_by middle sink later _ a refl t
 
   -- a command that was drawn
   pub tried_drawn : (old middle new : Performer) (sink later : S) → AtTurn dpi operation command s old → (g : Gone middle sink later)

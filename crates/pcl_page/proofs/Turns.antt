@@ -176,7 +176,8 @@ module _ {S : Type 0} (takes : S → Page → S → Type 0) (dpi : Dpi) (operati
       → Ejected copies asked old middle last sink later
   ejected_as i a does few copies is e page ejected performed raster fonts asks = search (rules, e)
 
-  ejected_done : {copies : ℕ} {asked : Asked} {old middle last : Performer} {sink later : S} → Ejected copies asked old middle last sink later
+  ejected_done : {copies : ℕ} {asked : Asked} {old middle last : Performer} {sink later : S}
+      → Ejected copies asked old middle last sink later
       → (done : Settings × Effect) × (comes_to ≡ Some done) × (middle.environment ≡ done.0) × (ejects done.1 (is_marked s) ≡ true)
   ejected_done {old} e =
       let d = answered (outcome dpi operation value old.is_marked old.environment) old.environment e.answered_as in

@@ -148,16 +148,12 @@ defining_counts dpi place Kept command {s} {later} b e = let same : later ≡ s 
 defining_counts dpi place Ends command b e = inr (counting_counts dpi place command e)
 defining_counts dpi place (Refused kind) command b e = absurd cc
 
-command_by : (dpi : Dpi) (place : ℕ) (command : Said) {s later : Situation} (begun : Bool) → is_some s.begun ≡ begun
+pub command_by : (dpi : Dpi) (place : ℕ) (command : Said) {s later : Situation} (begun : Bool) → is_some s.begun ≡ begun
     → cond begun (defining dpi place (keeping_of (operation_of command.name) command.value) command s) (counting dpi place command s)
     ≡ Ok later → KeptOrCounts s later
 command_by dpi place command true b e =
     defining_counts dpi place (keeping_of (operation_of command.name) command.value) command b e
 command_by dpi place command false b e = inr (counting_counts dpi place command e)
-
-pub command_counts : (dpi : Dpi) (place : ℕ) (command : Said) (s later : Situation) → after_command dpi place command s ≡ Ok later
-    → KeptOrCounts s later
-command_counts dpi place command s later e = command_by dpi place command (is_some s.begun) refl e
 
 -- ---- performances only add pages
 
@@ -175,7 +171,7 @@ then_grows p s f o g = unless_grows p.refusal s p.situation f o g
 
 concluded_grows : (dpi : Dpi) (place : ℕ) (command : Said) (s : Situation) (o : Result Situation Kind)
     → after_command dpi place command s ≡ o → Onward s (concluded command s o).situation
-concluded_grows dpi place command s (Ok later) e = elim (command_counts dpi place command s later e) [
+concluded_grows dpi place command s (Ok later) e = elim (command_by dpi place command {s = s} (is_some s.begun) refl e) [
   | inl same ↦ rw same.0 (stays_there s)
   | inr counts ↦ counts.onward
 ]
