@@ -5,7 +5,7 @@ use Rattle.pcl_base.specs.declared.dpi.Dpi.{Dpi}
 use Rattle.pcl_base.specs.declared.kind.Kind.{Kind}
 use Rattle.pcl_base.specs.declared.kind.Kind.TheVariants.{TooManyCommands}
 use Rattle.pcl_base.specs.declared.operation.Operation.{Operation}
-use Rattle.pcl_base.specs.declared.operation.Operation.TheVariants.{FillRectangle, ControlFonts, DownloadFont, DownloadCharacter, PrintText}
+use Rattle.pcl_base.specs.declared.operation.Operation.TheVariants.{PrintText}
 use Rattle.pcl_base.specs.Limits.{command_limit}
 use Rattle.pcl_base.specs.Operation.{operation_of}
 use Rattle.pcl_fonts.specs.Fields.{Character}
@@ -39,13 +39,9 @@ codes_keep dpi proportional characters (code ∷ codes) {s} =
     record { pages = cc; performed = cc; macros = cc; begun = cc }
 
 pub drawn_keeps : (dpi : Dpi) (operation : Operation) (command : Said) {s : Situation} → KeepsCounts s (drawn dpi operation command s)
-drawn_keeps dpi ControlFonts command = grind arith
-drawn_keeps dpi DownloadFont command = grind arith
-drawn_keeps dpi DownloadCharacter command = grind arith
 drawn_keeps dpi PrintText command {s} =
     codes_keep dpi (is_proportional (font_now s)) (prints s.fonts (font_in_use s.settings)) command.bytes
-drawn_keeps dpi FillRectangle command = grind arith
-drawn_keeps dpi other command = search rules
+drawn_keeps dpi other command = grind arith
 
 -- ---- pages that are added
 
@@ -76,8 +72,7 @@ then_from (Ok now) next e = (now, refl, e)
 then_from (Err kind) next e = absurd cc
 
 pub unless_from : (why : Option Kind) {s later : Situation} → unless_refused why s ≡ Ok later → later ≡ s
-unless_from None e = cc
-unless_from (Some kind) e = absurd cc
+unless_from why e = grind arith
 
 adds_drawn : (dpi : Dpi) (operation : Operation) (command : Said) {s now later : Situation} → Adds s now
     → drawn_on dpi operation command now ≡ Ok later → Adds s later
@@ -121,8 +116,7 @@ adds_named dpi (Some operation) command s e = after_adds dpi operation command s
 
 limit_from : (past : Bool) {s later : Situation} → nat_le command_limit s.performed ≡ past
     → cond past (Err TooManyCommands) (Ok (counted s)) ≡ Ok later → (later ≡ counted s) × (s.performed < 100000000)
-limit_from true p e = absurd cc
-limit_from false {s} {later} p e = let same : later ≡ counted s = cc in (same, grind (arith, nat_tests))
+limit_from past p e = grind (arith, nat_tests)
 
 -- a command that counts, and isn't refused
 pub record IsCounted (dpi : Dpi) (command : Said) (s later : Situation) : Type 0 where

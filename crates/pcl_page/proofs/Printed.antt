@@ -1,5 +1,5 @@
 -- What is drawn, text and fonts: the performer follows the situation.
-use Rattle.std.proofs.Common.{◌≡◌, ℕ, suc, ◌+◌, ◌-◌, Bool, true, false, cond, List, [], ◌∷◌, Option, Some, None, ℤ, pos, negsuc, refl, sym, subst, ◌∙◌, rules}
+use Rattle.std.proofs.Common.{◌≡◌, ℕ, suc, ◌+◌, ◌-◌, Bool, true, false, cond, List, [], ◌∷◌, Option, Some, None, ℤ, pos, negsuc, refl, sym, subst, ◌∙◌, rules, arith}
 use Rattle.std.specs.Prelude.{◌==◌}
 use Rattle.pcl_base.specs.declared.dpi.Dpi.{Dpi}
 use Rattle.pcl_base.specs.declared.operation.Side.{Side}
@@ -68,8 +68,7 @@ inked_by black d = record {
 }
 
 black_again : (covers is_black : Bool) → (covers ≡ true → is_black ≡ true) → is_black ≡ cond covers true is_black
-black_again true is_black black = black refl
-black_again false is_black black = refl
+black_again covers is_black black = grind arith
 
 -- to draw once more what is inked changes nothing
 pub drawn_again : {mark : Mark} {performer : Performer} → mark.ink ≡ Black → IsInked mark performer → IsDrawn mark performer performer
@@ -96,8 +95,7 @@ advance_use (pos n) s = move_use s.in_use (s.cursor.x + n) s
 advance_use (negsuc n) s = move_use s.in_use (s.cursor.x - suc n) s
 
 blank_use : (space : Bool) (units : ℤ) (s : Settings) → font_in_use (cond space (advance units s) s) ≡ font_in_use s
-blank_use true units s = advance_use units s
-blank_use false units s = refl
+blank_use space units s = grind (arith, advance_use)
 
 code_use : (dpi : Dpi) (proportional : Bool) (c : Option Character) (code : ℕ) (s : Situation)
     → font_in_use (code_printed dpi proportional c code s).settings ≡ font_in_use s.settings
@@ -106,8 +104,7 @@ code_use dpi proportional (Some c) code s = advance_use _ s.settings
 
 code_fonts : (dpi : Dpi) (proportional : Bool) (c : Option Character) (code : ℕ) (s : Situation)
     → (code_printed dpi proportional c code s).fonts ≡ s.fonts
-code_fonts dpi proportional None code s = refl
-code_fonts dpi proportional (Some c) code s = refl
+code_fonts dpi proportional c code s = grind arith
 
 -- codes that are printed up to here, of codes that a situation begins with
 pub record IsPrintedTo (dpi : Dpi) (proportional : Bool) (s : Situation) (codes rest : List ℕ) (performer : Performer) : Type 0 where
@@ -157,27 +154,21 @@ all_done p e = rw (rw e at p.left) at p.is_in
 
 -- ---- with a font and without
 
-no_font : (font : Option Font) → None ≡ info_of font → font ≡ None
-no_font None e = refl
-no_font (Some font) e = absurd cc
-
 pub text_refused : (codes : List ℕ) (font : Option Font) → None ≡ info_of font → are_spaces codes ≡ false
     → text_refusal codes font ≡ Some NoFont
-text_refused codes font e blank = rw (no_font font e, blank) refl
+text_refused codes font e blank = grind arith
 
 pub text_blank : (codes : List ℕ) (font : Option Font) → None ≡ info_of font → are_spaces codes ≡ true → text_refusal codes font ≡ None
-text_blank codes font e blank = rw (no_font font e, blank) refl
+text_blank codes font e blank = grind arith
 
 pub blank_advance : (font : Option Font) → None ≡ info_of font → is_proportional font ≡ false
-blank_advance font e = rw (no_font font e) refl
+blank_advance font e = grind arith
 
 pub text_taken : (codes : List ℕ) (font : Option Font) {info : FontInfo} → Some info ≡ info_of font → text_refusal codes font ≡ None
-text_taken codes None e = absurd cc
-text_taken codes (Some font) e = refl
+text_taken codes font e = grind arith
 
 pub text_advance : (font : Option Font) {info : FontInfo} → Some info ≡ info_of font → is_proportional font ≡ info.proportional
-text_advance None e = absurd cc
-text_advance (Some font) e = cc
+text_advance font e = grind arith
 
 pub printed_as : {dpi : Dpi} {one other : Bool} {new : Performer} (characters : ℕ → Option Character) (codes : List ℕ) (s : Situation)
     → other ≡ one → IsIn dpi (codes_printed dpi one characters codes s) new → IsIn dpi (codes_printed dpi other characters codes s) new

@@ -57,8 +57,7 @@ pub only_stays : (s : Settings) {done : Settings × Effect} → stays s ≡ Some
 only_stays s {done} e = let same : ◌≡◌ {A = Settings × Effect} (s, Stay) done = cc in rw (← same) refl
 
 taken_stays : (below : Bool) (s : Settings) {done : Settings × Effect} → cond below None (stays s) ≡ Some done → done.1 ≡ Stay
-taken_stays true s e = absurd cc
-taken_stays false s e = only_stays s e
+taken_stays below s e = grind arith
 
 -- they let the page stay
 refused_stays : (dpi : Dpi) (operation : Operation) (command : Said) (m : Bool) (settings : Settings) {done : Settings × Effect}

@@ -77,8 +77,7 @@ white_in i none x y wide high =
     i.painted.dots x y (rw (p.size_is, p.dpi_is) at wide) (rw (p.size_is, p.dpi_is) at high) ∙ rw none refl
 
 unmarked : (marks : List Mark) → are_marked marks ≡ false → marks ≡ []
-unmarked [] e = refl
-unmarked (mark ∷ older) e = absurd cc
+unmarked marks e = grind arith
 
 -- and a white page shows no marks
 white_painted : {dpi : Dpi} {size : Size} {bitmap : Picture} → bitmap.size ≡ size → bitmap.dpi ≡ dpi → IsWhite bitmap

@@ -12,14 +12,12 @@ use Rattle.pcl_base.specs.Limits.{macro_limit}
 use Rattle.pcl_base.specs.Operation.{operation_of}
 use Rattle.pcl_env.specs.Settings.{Settings}
 use Rattle.pcl_escape.specs.Said.{Said}
-use Rattle.pcl_macros.specs.Table.{Begun}
 use Rattle.pcl_page.specs.declared.interpreter.Running.{Running}
 use Rattle.pcl_page.specs.declared.macros.Action.{Action}
-use Rattle.pcl_page.specs.declared.macros.Action.TheVariants.{End}
 use Rattle.pcl_page.specs.declared.macros.Keeping.{Keeping}
 use Rattle.pcl_page.specs.declared.macros.Keeping.TheVariants.{Kept, Ends, Refused}
 use Rattle.pcl_page.specs.Situation.{Situation, tried}
-use Rattle.pcl_page.specs.Macros.{Run, action_of, keeping_of, definition_ended, acted, managed, counting, defining, after_command, run_of, macro_ended}
+use Rattle.pcl_page.specs.Macros.{Run, action_of, keeping_of, acted, managed, counting, defining, after_command, run_of, macro_ended}
 use Rattle.pcl_page.specs.Performing.{Performance, done, stopped, unless, then_on, in_order, concluded, and_run, step, commands_left, runs}
 use Rattle.pcl_page.specs.inner.Unfolding.{run_in, entered, HasLevel, rest_of, resumed, begun_among}
 use Rattle.pcl_page.proofs.Keeping.{then_from, is_counted}
@@ -117,14 +115,8 @@ pub record ActsOnMacros (s later : Situation) : Type 0 where
 same_acts : {s now later : Situation} → ActsOnMacros s now → ◌≡◌ {A = Result Situation Kind} (Ok now) (Ok later) → ActsOnMacros s later
 same_acts {s} {now} {later} a e = let same : now ≡ later = cc in rw same at a
 
-ended_acts : (place : ℕ) (begun : Option Begun) {s later : Situation} → definition_ended place begun s ≡ Ok later → ActsOnMacros s later
-ended_acts place None e = absurd cc
-ended_acts place (Some d) e = same_acts (record { pages = refl; performed = refl }) e
-
 acted_acts : (place : ℕ) (action : Option Action) {s later : Situation} → acted place action s ≡ Ok later → ActsOnMacros s later
-acted_acts place None e = absurd cc
-acted_acts place (Some End) {s} e = ended_acts place s.begun e
-acted_acts place other e = same_acts (record { pages = refl; performed = refl }) e
+acted_acts place action e = grind arith
 
 pub managed_acts : (place : ℕ) (operation : Option Operation) (value : Value) {s later : Situation}
     → managed place operation value s ≡ Ok later → ActsOnMacros s later
