@@ -1,5 +1,5 @@
 -- The command that ends a definition counts, and runs no macro.
-use Rattle.std.proofs.Common.{◌≡◌, ℕ, Bool, true, cond, [], Option, Some, None, Result, Ok, refl, sym, ap, ◌∙◌, append-nil}
+use Rattle.std.proofs.Common.{◌≡◌, ℕ, Bool, true, cond, [], Option, Some, None, Result, Ok, refl, sym, ap, ◌∙◌, append-nil, arith}
 use Rattle.std.specs.Prelude.{is_some}
 use Rattle.pcl_base.specs.declared.dpi.Dpi.{Dpi}
 use Rattle.pcl_base.specs.declared.fault.CallFault.{CallFault}
@@ -33,8 +33,7 @@ run_inside command s e =
 
 -- what ends a definition is its end
 control_ends : (action : Option Action) → control_keeping action ≡ Ends → action ≡ Some End
-control_ends (Some End) e = refl
-control_ends other e = absurd cc
+control_ends action e = grind arith
 
 pub ends_is : (operation : Option Operation) (value : Value) → keeping_of operation value ≡ Ends
     → (operation ≡ Some ControlMacros) × (action_of value ≡ Some End)

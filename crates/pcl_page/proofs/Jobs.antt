@@ -187,9 +187,8 @@ show_more : {dpi : Dpi} (pages : List Page) {page : Page} (sheets : List Sheet) 
     → Shows dpi page sheet
     → AllShow dpi (pages ++ page ∷ []) (sheets ++ sheet ∷ [])
 show_more [] [] a s = (s, tt)
-show_more [] (one ∷ sheets) a s = absurd a
-show_more (first ∷ pages) [] a s = absurd a
 show_more (first ∷ pages) (one ∷ sheets) a s = (a.0, show_more pages sheets a.1 s)
+show_more pages sheets a s = absurd a
 
 -- a copy shows what the page shows
 copy_shows : {dpi : Dpi} {page copy : Page} {sheet : Sheet} → Shows dpi page sheet → IsSamePage page copy → Shows dpi copy sheet

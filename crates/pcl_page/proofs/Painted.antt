@@ -1,13 +1,12 @@
 -- What is inked: black over what was there, and a row that was decoded and painted.
-use Rattle.std.proofs.Common.{◌≡◌, ℕ, ◌+◌, ◌*◌, Bool, true, false, cond, ◌||◌, List, ◌++◌, length, take, drop, refl}
+use Rattle.std.proofs.Common.{◌≡◌, ℕ, ◌+◌, ◌*◌, Bool, true, false, cond, ◌||◌, List, ◌++◌, length, take, drop, refl, arith}
 use Rattle.std.proofs.lemmas.List.{take_at}
 use Rattle.pcl_bitmap.specs.Dots.{raster_dot}
 use Rattle.pcl_page.specs.Raster.{Raster, row_mark, is_below_height}
 
 -- black over another ink
 pub or_is : (covered before : Bool) → (covered || before) ≡ cond covered true before
-or_is true before = refl
-or_is other before = refl
+or_is covered before = grind arith
 
 -- bytes that were written over a whole buffer
 pub written : {new : List ℕ} (items : List ℕ) {len : ℕ} → length new ≡ len → take len (new ++ drop (length new) items) ≡ new

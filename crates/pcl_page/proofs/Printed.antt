@@ -3,7 +3,6 @@ use Rattle.std.proofs.Common.{◌≡◌, ℕ, suc, ◌+◌, ◌-◌, Bool, true,
 use Rattle.std.specs.Prelude.{◌==◌}
 use Rattle.pcl_base.specs.declared.dpi.Dpi.{Dpi}
 use Rattle.pcl_base.specs.declared.operation.Side.{Side}
-use Rattle.pcl_base.specs.declared.operation.Side.TheVariants.{Primary, Secondary}
 use Rattle.pcl_base.specs.declared.kind.Kind.TheVariants.{NoFont}
 use Rattle.pcl_bitmap.specs.declared.ink.Ink.TheVariants.{Black}
 use Rattle.pcl_escape.specs.Said.{Said}
@@ -87,8 +86,7 @@ last_still dpi characters (Some last) i h = λ c is. inked_still (i c is) h
 
 -- text moves the cursor and leaves the selections
 move_use : (side : Side) (x : ℕ) (s : Settings) → font_of side (put_x x s) ≡ font_of side s
-move_use Primary x s = refl
-move_use Secondary x s = refl
+move_use side x s = grind arith
 
 advance_use : (units : ℤ) (s : Settings) → font_in_use (advance units s) ≡ font_in_use s
 advance_use (pos n) s = move_use s.in_use (s.cursor.x + n) s

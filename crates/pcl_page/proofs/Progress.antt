@@ -134,8 +134,7 @@ at_running p m at = search (rules, p, m)
 
 -- the end of a macro leaves the pages
 pub left_pages : (dpi : Dpi) (saved : Option Settings) (s : Situation) → (macro_ended dpi saved s).pages ≡ s.pages
-left_pages dpi None s = refl
-left_pages dpi (Some settings) s = refl
+left_pages dpi saved s = grind arith
 
 -- ---- work
 
@@ -144,8 +143,7 @@ left_append count [] newer = omega arith
 left_append count (running ∷ older) newer = omega (arith, left_append count older newer)
 
 left_entered : (count : ℕ) (run : Option Run) → left_in count (entered run) ≤ count + 1
-left_entered count None = omega arith
-left_entered count other = omega arith
+left_entered count run = grind arith
 
 -- a command that counts is worth all that its macro may have left
 fewer_left : (performed later count old new : ℕ) → performed < 100000000 → later ≡ performed + 1 → new ≤ old + (count + 1)

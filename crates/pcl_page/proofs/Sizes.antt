@@ -1,11 +1,10 @@
 -- A command that lets the page stay keeps its size.
 use Rattle.std.specs.Prelude.{length}
-use Rattle.std.proofs.Common.{◌≡◌, ℕ, Bool, true, false, cond, List, [], ◌∷◌, Option, Some, None, refl, subst, rules}
+use Rattle.std.proofs.Common.{◌≡◌, ℕ, Bool, true, false, cond, List, Option, Some, None, refl, subst, rules, arith}
 use Rattle.pcl_base.specs.declared.dpi.Dpi.{Dpi}
 use Rattle.pcl_base.specs.declared.method.Method.{Method}
 use Rattle.pcl_base.specs.declared.operation.Asking.TheVariants.{PaperSource}
 use Rattle.pcl_base.specs.declared.operation.Axis.{Axis}
-use Rattle.pcl_base.specs.declared.operation.Axis.TheVariants.{Horizontal, Vertical}
 use Rattle.pcl_base.specs.declared.operation.Unit.{Unit as Measure}
 use Rattle.pcl_base.specs.declared.operation.Operation.{Operation}
 use Rattle.pcl_base.specs.declared.operation.Operation.TheVariants.{Ask}
@@ -40,20 +39,16 @@ stay_keeps : (s t : Settings) → t.size ≡ s.size → KeepsSize s (stays t)
 stay_keeps s t e = record { same = λ stay. e }
 
 if_size : (test : Bool) {size : Size} (one other : Settings) → one.size ≡ size → other.size ≡ size → (cond test one other).size ≡ size
-if_size true one other p q = p
-if_size false one other p q = q
+if_size test one other p q = grind arith
 
 axis_size : (axis : Axis) (unit : Measure) (value : Value) (s : Settings) → (move_along axis unit value s).size ≡ s.size
-axis_size Horizontal unit value s = refl
-axis_size other unit value s = refl
+axis_size axis unit value s = grind arith
 
 rectangle_size : (axis : Axis) (length : ℕ) (s : Settings) → (set_rectangle axis length s).size ≡ s.size
-rectangle_size Horizontal length s = refl
-rectangle_size Vertical length s = refl
+rectangle_size axis length s = grind arith
 
 pop_size : (stack : List Position) (s : Settings) → (popped stack s).size ≡ s.size
-pop_size [] s = refl
-pop_size (place ∷ older) s = refl
+pop_size stack s = grind arith
 
 size_keeps : (size : Option Size) {s : Settings} → KeepsSize s (set_size size s)
 size_keeps None = none_keeps

@@ -30,8 +30,7 @@ use Rattle.pcl_page.proofs.Sizes.{size_kept}
 -- it changes nothing of the page that is ejected, nor what it is asked with
 pub below_same : (dpi : Dpi) (raster : Option Raster) (s : Settings) → ((settings_below dpi raster s).size ≡ s.size)
     × ((settings_below dpi raster s).copies ≡ s.copies) × ((settings_below dpi raster s).asked ≡ s.asked)
-below_same dpi None s = (refl, refl, refl)
-below_same dpi (Some r) s = (refl, refl, refl)
+below_same dpi raster s = grind arith
 
 -- what the end of a raster does, if it ends
 pub record KeepsPage (dpi : Dpi) (ends : Bool) (s other : Situation) : Type 0 where

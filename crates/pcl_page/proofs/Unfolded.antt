@@ -15,7 +15,6 @@ use Rattle.pcl_escape.specs.Said.{Said}
 use Rattle.pcl_page.specs.declared.interpreter.Running.{Running}
 use Rattle.pcl_page.specs.declared.macros.Action.{Action}
 use Rattle.pcl_page.specs.declared.macros.Keeping.{Keeping}
-use Rattle.pcl_page.specs.declared.macros.Keeping.TheVariants.{Kept, Ends, Refused}
 use Rattle.pcl_page.specs.Situation.{Situation, tried}
 use Rattle.pcl_page.specs.Macros.{Run, action_of, keeping_of, acted, managed, counting, defining, after_command, run_of, macro_ended}
 use Rattle.pcl_page.specs.Performing.{Performance, done, stopped, unless, then_on, in_order, concluded, and_run, step, commands_left, runs}
@@ -25,28 +24,14 @@ use Rattle.pcl_page.proofs.Sinks.{Onward, stays_there, onward_on}
 
 -- ---- performances in a row
 
-unless_done : (why : Option Refusal) {s : Situation} → unless why s done ≡ record { situation = s; refusal = why }
-unless_done None = refl
-unless_done (Some why) = refl
-
 pub then_done : {p : Performance} → then_on p done ≡ p
-then_done {p} = unless_done p.refusal
-
-unless_assoc : (why : Option Refusal) (s : Situation) (f g : Situation → Performance)
-    → then_on (unless why s f) g ≡ unless why s (λ t. then_on (f t) g)
-unless_assoc None s f g = refl
-unless_assoc (Some why) s f g = refl
+then_done {p} = grind arith
 
 pub then_assoc : (p : Performance) (f g : Situation → Performance) → then_on (then_on p f) g ≡ then_on p (λ t. then_on (f t) g)
-then_assoc p f g = unless_assoc p.refusal p.situation f g
-
-unless_same : (why : Option Refusal) (s : Situation) {f g : Situation → Performance} → ((t : Situation) → f t ≡ g t)
-    → unless why s f ≡ unless why s g
-unless_same None s e = e s
-unless_same (Some why) s e = refl
+then_assoc p f g = grind arith
 
 pub then_same : (p : Performance) {f g : Situation → Performance} → ((t : Situation) → f t ≡ g t) → then_on p f ≡ then_on p g
-then_same p e = unless_same p.refusal p.situation e
+then_same p e = grind arith
 
 -- ---- macros that run
 
@@ -136,9 +121,7 @@ KeptOrCounts s later = ((later ≡ s) × (is_some s.begun ≡ true)) ⊎ Counts 
 
 defining_counts : (dpi : Dpi) (place : ℕ) (keeping : Keeping) (command : Said) {s later : Situation} → is_some s.begun ≡ true
     → defining dpi place keeping command s ≡ Ok later → KeptOrCounts s later
-defining_counts dpi place Kept command {s} {later} b e = let same : later ≡ s = cc in inl (same, b)
-defining_counts dpi place Ends command b e = inr (counting_counts dpi place command e)
-defining_counts dpi place (Refused kind) command b e = absurd cc
+defining_counts dpi place keeping command b e = grind (arith, counting_counts)
 
 pub command_by : (dpi : Dpi) (place : ℕ) (command : Said) {s later : Situation} (begun : Bool) → is_some s.begun ≡ begun
     → cond begun (defining dpi place (keeping_of (operation_of command.name) command.value) command s) (counting dpi place command s)

@@ -8,8 +8,7 @@ use Rattle.pcl_page.proofs.performer.Performer.try_command.Goals as goal
 
 -- a raster that may have ended has no more rows than before
 rows_left : (ends : Bool) (raster : Option Raster) → rows_in (cond ends None raster) ≤ rows_in raster
-rows_left true raster = omega arith
-rows_left other raster = omega arith
+rows_left ends raster = grind arith
 
 pub returns-in_default : goal.returns-in_default
 returns-in_default g c = λ s i. (
