@@ -9,7 +9,6 @@ use Rattle.pcl_base.specs.declared.refusal.Refusal.{Refusal}
 use Rattle.pcl_base.specs.Limits.{macro_limit, command_limit}
 use Rattle.pcl_base.specs.Size.{page_width, page_height, page_row_bytes}
 use Rattle.pcl_base.proofs.PageBounds.{height_small}
-use Rattle.pcl_escape.specs.Said.{Said}
 use Rattle.pcl_escape.specs.Pieces.{commands_of, IsReading}
 use Rattle.pcl_env.specs.Settings.{Settings, defaults, nothing_asked}
 use Rattle.pcl_env.specs.Outcome.{outcome}
@@ -22,10 +21,10 @@ use Rattle.pcl_macros.specs.History.{control as macro_control}
 use Rattle.pcl_page.proofs.Turns.{pages_fit}
 use Rattle.pcl_page.specs.Marks.{Mark, is_black}
 use Rattle.pcl_page.specs.Situation.{Sheet, Situation, at_begin, at_end, after}
-use Rattle.pcl_page.specs.Performing.{Shows, Performance, done, unless, then_on, runs, after_all, end_refusal, ended, after_end, performance, pages_of, asks_among}
+use Rattle.pcl_page.specs.Performing.{Shows, Performance, done, unless, then_on, runs, after_all, end_refusal, ended, after_end, pages_of, asks_among}
 use Rattle.pcl_page.specs.Asks.{Asks}
 use Rattle.pcl_page.specs.Jobs.{HasPages, HasAsks, performance_of}
-use Rattle.pcl_output.specs.Tokens.{Token, opening, method, commands_in, command_count, token_bytes, start_bytes, end_bytes, frame_bytes}
+use Rattle.pcl_output.specs.Tokens.{Token, method, commands_in, command_count, token_bytes, start_bytes, end_bytes, frame_bytes}
 use Rattle.pcl_output.specs.PageText.{IsPageText, bitmap_rows}
 use Rattle.pcl_writer.specs.Appending.{IsWrittenPage}
 use Rattle.pcl_page.specs.Alike.{AreAlike, AllAlike}
@@ -52,8 +51,7 @@ text_read {dpi} {size} {copies} {rows} printed =
     (reads_joined (start_read dpi size small) (reads_joined (tokens_read false printed.tokens _ _ rows printed.prints few) end_read))
 
 token_counted : (token : Token) → length (token_deeds token) ≡ commands_in token
-token_counted opening = refl
-token_counted other = refl
+token_counted token = grind arith
 
 body_counted : (tokens : List Token) → length (body_deeds tokens) ≡ command_count tokens
 body_counted [] = refl
@@ -209,20 +207,17 @@ end_fits : (dpi : Dpi) (s : Situation) → end_refusal dpi s ≡ None → length
 end_fits dpi s n = grind (arith, nat_tests)
 
 ended_fits : (dpi : Dpi) (end : ℕ) (s : Situation) (why : Option Kind) → end_refusal dpi s ≡ why → Fits (ended dpi end why s)
-ended_fits dpi end s None e = λ n. end_fits dpi s e
-ended_fits dpi end s (Some kind) e = λ n. absurd cc
+ended_fits dpi end s why e = grind (arith, end_fits)
 
 -- it is the end of the input that tells
 unless_fits : (dpi : Dpi) (end : ℕ) (why : Option Refusal) (s : Situation) → Fits (unless why s (after_end dpi end))
 unless_fits dpi end None s = ended_fits dpi end s (end_refusal dpi s) refl
 unless_fits dpi end (Some why) s = λ n. absurd cc
 
-performance_fits : (dpi : Dpi) (end : ℕ) (commands : List Said) → Fits (performance dpi end commands)
-performance_fits dpi end commands =
-    let first = after_all dpi commands 0 commands at_begin in unless_fits dpi end first.refusal first.situation
-
 pub job_fits : {dpi : Dpi} {job : List ℕ} {pages : List Sheet} → HasPages dpi job pages → length pages ≤ 256
-job_fits {dpi} {job} h = rw h.ejected (performance_fits dpi (length job) h.commands h.accepted)
+job_fits {dpi} {job} h =
+    let first = after_all dpi h.commands 0 h.commands at_begin in
+    rw h.ejected (unless_fits dpi (length job) first.refusal first.situation h.accepted)
 
 -- ---- a job that is written again
 

@@ -79,8 +79,7 @@ between t pages n = record {
 
 prepared_is : (dpi : Dpi) (ends : Bool) {t : Settings} {pages : List Sheet} {n : ℕ}
     → cond ends (end_raster dpi (between t pages n)) (between t pages n) ≡ between t pages n
-prepared_is dpi true = refl
-prepared_is dpi false = refl
+prepared_is dpi ends = grind arith
 
 -- ---- what the start of a text sets
 
@@ -153,14 +152,12 @@ abbrev zeros : Size → Dpi → List ℕ
 zeros size dpi = replicate (bytes_of_width (page_width size dpi)) 0
 
 first_dot : (dpi : Dpi) {y : ℕ} → y ≡ 0 → dot_at dpi y ≡ 0
-first_dot Dpi300 e = omega (arith, e)
-first_dot Dpi600 e = omega (arith, e)
+first_dot dpi e = grind arith
 
 one_scale : (dpi : Dpi) (size : Size) {top : ℕ} {height : Option ℕ} → height ≡ None → top ≡ 0
     → record (body_raster size dpi 0 (zeros size dpi)) { top = top; scale = scale_of dpi (dots_per_inch dpi); height = height }
     ≡ body_raster size dpi 0 (zeros size dpi)
-one_scale Dpi300 size h t = rw (h, t) refl
-one_scale Dpi600 size h t = rw (h, t) refl
+one_scale dpi size h t = grind arith
 
 start_after : {size : Size} (dpi : Dpi) {copies : ℕ} {t : Settings} {pages : List Sheet} (n : ℕ) → IsBetween t
     → does dpi (deed StartRaster (number_value 0) []) (between (ready dpi size copies t) pages n)
@@ -253,9 +250,7 @@ record IsPrinted (size : Size) (dpi : Dpi) (t : Settings) (deeds : List Deed) (r
 
 -- a newer mark beside dots of rows below it
 newer_mark : (below row older : Bool) → (below || cond row true older) ≡ ((row || below) || older)
-newer_mark true true older = refl
-newer_mark false true older = refl
-newer_mark below row older = refl
+newer_mark below row older = grind arith
 
 sent_dots : (size : Size) (dpi : Dpi) (k : ℕ) (seed row : List ℕ) (rest : List (List ℕ)) (inked : List Mark) (x y : ℕ)
     → x < page_width size dpi
@@ -336,8 +331,7 @@ feed_after dpi u marks pages n e = rw (asks_more pages (record { size = u.size; 
 
 feed_between : (test : Bool) (u : Settings) → u.method ≡ Plain → u.raster_height ≡ None → u.asked ≡ nothing_asked
     → IsBetween (to_first_line (cond test (return_carriage u) u))
-feed_between true u plain none asked = record { method = plain; height = none; asked = asked }
-feed_between other u plain none asked = record { method = plain; height = none; asked = asked }
+feed_between test u plain none asked = grind arith
 
 -- where the settings are between texts again
 abbrev ended_at : Size → Dpi → Settings → Method → ℕ → List ℕ → Settings

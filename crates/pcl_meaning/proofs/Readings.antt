@@ -191,8 +191,7 @@ unfolding operation_of
 row_named = refl
 
 count_checks : (n : ℕ) → data_checks 87 (number_value n) n ≡ Ok n
-count_checks zero = refl
-count_checks (suc n) = rw (whole_is (suc n)) (grind (arith, nat_tests))
+count_checks n = grind (arith, nat_tests)
 
 row_checks : (digits : List ℕ) {n : ℕ} → IsSpelled digits n → n ≤ 65535
     → parameter_checks (Three 42 98 87) 87 (field_value (number_field digits)) n ≡ Ok n

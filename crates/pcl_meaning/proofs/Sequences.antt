@@ -6,15 +6,12 @@ use Rattle.std.specs.List.{flat_map, AllByRecursion}
 use Rattle.std.proofs.lemmas.List.{length-drop}
 use Rattle.std.proofs.lemmas.List.Concat.{flat_map-append}
 use Rattle.pcl_base.specs.declared.dpi.Dpi.{Dpi}
-use Rattle.pcl_base.specs.declared.dpi.Dpi.TheVariants.{Dpi300, Dpi600}
 use Rattle.pcl_base.specs.declared.method.Method.{Method}
-use Rattle.pcl_base.specs.declared.method.Method.TheVariants.{Plain}
 use Rattle.pcl_base.specs.declared.operation.Axis.TheVariants.{Horizontal, Vertical}
 use Rattle.pcl_base.specs.declared.operation.Unit.TheVariants.{PclUnit}
 use Rattle.pcl_base.specs.declared.operation.Operation.{Operation}
 use Rattle.pcl_base.specs.declared.operation.Operation.TheVariants.{Reset, FormFeed, PageSize, Copies, TopMargin, Move, RasterResolution, RasterWidth, StartRaster, EndRasterResetMethod, RasterMethod, RasterOffset, RasterRow}
 use Rattle.pcl_base.specs.declared.size.Size.{Size}
-use Rattle.pcl_base.specs.declared.size.Size.TheVariants.{Executive}
 use Rattle.pcl_base.specs.Dpi.{dots_per_inch}
 use Rattle.pcl_base.specs.Method.{method_code}
 use Rattle.pcl_base.specs.Operation.{operation_of}
@@ -71,8 +68,7 @@ row_prefix_is : IsPrefix row_prefix
 row_prefix_is = (refl, refl)
 
 code_small : (m : Method) → method_code m ≤ 65535
-code_small Plain = lit≤ tt
-code_small other = lit≤ tt
+code_small m = grind arith
 
 -- the bytes of a sequence's parameters so far, and after them those of tokens
 abbrev inside_bytes : List Parameter → List Token → List ℕ
@@ -173,12 +169,10 @@ zero_digit : IsSpelled (48 ∷ []) 0
 zero_digit = ((refl, tt), refl)
 
 size_code_small : (size : Size) → code_of size ≤ 65535
-size_code_small Executive = lit≤ tt
-size_code_small other = lit≤ tt
+size_code_small size = grind arith
 
 dots_small : (dpi : Dpi) → dots_per_inch dpi ≤ 65535
-dots_small Dpi300 = lit≤ tt
-dots_small Dpi600 = lit≤ tt
+dots_small dpi = grind arith
 
 -- sequences of settings alone, by their bytes
 page_read : {copies : ℕ} (size : Size) → copies ≤ 65535
