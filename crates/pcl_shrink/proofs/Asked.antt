@@ -25,9 +25,7 @@ exits_more : (number : ℕ) (exits : List Exit) (exit : Exit)
 exits_more number exits exit = simp (flat_map-append, flat_map-cons, append-nil)
 
 either_order : (a b c : Bool) → (a || (b || c)) ≡ (b || (a || c))
-either_order true true c = refl
-either_order false true c = refl
-either_order a b c = refl
+either_order a b c = grind arith
 
 found_more : (number : ℕ) (exits : List Exit) (exit : Exit)
     → is_exit_after number (exits ++ exit ∷ []) ≡ ((exit.pages == number) || is_exit_after number exits)
