@@ -1,6 +1,5 @@
 -- Faults that come of reading a file.
-use Rattle.std.proofs.Common.{List, ℕ, Result, Ok, Err, inl, inr, sym, subst}
-use Rattle.std.specs.Global.{Vec}
+use Rattle.std.proofs.Common.{List, ℕ, Err, arith}
 use Rattle.pcl_tool.specs.declared.fault.Fault.{Fault}
 use Rattle.pcl_tool.specs.declared.fault.Fault.TheVariants.{Memory, ReadFault, TooLong}
 use Rattle.pcl_command.specs.Files.{FileAct}
@@ -13,14 +12,6 @@ IsReadFault TooLong = Unit {0}
 IsReadFault Memory = Unit {0}
 IsReadFault other = ⊥
 
-abbrev IsFailedRead : Result (Vec ℕ) Fault → Type 0
-IsFailedRead (Err fault) = IsReadFault fault
-IsFailedRead (Ok bytes) = ⊥
-
 pub read_fault : {F : Type 0} (acts : F → FileAct → F → Type 0) (files : F) (name : List ℕ) (fault : Fault)
     → IsFileRead acts files name (Err fault) → IsReadFault fault
-read_fault acts files name fault (inl r) = subst IsFailedRead (sym r.1) tt
-read_fault acts files name ReadFault (inr r) = tt
-read_fault acts files name TooLong (inr r) = tt
-read_fault acts files name Memory (inr r) = tt
-read_fault acts files name other (inr r) = r.3
+read_fault acts files name fault r = grind arith

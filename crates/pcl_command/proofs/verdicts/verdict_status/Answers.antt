@@ -1,12 +1,11 @@
-use Rattle.std.proofs.Common.{◌≡◌, refl}
+use Rattle.std.proofs.Common.{◌≡◌, arith}
 use Rattle.pcl_tool.specs.declared.job_verdict.JobVerdict.{JobVerdict}
 use Rattle.pcl_tool.specs.declared.job_verdict.JobVerdict.TheVariants.{Proved}
 use Rattle.pcl_command.specs.Checks.{verdict_status_for}
 use Rattle.pcl_command.proofs.verdicts.verdict_status.Goals as goal
 
 not_proved : (verdict : JobVerdict) → (verdict ≡ Proved → ⊥) → 1 ≡ verdict_status_for verdict
-not_proved Proved other = absurd (other refl)
-not_proved found other = refl
+not_proved verdict other = grind arith
 
 pub returns-in-Proved : goal.returns-in-Proved
 returns-in-Proved c = rw c.in-Proved.is
