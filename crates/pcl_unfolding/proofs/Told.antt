@@ -1,5 +1,5 @@
 -- Performing and unfolding say the same.
-use Rattle.std.proofs.Common.{◌≡◌, ℕ, ◌+◌, ◌-◌, zero, suc, Bool, true, false, List, [], ◌∷◌, length, Option, Some, None, Result, Ok, Err, refl, sym, ap, subst, ◌∙◌, if◌then◌else◌}
+use Rattle.std.proofs.Common.{◌≡◌, ℕ, ◌+◌, ◌-◌, zero, suc, Bool, true, false, List, [], ◌∷◌, length, Option, Some, None, Result, Ok, Err, refl, sym, ap, subst, ◌∙◌, if◌then◌else◌, arith}
 use Rattle.std.specs.Prelude.{◌&&◌}
 use Rattle.std.specs.Option.{option_map}
 use Rattle.pcl_base.specs.declared.dpi.Dpi.{Dpi}
@@ -28,8 +28,7 @@ use Rattle.pcl_unfolding.proofs.Added.{GoesOn, within, unfolded_adds, looked_bac
 told_on : (dpi : Dpi) (why : Option Refusal) (items : List Item) (next : Situation → Performance) (add_next : List Item → Unfolding)
     → next (now dpi items) ≡ performed_by dpi (add_next items)
     → unless_performed why (now dpi items) next ≡ performed_by dpi (unless why items add_next)
-told_on dpi None items next add_next told = told
-told_on dpi (Some why) items next add_next told = refl
+told_on dpi why items next add_next told = grind arith
 
 turn_told : (dpi : Dpi) (perform : ℕ → Said → Situation → Performance) (add_one : ℕ → Said → List Item → Unfolding)
     → ((place : ℕ) (command : Said) (items : List Item)
@@ -53,8 +52,7 @@ abbrev run_with_body : Option Action → Situation → Option Run
 run_with_body control s = option_map (run_with (saved_by control s)) (body_run control s)
 
 run_is_by : (control : Option Action) (s : Situation) → run_by control s ≡ run_with_body control s
-run_is_by (Some Call) s = refl
-run_is_by other s = refl
+run_is_by control s = grind arith
 
 -- ---- one command
 
@@ -73,8 +71,7 @@ later_told : (run : Said → Run → Situation → Performance) (command : Said)
     → ((later : Situation) → one later ≡ other later) → (s : Situation) (led : Result Situation Kind)
     → then_on (concluded command s led) (λ (later : Situation). and_run (run command) (one later) later)
     ≡ then_on (concluded command s led) (λ (later : Situation). and_run (run command) (other later) later)
-later_told run command same s (Err kind) = refl
-later_told run command same s (Ok later) = rw (same later) refl
+later_told run command same s led = grind (arith, same)
 
 module _ (dpi : Dpi) (run : Said → Run → Situation → Performance) (bodies : Bodies) (told : AreTold dpi run bodies) where
   body_told : (command : Said) (control : Option Action) (body : Option MacroBody) (items : List Item)
