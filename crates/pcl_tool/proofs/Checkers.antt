@@ -19,8 +19,7 @@ use Rattle.pcl_tool.specs.inner.CheckerSteps.{FindsNext, TakesPage, proofs_left,
 -- what is found wrong stays
 wrong_stays : (found : JobVerdict) (proof : PageProof) (old new : Checker) (page : Page) → (found ≡ job.Proved → ⊥)
     → FindsNext found proof old page new → new.found ≡ found
-wrong_stays job.Proved proof old new page wrong f = absurd (wrong refl)
-wrong_stays found proof old new page wrong f = f
+wrong_stays found proof old new page wrong f = grind arith
 
 -- a page that takes a proof
 step : (proof : PageProof) (later : List PageProof) (old new : Checker) (page : Page) → proofs_left old ≡ proof ∷ later

@@ -36,10 +36,7 @@ use Rattle.pcl_meaning.proofs.WrittenJobs.{job_of_texts}
 
 least_lists : (page : Page) (format : Format) (places : Option (List (List ℕ))) → HasLeastLists page format places
     → AreLeastOf page places
-least_lists page One None has = tt
-least_lists page One (Some lists) has = absurd (let no : Some lists ≡ None = has in cc)
-least_lists page Two None has = absurd has
-least_lists page Two (Some lists) has = has
+least_lists page format places has = grind arith
 
 -- a text along a plan of its page
 pub plan_proves : (format : Format) (page : Page) (text : List ℕ) (plan : StepsAndTable) (proof : PageProof)
@@ -126,8 +123,7 @@ not_taken takes dpi job begun Memory h = tt
 -- a refusal is the job's, and no fault comes but this and out of memory, whatever is wanted
 pub not_written : (dpi : Dpi) (job : List ℕ) (format : Option Format) (fault : Fault) → RefusedOrMemory (IsRefusal dpi job) fault
     → IsOutput dpi job format (Err fault)
-not_written dpi job None fault came = came
-not_written dpi job other fault came = came
+not_written dpi job format fault came = grind arith
 
 pub written_output : {dpi : Dpi} {job : List ℕ} (format : Option Format) (output : Output) {pages : List Sheet} (old new : SoFar)
     → HasPages dpi job pages → old.format ≡ format → old.bytes ≡ frame_bytes → IsBegun format old.certificate

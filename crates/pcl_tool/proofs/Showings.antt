@@ -51,8 +51,7 @@ none_chosen All = refl
 none_chosen (Range before count) = rw (drop-nil, take-nil)
 
 met_of_none : (choice : PageChoice) → AreThere choice 0 ↔ IsMet choice
-met_of_none All = (λ there. tt, λ met. tt)
-met_of_none (Range before count) = (λ there. (omega (arith, there), omega (arith, there)), λ met. omega (arith, met.0, met.1))
+met_of_none choice = grind arith
 
 pub has_shown : (dpi : Dpi) (sheets : List Sheet) (old new : Showing) → Hands shows_next dpi sheets old new → HasShown dpi sheets old new
 has_shown dpi [] old new h = rw h (record {
