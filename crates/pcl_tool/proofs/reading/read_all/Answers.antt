@@ -17,17 +17,7 @@ returns-in_err-extend_from_slice g c =
     rw (p.1, p.2) (
       c.loop-chunk.bytes.items ++ take c.in-Ok.count c.read.new.buf,
       Consumes-trans _ _ _ _ _ c.loop-chunk.invariant.given c.in-Ok.ensures.bytes.0,
-      omega (
-        arith,
-        length-append {A = ℕ},
-        length-take {A = ℕ},
-        c.read.auto.buf,
-        c.min-room.ensures,
-        c.saturating_add.ensures,
-        c.len-in-loop-chunk.ensures,
-        c.len.ensures,
-        c.loop-chunk.bytes.ok.0,
-      ),
+      omega (arith, length-append {A = ℕ}, length-take {A = ℕ}, c.read.auto.buf, c.min-room.ensures, c.loop-chunk.bytes.ok.0),
     )
 
 pub returns : goal.returns
