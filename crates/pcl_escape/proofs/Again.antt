@@ -1,5 +1,5 @@
 -- All steps, the other way: bytes that are whole pieces are read as these, and the first fault is found.
-use Rattle.std.proofs.Common.{◌≡◌, false, ◌==◌, ◌&&◌, not, is_some, ℕ, zero, suc, ◌+◌, ◌-◌, ◌<◌, ◌≤◌, List, [], ◌∷◌, ◌++◌, length, Option, Some, None, Result, Ok, Err, refl, sym, ap, ◌∙◌, append_assoc, append-nil, length-append, add-zero, zero-add, arith}
+use Rattle.std.proofs.Common.{◌≡◌, ℕ, zero, suc, ◌+◌, ◌-◌, ◌<◌, ◌≤◌, List, [], ◌∷◌, ◌++◌, length, Option, Some, None, Result, Ok, Err, refl, sym, ◌∙◌, append_assoc, append-nil, length-append, add-zero, zero-add, arith}
 use Rattle.std.proofs.lemmas.Bool.Decides.{nat_tests}
 use Rattle.std.specs.List.{flat_map, AllByRecursion}
 use Rattle.pcl_base.specs.declared.refusal.Refusal.{Refusal}
@@ -14,16 +14,15 @@ use Rattle.pcl_escape.specs.Pieces.{Parameter, Piece, silent, control, text, two
 use Rattle.pcl_escape.specs.Faults.{Fails, unknown_control, lone_escape, no_sequence, unknown_two, no_group, bad_group, in_parameter, in_line, IsUngrouped, FailsParameter, place_behind, IsFault}
 use Rattle.pcl_escape.proofs.Lines.{foreign}
 use Rattle.pcl_escape.proofs.Steps.{Inside, is_inside, found_shorter, is_middle, is_end, is_wrong, parameter_shorter, parameter_joined, inside_reads}
-use Rattle.pcl_escape.proofs.Starts.{piece_reads, named_again, unknown_again, at_control, at_two, at_prefix, text_again, inside_again, field_apart, exit_first, exit_again, start_step}
-use Rattle.pcl_escape.proofs.Runs.{Last, no_more, first_fault, sequence_bytes, place_from, place_from_more, place_in_sequence, place_prefixed, grouped_any, middle_grouped, place_of, place_further, place_in, with_fronts, no_front, start_shorter}
+use Rattle.pcl_escape.proofs.Starts.{piece_reads, named_again, unknown_again, at_control, at_two, at_prefix, text_again, inside_again, exit_first, exit_again, parts_apart}
+use Rattle.pcl_escape.proofs.Runs.{Last, no_more, first_fault, sequence_bytes, place_from, place_from_more, place_in_sequence, place_prefixed, grouped_any, middle_grouped, place_of, place_further, place_in, with_fronts, no_front, step_shorter, GoesOn}
 
 -- ---- any number of steps that is enough
 
 -- two ways to go on that agree on what the step read
 after_same : (read : Result Reads Refusal) (f g : Reads → Result (List Said) Refusal)
     → ((reads : Reads) → read ≡ Ok reads → f reads ≡ g reads) → and_then read f ≡ and_then read g
-after_same (Ok reads) f g h = ap (with_front (commands_said reads.said)) (h reads refl)
-after_same (Err fault) f g h = refl
+after_same read f g h = grind (arith, h)
 
 -- more steps than there are bytes give what any such number of steps gives
 pub enough : (n m : ℕ) (inside : Option Prefix) (at : ℕ) (bytes : List ℕ) → length bytes < n → length bytes < m
@@ -34,7 +33,8 @@ enough (suc n) zero inside at bytes h k = absurd (omega arith)
 enough (suc n) (suc m) None at [] h k = refl
 enough (suc n) (suc m) None at (byte ∷ bytes) h k =
     after_same (start_at at (byte ∷ bytes)) _ _
-    (λ reads e. let shorter = start_shorter start_step e in enough n m reads.inside _ reads.rest (omega arith) (omega arith))
+    (λ reads e. let shorter = step_shorter None at (byte ∷ bytes) (grind (arith, nat_tests)) e in
+    enough n m reads.inside _ reads.rest (omega arith) (omega arith))
 enough (suc n) (suc m) (Some prefix) at bytes h k =
     after_same (parameter_at prefix at bytes) _ _
     (λ reads e. let shorter = parameter_shorter prefix at bytes e in enough n m reads.inside _ reads.rest (omega arith) (omega arith))
@@ -78,13 +78,9 @@ whole_again (parameter ∷ middle) (suc n) {prefix} at begin {end} {sent} behind
     let long = simp length-append at h in
     let place : begin + length (sequence_bytes (parameter ∷ middle) end sent) ≡ next + length (sequence_bytes middle end sent) =
     simp length-append (omega arith) in
-    let rest = parameter_bytes end ++ (sent ++ behind) in
-    rw (
-      append_assoc (parameter_bytes parameter) (flat_map parameter_bytes middle) rest,
-      middle_on n at begin (flat_map parameter_bytes middle ++ rest) each.0,
-      whole_again middle n next next behind each.1 is (simp length-append (omega arith)) (rw place at gives),
-    )
-    (with_fronts (command_of prefix at parameter [] ∷ []) (parameter_commands prefix next next middle end sent) read)
+    let rest = whole_again middle n next next behind each.1 is (simp length-append (omega arith)) (rw place at gives) in
+    rw (append_assoc (parameter_bytes parameter), middle_on n at begin _ each.0, rest)
+    (with_fronts (command_of prefix at parameter [] ∷ []) _ read)
 
 -- the steps up to the fault of a parameter
 broken_again : (middle : List Parameter) (n : ℕ) {prefix : Prefix} (at begin : ℕ) {bytes : List ℕ} {refusal : Refusal}
@@ -94,26 +90,22 @@ broken_again : (middle : List Parameter) (n : ℕ) {prefix : Prefix} (at begin :
 broken_again [] n at begin each f h = rw (inside_reads (is_wrong f)) refl
 broken_again (parameter ∷ middle) zero at begin each f h = absurd (let long = simp length-append at h in omega arith)
 broken_again (parameter ∷ middle) (suc n) at begin {bytes} each f h =
-    let next = begin + length (parameter_bytes parameter) in
     let long = simp length-append at h in
-    rw (
-      append_assoc (parameter_bytes parameter) (flat_map parameter_bytes middle) bytes,
-      middle_on n at begin (flat_map parameter_bytes middle ++ bytes) each.0,
-      broken_again middle n next next each.1 (rw (← place_from_more begin parameter middle) at f) (simp length-append (omega arith)),
-    ) refl
+    rw (append_assoc (parameter_bytes parameter), middle_on n at begin _ each.0)
+    (rw (broken_again middle n _ _ each.1 (rw (← place_from_more begin parameter middle) at f) (simp length-append (omega arith))) refl)
 
 -- the steps from ESC on are those from the first parameter on, whose command has the place of ESC
 first_on : (n : ℕ) (prefix : Prefix) (at : ℕ) (bytes : List ℕ) {read : Result Reads Refusal} → IsPrefix prefix
     → IsUngrouped prefix.group bytes → Inside prefix at bytes read
     → outcome (suc n) None at (27 ∷ (prefix_bytes prefix ++ bytes)) ≡ steps_in n prefix at (first_place at prefix) bytes
 unfolding outcome
-first_on n prefix at bytes {read} is apart inside = rw (inside_again is apart inside, inside_reads inside)
-    (after_same read _ _ (λ reads f. rw (place_in at prefix bytes (found_shorter (is_inside inside) f)) refl))
+first_on n prefix at bytes {read} is apart inside =
+    rw (inside_again prefix.parameterized prefix.group is apart inside, inside_reads inside)
+    (after_same read _ _ (λ reads f. rw (place_in at prefix bytes (found_shorter (is_inside (rw f at inside)))) refl))
 
 -- what holds where there is no group character holds where there may be one
 ungrouped_front : (group : Option ℕ) (bytes : List ℕ) → IsUngrouped None bytes → IsUngrouped group bytes
-ungrouped_front None bytes n = n
-ungrouped_front (Some group) bytes n = tt
+ungrouped_front group bytes n = grind arith
 
 -- a sequence begins with a middle parameter, or with what is behind these
 sequence_on : (n : ℕ) {prefix : Prefix} (at : ℕ) (middle : List Parameter) {bytes : List ℕ} {read : Result Reads Refusal} → IsPrefix prefix
@@ -122,25 +114,17 @@ sequence_on : (n : ℕ) {prefix : Prefix} (at : ℕ) (middle : List Parameter) {
     ≡ steps_in n prefix at (first_place at prefix) (flat_map parameter_bytes middle ++ bytes)
 sequence_on n {prefix} at [] {bytes} is apart each inside = first_on n prefix at bytes is apart inside
 sequence_on n {prefix} at (parameter ∷ middle) {bytes} is apart each inside =
-    let rest = flat_map parameter_bytes middle ++ bytes in
-    rw (append_assoc (parameter_bytes parameter) (flat_map parameter_bytes middle) bytes)
-    (first_on n prefix at (parameter_bytes parameter ++ rest) is
-    (grouped_any prefix.group (parameter_bytes parameter ++ rest) (middle_grouped each.0)) (is_middle parameter rest each.0))
+    rw (append_assoc (parameter_bytes parameter))
+    (first_on n prefix at _ is (grouped_any prefix.group _ (middle_grouped each.0)) (is_middle parameter _ each.0))
 
 -- ---- pieces
-
--- there is more to read: bytes are left, or a sequence goes on
-abbrev pub GoesOn : Option Prefix → List ℕ → Type 0
-GoesOn inside bytes = (length bytes == 0 && not (is_some inside)) ≡ false
 
 -- the first step, and then the others
 pub first_step : (n : ℕ) (inside : Option Prefix) (at : ℕ) (bytes : List ℕ) → GoesOn inside bytes
     → outcome (suc n) inside at bytes ≡ and_then (step_at inside at bytes)
     (λ reads. outcome n reads.inside (at + (length bytes - length reads.rest)) reads.rest)
 unfolding outcome
-first_step n None at [] goes = absurd cc
-first_step n None at (byte ∷ bytes) goes = refl
-first_step n (Some prefix) at bytes goes = refl
+first_step n inside at bytes goes = grind (arith, nat_tests)
 
 -- the steps from a piece on that one step reads
 piece_on : (piece : Piece) {n : ℕ} (at : ℕ) {rest : List ℕ} {said : Option Said} {read : Result (List Said) Refusal}
@@ -150,12 +134,7 @@ piece_on : (piece : Piece) {n : ℕ} (at : ℕ) {rest : List ℕ} {said : Option
 piece_on piece {n} at {rest} long e h gives =
     let fits = simp length-append at h in
     let some : 0 < length (spelling piece ++ rest) = simp length-append (omega arith) in
-    rw (
-      first_step n None at (spelling piece ++ rest) (grind (arith, nat_tests)),
-      e,
-      place_of at (spelling piece) rest,
-      gives n (omega arith),
-    ) refl
+    rw (first_step n None at (spelling piece ++ rest) (grind (arith, nat_tests)), e, place_of, gives n (omega arith)) refl
 
 -- the steps from any piece on
 piece_again : (piece : Piece) (n at : ℕ) (bytes : List ℕ) {read : Result (List Said) Refusal} → IsPiece piece bytes
@@ -172,16 +151,13 @@ piece_again (two_character byte) (suc n) at bytes is h gives =
     piece_on (two_character byte) at (omega arith) (at_two at byte bytes is.0 ∙ named_again (operation_of (One byte)) is.1) h gives
 piece_again (combined prefix middle end sent) (suc n) at bytes is h gives =
     let long = simp length-append at h in
-    let apart = field_apart end.field end.letter (sent ++ bytes) is.2.field is.2.letter in
-    rw (
-      append_assoc (prefix_bytes prefix) (sequence_bytes middle end sent) bytes,
-      append_assoc (flat_map parameter_bytes middle) (parameter_bytes end ++ sent) bytes,
-      append_assoc (parameter_bytes end) sent bytes,
-      sequence_on n at middle is.0
-          (ungrouped_front prefix.group _ (rw (parameter_joined end.field end.letter (sent ++ bytes)) apart)) is.1
-          (is_end end sent bytes is.2),
-    )
-    (whole_again middle n at (first_place at prefix) bytes is.1 is.2 (simp length-append (omega arith))
+    let field = end.field in
+    let apart = parts_apart field.sign field.whole field.fraction end.letter (sent ++ bytes) is.2.field.0 is.2.letter in
+    let begins = ungrouped_front prefix.group (parameter_bytes end ++ (sent ++ bytes))
+    (rw (parameter_joined field end.letter (sent ++ bytes)) apart) in
+    rw (append_assoc (prefix_bytes prefix), append_assoc (flat_map parameter_bytes middle), append_assoc (parameter_bytes end) sent)
+    (sequence_on n at middle is.0 begins is.1 (is_end end sent bytes is.2)
+    ∙ whole_again middle n at (first_place at prefix) bytes is.1 is.2 (simp length-append (omega arith))
     (rw (← place_prefixed at prefix (sequence_bytes middle end sent)) at gives))
 piece_again (exit field lines) (suc n) at bytes is h gives = piece_on (exit field lines) at (omega arith) (exit_again is) h gives
 
@@ -211,7 +187,7 @@ last_again : (n : ℕ) {at : ℕ} {behind : List ℕ} {last : Result (List Said)
 unfolding outcome
 last_again zero ends h = absurd (omega arith)
 last_again (suc n) no_more h = refl
-last_again (suc n) (first_fault {refusal = refusal} f) h = fault_found f h
+last_again (suc n) (first_fault f) h = fault_found f h
 
 -- pieces and what is after them are read so
 pieces_again : (pieces : List Piece) {n : ℕ} (at : ℕ) {behind : List ℕ} {last : Result (List Said) Refusal} → ArePieces pieces behind
@@ -222,12 +198,8 @@ pieces_again [] {n} at {last = last} each ends h = last_again n (rw (add-zero at
 pieces_again (piece ∷ pieces) {n} at {behind} {last} each ends h =
     let next = at + length (spelling piece) in
     let more = rw (← place_further at (spelling piece) (flat_map spelling pieces)) at ends in
-    rw (
-      append_assoc (spelling piece) (flat_map spelling pieces) behind,
-      piece_again piece n at (flat_map spelling pieces ++ behind) each.0
-          (rw (append_assoc (spelling piece) (flat_map spelling pieces) behind) at h) (λ m fits. pieces_again pieces next each.1 more fits),
-    )
-    (with_fronts (commands_from at piece) (commands_of next pieces) last)
+    rw (append_assoc (spelling piece)) (rw (piece_again piece n at _ each.0 (rw (append_assoc (spelling piece)) at h)
+    (λ m fits. pieces_again pieces next each.1 more fits)) (with_fronts (commands_from at piece) _ last))
 
 -- ---- whole jobs
 
@@ -239,6 +211,4 @@ reading_again r =
 
 -- a first fault of the job is what is found
 pub fault_found_of : {job : List ℕ} {fault : Refusal} → IsFault job fault → outcome_of job ≡ Err fault
-fault_found_of f =
-    let place = zero-add (length (flat_map spelling f.front)) in
-    rw f.spelled (pieces_again f.front 0 f.each (first_fault (rw place f.fails)) (omega arith))
+fault_found_of f = rw f.spelled (pieces_again f.front 0 f.each (first_fault (rw zero-add f.fails)) (omega arith))

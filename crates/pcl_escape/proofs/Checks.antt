@@ -1,5 +1,5 @@
 -- The checks of a parameter look at the bytes after it only to see whether they are enough.
-use Rattle.std.proofs.Common.{◌≡◌, ℕ, ◌≤◌, true, Option, Some, None, inl, inr, Result, Ok, arith}
+use Rattle.std.proofs.Common.{◌≡◌, ℕ, ◌≤◌, true, Option, inl, inr, Result, Ok, arith}
 use Rattle.std.proofs.lemmas.Bool.{cases_Bool}
 use Rattle.std.proofs.lemmas.Bool.Decides.{nat_tests}
 use Rattle.pcl_base.specs.declared.name.Name.{Name}
@@ -19,17 +19,14 @@ pub record Take (checks : ℕ → Result ℕ Kind) (left len : ℕ) : Type 0 whe
 -- the checks after the range
 operation_takes : (operation : Option Operation) (letter : ℕ) (value : Value) {left len : ℕ}
     → operation_checks operation letter value left ≡ Ok len → Take (operation_checks operation letter value) left len
-operation_takes None letter value e = absurd cc
-operation_takes (Some operation) letter value e =
-    record { fits = grind (arith, nat_tests); again = λ more h. grind (arith, nat_tests) }
+operation_takes operation letter value e = record { fits = grind (arith, nat_tests); again = λ more h. grind (arith, nat_tests) }
 
 -- what the checks of a parameter took, they take of any bytes that are enough
 pub checks_take : (name : Name) (letter : ℕ) (value : Value) {left len : ℕ} → parameter_checks name letter value left ≡ Ok len
     → Take (parameter_checks name letter value) left len
 unfolding parameter_checks
 checks_take name letter value e = elim (cases_Bool (in_range value)) [
-  | inl r ↦
-      let taken = operation_takes (operation_of name) letter value (rw r at e) in
+  | inl r ↦ let taken = operation_takes (operation_of name) letter value (rw r at e) in
       record { fits = taken.fits; again = λ more h. rw r (taken.again more h) }
   | inr r ↦ absurd (let none = rw r at e in cc)
 ]
@@ -39,8 +36,7 @@ checks_take name letter value e = elim (cases_Bool (in_range value)) [
 -- the checks after the range, for a letter after which the sequence goes on
 operation_on : (operation : Option Operation) (letter : ℕ) (value : Value) (left : ℕ) {len : ℕ} → goes_on letter ≡ true
     → operation_checks operation letter value left ≡ Ok len → len ≡ 0
-operation_on None letter value left g e = absurd cc
-operation_on (Some operation) letter value left g e = grind (arith, nat_tests)
+operation_on operation letter value left g e = grind (arith, nat_tests)
 
 -- a middle parameter that passes the checks takes no bytes
 pub none_behind : (name : Name) (letter : ℕ) (value : Value) (left : ℕ) {len : ℕ} → goes_on letter ≡ true

@@ -8,7 +8,7 @@ use Rattle.pcl_base.specs.declared.kind.Kind.{Kind}
 use Rattle.pcl_base.specs.declared.kind.Kind.TheVariants.{Truncated, BadSequence}
 use Rattle.pcl_base.specs.declared.operation.Operation.{Operation}
 use Rattle.pcl_base.specs.declared.value.Sign.{Sign}
-use Rattle.pcl_base.specs.declared.value.Sign.TheVariants.{Absent, Plus, Minus}
+use Rattle.pcl_base.specs.declared.value.Sign.TheVariants.{Minus}
 use Rattle.pcl_base.specs.declared.value.Value.{Value}
 use Rattle.pcl_base.specs.Operation.{takes_data}
 use Rattle.pcl_base.specs.Value.{with_sign, signed_whole, whole_of, is_minus, is_below_zero}
@@ -27,10 +27,9 @@ through_bits z = cast_signed w32 (cast_unsigned w32 z)
 -- a sign and a number that aren't below 0
 not_below_by : (sign : Sign) (n : ℕ) → int_lt (with_sign sign n) (pos 0) ≡ false
     → ((is_minus sign && nat_lt 0 n) ≡ false) × (n ≡ nat_abs (with_sign sign n))
-not_below_by Absent n e = (refl, refl)
-not_below_by Plus n e = (refl, refl)
-not_below_by Minus zero e = (refl, refl)
 not_below_by Minus (suc n) e = absurd cc
+not_below_by Minus zero e = (refl, refl)
+not_below_by _ n e = (refl, refl)
 
 -- a whole part that isn't below 0 counts bytes
 pub counts : (value : Value) {y z : ℤ} → mag z < 2147483648 → y ≡ signed_whole value → z ≡ signed_whole value

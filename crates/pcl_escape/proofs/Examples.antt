@@ -25,128 +25,110 @@ said at name sign parts bytes = record { at = at; name = name; value = record { 
 abbrev escape : List ℕ → List ℕ
 escape bytes = 27 ∷ bytes
 
+-- all that reading computes with
+unfoldable reading : Unit {0}
+unfolding field_at outcome start_at named_at operation_of sequence_at prefix_at parameter_at parameter_checks ungrouped_at lines_from
+    text_at
+reading = tt
+
 -- ---- value fields
 
 -- four decimals are kept, and a fifth one is dropped
 five_decimals : field_value (field_at (codes "-1.23456")).0 ≡ record { sign = Minus; parts = 12345 }
-unfolding field_at
-five_decimals = refl
+five_decimals = unfold reading in refl
 
 -- digits may be missing on both sides of the point
 point_alone : field_value (field_at (codes "+.5X")).0 ≡ record { sign = Plus; parts = 5000 }
-unfolding field_at
-point_alone = refl
+point_alone = unfold reading in refl
 
 -- ---- readings
 
 -- no byte, no command
 nothing : IsReading [] []
-unfolding outcome
-nothing = reading_of refl
+nothing = unfold reading in reading_of refl
 
 -- a silent byte, and a form feed
 silent_and_feed : IsReading (7 ∷ 12 ∷ []) (record { at = 1; name = One 12; value = zero_value; bytes = [] } ∷ [])
-unfolding outcome start_at named_at operation_of
-silent_and_feed = reading_of refl
+silent_and_feed = unfold reading in reading_of refl
 
 -- the first parameter of a sequence stands at ESC, the second right after the first one's letter
 two_moves : IsReading (escape (codes "*p0x0Y")) (said 0 (Three 42 112 88) Absent 0 [] ∷ said 5 (Three 42 112 89) Absent 0 [] ∷ [])
-unfolding outcome start_at sequence_at prefix_at parameter_at field_at parameter_checks operation_of
-two_moves = reading_of refl
+two_moves = unfold reading in reading_of refl
 
 -- two bytes of data, the first of which would begin a sequence
 row_of_escape : IsReading (escape (codes "*b2W") ++ 27 ∷ 12 ∷ []) (said 0 (Three 42 98 87) Absent 20000 (27 ∷ 12 ∷ []) ∷ [])
-unfolding outcome start_at sequence_at prefix_at parameter_at field_at parameter_checks operation_of
-row_of_escape = reading_of refl
+row_of_escape = unfold reading in reading_of refl
 
 -- a sequence without a group character: its name has two bytes
 symbol_set : IsReading (escape (codes "(8U")) (said 0 (Two 40 85) Absent 80000 [] ∷ [])
-unfolding outcome start_at sequence_at prefix_at ungrouped_at parameter_at field_at parameter_checks operation_of lines_from
-symbol_set = reading_of refl
+symbol_set = unfold reading in reading_of refl
 
 -- the letter 96 is an upper-case 64
 clipping : IsReading (escape (codes "&d`0@")) (said 0 (Three 38 100 64) Absent 0 [] ∷ said 4 (Three 38 100 64) Absent 0 [] ∷ [])
-unfolding outcome start_at sequence_at prefix_at ungrouped_at parameter_at field_at parameter_checks operation_of lines_from
-clipping = reading_of refl
+clipping = unfold reading in reading_of refl
 
 -- after a universal exit a line is its own up to its LF, and then one that asks for PCL; what is after that is read
 leaving : IsReading (escape (codes "%-12345X@PJL x") ++ 10 ∷ (codes "@PJL Enter Language=P C L" ++ 13 ∷ 10 ∷ 12 ∷ []))
     (said 0 (Two 37 88) Minus 123450000 (codes "@PJL x" ++ 10 ∷ (codes "@PJL Enter Language=P C L" ++ 13 ∷ 10 ∷ []))
     ∷ said 43 (One 12) Absent 0 [] ∷ [])
-unfolding outcome start_at sequence_at prefix_at ungrouped_at parameter_at field_at parameter_checks operation_of lines_from named_at
-leaving = reading_of refl
+leaving = unfold reading in reading_of refl
 
 -- a line without LF goes to the end, whatever it holds
 last_line : IsReading (escape (codes "%-12345X@PJL") ++ 27 ∷ 7 ∷ [])
     (said 0 (Two 37 88) Minus 123450000 (codes "@PJL" ++ 27 ∷ 7 ∷ []) ∷ [])
-unfolding outcome start_at sequence_at prefix_at ungrouped_at parameter_at field_at parameter_checks operation_of lines_from
-last_line = reading_of refl
+last_line = unfold reading in reading_of refl
 
 -- another value of that name skips nothing
 staying : IsReading (escape (codes "%-12344X") ++ 12 ∷ []) (said 0 (Two 37 88) Minus 123440000 [] ∷ said 9 (One 12) Absent 0 [] ∷ [])
-unfolding outcome start_at sequence_at prefix_at ungrouped_at parameter_at field_at parameter_checks operation_of lines_from named_at
-staying = reading_of refl
+staying = unfold reading in reading_of refl
 
 -- a run of text goes on up to a byte that is none, and silent bytes are none
 two_runs : IsReading (codes "A " ++ 7 ∷ codes "B") (said 0 (One 32) Absent 0 (codes "A ") ∷ said 3 (One 32) Absent 0 (codes "B") ∷ [])
-unfolding outcome start_at text_at operation_of
-two_runs = reading_of refl
+two_runs = unfold reading in reading_of refl
 
 -- a line in lower case is text
 lower_case_line : IsReading (escape (codes "%-12345X@pjl"))
     (said 0 (Two 37 88) Minus 123450000 [] ∷ said 9 (One 32) Absent 0 (codes "@pjl") ∷ [])
-unfolding outcome start_at sequence_at prefix_at ungrouped_at parameter_at field_at parameter_checks operation_of lines_from text_at
-lower_case_line = reading_of refl
+lower_case_line = unfold reading in reading_of refl
 
 -- ---- first faults
 
 short_row : IsFault (escape (codes "*b5W") ++ 1 ∷ 2 ∷ 3 ∷ 4 ∷ []) (refusal Truncated 0 (Three 42 98 87))
-unfolding outcome start_at sequence_at prefix_at parameter_at field_at parameter_checks operation_of
-short_row = fault_of (escape (codes "*b5W") ++ 1 ∷ 2 ∷ 3 ∷ 4 ∷ []) (refusal Truncated 0 (Three 42 98 87)) refl
+short_row = unfold reading in fault_of (escape (codes "*b5W") ++ 1 ∷ 2 ∷ 3 ∷ 4 ∷ []) (refusal Truncated 0 (Three 42 98 87)) refl
 
 row_in_the_middle : IsFault (escape (codes "*b1w") ++ 128 ∷ []) (refusal BadSequence 0 (Three 42 98 87))
-unfolding outcome start_at sequence_at prefix_at parameter_at field_at parameter_checks operation_of
-row_in_the_middle = fault_of (escape (codes "*b1w") ++ 128 ∷ []) (refusal BadSequence 0 (Three 42 98 87)) refl
+row_in_the_middle = unfold reading in fault_of (escape (codes "*b1w") ++ 128 ∷ []) (refusal BadSequence 0 (Three 42 98 87)) refl
 
 far_move : IsFault (escape (codes "*p70000X")) (refusal ValueRange 0 (Three 42 112 88))
-unfolding outcome start_at sequence_at prefix_at parameter_at field_at parameter_checks operation_of
-far_move = fault_of (escape (codes "*p70000X")) (refusal ValueRange 0 (Three 42 112 88)) refl
+far_move = unfold reading in fault_of (escape (codes "*p70000X")) (refusal ValueRange 0 (Three 42 112 88)) refl
 
 unknown_two : IsFault (escape (codes "Y")) (refusal UnsupportedCommand 0 (One 89))
-unfolding outcome start_at sequence_at named_at operation_of
-unknown_two = fault_of (escape (codes "Y")) (refusal UnsupportedCommand 0 (One 89)) refl
+unknown_two = unfold reading in fault_of (escape (codes "Y")) (refusal UnsupportedCommand 0 (One 89)) refl
 
 no_sequence : IsFault (27 ∷ 7 ∷ []) (refusal BadSequence 0 Empty)
-unfolding outcome start_at sequence_at
-no_sequence = fault_of (27 ∷ 7 ∷ []) (refusal BadSequence 0 Empty) refl
+no_sequence = unfold reading in fault_of (27 ∷ 7 ∷ []) (refusal BadSequence 0 Empty) refl
 
 no_group : IsFault (escape (codes "*")) (refusal Truncated 0 (One 42))
-unfolding outcome start_at sequence_at prefix_at
-no_group = fault_of (escape (codes "*")) (refusal Truncated 0 (One 42)) refl
+no_group = unfold reading in fault_of (escape (codes "*")) (refusal Truncated 0 (One 42)) refl
 
 -- the second parameter isn't there
 no_second_move : IsFault (escape (codes "*p0x")) (refusal Truncated 5 (Two 42 112))
-unfolding outcome start_at sequence_at prefix_at parameter_at field_at parameter_checks operation_of
-no_second_move = fault_of (escape (codes "*p0x")) (refusal Truncated 5 (Two 42 112)) refl
+no_second_move = unfold reading in fault_of (escape (codes "*p0x")) (refusal Truncated 5 (Two 42 112)) refl
 
 backspace : IsFault (8 ∷ []) (refusal UnsupportedCommand 0 (One 8))
-unfolding outcome start_at named_at operation_of
-backspace = fault_of (8 ∷ []) (refusal UnsupportedCommand 0 (One 8)) refl
+backspace = unfold reading in fault_of (8 ∷ []) (refusal UnsupportedCommand 0 (One 8)) refl
 
 -- the second line asks for another language
 other_language : IsFault (escape (codes "%-12345X@PJL") ++ 10 ∷ codes "@PJL ENTER LANGUAGE=XL") (refusal NotPcl 14 (Two 37 88))
-unfolding outcome start_at sequence_at prefix_at ungrouped_at parameter_at field_at parameter_checks operation_of lines_from
-other_language = fault_of (escape (codes "%-12345X@PJL") ++ 10 ∷ codes "@PJL ENTER LANGUAGE=XL") (refusal NotPcl 14 (Two 37 88)) refl
+other_language = unfold reading in
+    fault_of (escape (codes "%-12345X@PJL") ++ 10 ∷ codes "@PJL ENTER LANGUAGE=XL") (refusal NotPcl 14 (Two 37 88)) refl
 
 -- a sequence without a group character has one parameter
 second_parameter : IsFault (escape (codes "(0s")) (refusal BadSequence 0 (One 40))
-unfolding outcome start_at sequence_at prefix_at ungrouped_at parameter_at field_at parameter_checks operation_of lines_from
-second_parameter = fault_of (escape (codes "(0s")) (refusal BadSequence 0 (One 40)) refl
+second_parameter = unfold reading in fault_of (escape (codes "(0s")) (refusal BadSequence 0 (One 40)) refl
 
 cut_percent : IsFault (escape (codes "%")) (refusal Truncated 0 (One 37))
-unfolding outcome start_at sequence_at prefix_at
-cut_percent = fault_of (escape (codes "%")) (refusal Truncated 0 (One 37)) refl
+cut_percent = unfold reading in fault_of (escape (codes "%")) (refusal Truncated 0 (One 37)) refl
 
 percent_in_group : IsFault (escape (codes "%a0X")) (refusal UnsupportedCommand 0 (Three 37 97 88))
-unfolding outcome start_at sequence_at prefix_at ungrouped_at parameter_at field_at parameter_checks operation_of lines_from
-percent_in_group = fault_of (escape (codes "%a0X")) (refusal UnsupportedCommand 0 (Three 37 97 88)) refl
+percent_in_group = unfold reading in fault_of (escape (codes "%a0X")) (refusal UnsupportedCommand 0 (Three 37 97 88)) refl

@@ -1,10 +1,9 @@
 -- A value field that is read from the left is the field that was spelled there.
-use Rattle.std.proofs.Common.{◌≡◌, ℕ, Bool, true, false, ◌||◌, eqb, if◌then◌else◌, List, [], ◌∷◌, ◌++◌, Option, Some, None, refl, sym, ap, subst, append_assoc, arith}
+use Rattle.std.proofs.Common.{◌≡◌, ℕ, Bool, true, false, ◌||◌, eqb, if◌then◌else◌, List, [], ◌∷◌, ◌++◌, Option, Some, None, refl, ap, subst, append_assoc, arith}
 use Rattle.std.proofs.lemmas.Bool.{eqb-true}
 use Rattle.std.proofs.lemmas.Bool.Decides.{nat_tests}
 use Rattle.std.specs.Prelude.{IfSome, is_none}
 use Rattle.pcl_base.specs.declared.value.Sign.{Sign}
-use Rattle.pcl_base.specs.declared.value.Sign.TheVariants.{Absent, Plus, Minus}
 use Rattle.pcl_escape.specs.Field.{Spelled, sign_bytes, fraction_bytes, field_bytes}
 use Rattle.pcl_base.specs.Digits.{is_digit, AreDigits}
 use Rattle.pcl_escape.specs.inner.Fields.{sign_at, digits_at, fraction_at, field_at}
@@ -41,19 +40,11 @@ record IsSignFront (bytes : List ℕ) (parts : Sign × List ℕ) : Type 0 where
 
 -- the sign that is read is the one at the front
 sign_split : (bytes : List ℕ) → IsSignFront bytes (sign_at bytes)
-sign_split [] = record { joined = refl; stops = λ e. tt }
-sign_split (byte ∷ bytes) = by_test (IsSignFront (byte ∷ bytes)) (eqb byte 43)
-    (λ p. record { joined = grind (arith, nat_tests); stops = λ e. absurd cc })
-    (λ p. by_test (IsSignFront (byte ∷ bytes)) (eqb byte 45)
-    (λ m. record { joined = grind (arith, nat_tests); stops = λ e. absurd cc })
-    (λ m. record { joined = refl; stops = λ e. rw (p, m) refl }))
+sign_split bytes = grind (arith, nat_tests)
 
 -- a sign is read as it is spelled
 sign_again : (sign : Sign) (more : List ℕ) → (is_absent sign ≡ true → NoSign more) → sign_at (sign_bytes sign ++ more) ≡ (sign, more)
-sign_again Plus more n = refl
-sign_again Minus more n = refl
-sign_again Absent [] n = refl
-sign_again Absent (byte ∷ more) n = let e = n refl in grind (arith, nat_tests)
+sign_again sign more n = grind (arith, nat_tests)
 
 -- ---- points
 
@@ -75,22 +66,15 @@ fraction_split : (bytes : List ℕ) → IsFractionFront bytes (fraction_at bytes
 fraction_split [] = record { joined = refl; digits = tt; no_point = λ e. tt; no_digit = λ n. n; same = λ e. refl }
 fraction_split (byte ∷ bytes) =
     let d = front_split is_digit bytes in
-    by_test (IsFractionFront (byte ∷ bytes)) (eqb byte 46)
-    (λ p. record {
-      joined = let point = eqb-true byte 46 p in let digits = d.joined in cc;
-      digits = d.pass;
-      no_point = λ e. absurd cc;
-      no_digit = λ n. d.stops;
-      same = λ e. absurd cc;
-    })
+    by_test (IsFractionFront (byte ∷ bytes)) (eqb byte 46) (λ p.
+    let joined : byte ∷ bytes ≡ 46 ∷ ((digits_at bytes).0 ++ (digits_at bytes).1) = cc (eqb-true byte 46 p, d.joined) in
+    record { joined = joined; digits = d.pass; no_point = λ e. absurd cc; no_digit = λ n. d.stops; same = λ e. absurd cc })
     (λ p. record { joined = refl; digits = tt; no_point = λ e. p; no_digit = λ n. n; same = λ e. refl })
 
 -- a fraction is read as it is spelled
 fraction_again : (fraction : Option (List ℕ)) (rest : List ℕ) → IfSome fraction AreDigits → (is_none fraction ≡ true → NoPoint rest)
-    → NoDigit rest
-    → fraction_at (fraction_bytes fraction ++ rest) ≡ (fraction, rest)
-fraction_again None [] d p n = refl
-fraction_again None (byte ∷ rest) d p n = rw (p refl) refl
+    → NoDigit rest → fraction_at (fraction_bytes fraction ++ rest) ≡ (fraction, rest)
+fraction_again None rest d p n = grind (arith, nat_tests)
 fraction_again (Some digits) rest d p n = ap (λ (q : List ℕ × List ℕ). (Some q.0, q.1)) (front_again is_digit digits rest d n)
 
 -- ---- fields
@@ -109,13 +93,11 @@ pub record IsFieldFront (bytes : List ℕ) (parts : Spelled × List ℕ) : Type 
 -- where nothing more of a field comes, it stops
 stops_from : (field : Spelled) (bytes : List ℕ) → NoDigit bytes → (is_none field.fraction ≡ true → NoPoint bytes)
     → (is_absent field.sign ≡ true → is_empty field.whole ≡ true → is_none field.fraction ≡ true → NoSign bytes) → FieldStops field bytes
-stops_from field [] d p s = tt
-stops_from field (byte ∷ bytes) d p s = grind (arith, nat_tests)
+stops_from field bytes d p s = grind (arith, nat_tests)
 
 -- bytes that are empty
 empty_is : (bytes : List ℕ) → is_empty bytes ≡ true → bytes ≡ []
-empty_is [] e = refl
-empty_is (byte ∷ bytes) e = absurd cc
+empty_is bytes e = grind arith
 
 -- the field that is read is the one at the front
 pub field_split : {bytes : List ℕ} → IsFieldFront bytes (field_at bytes)
@@ -128,11 +110,10 @@ field_split {bytes} =
     let w = front_split is_digit sign.1 in
     let f = fraction_split whole.1 in
     record {
-      joined = simp append_assoc (let x = s.joined in let y = w.joined in let z = f.joined in cc);
+      joined = simp append_assoc (cc (s.joined, w.joined, f.joined));
       field = (w.pass, f.digits);
       stops = stops_from (record { sign = sign.0; whole = whole.0; fraction = fraction.0 }) fraction.1 (f.no_digit w.stops) f.no_point
-          (λ a e n. let same : fraction.1 ≡ sign.1 = let x = f.same n in let y = w.joined in let z = empty_is whole.0 e in cc in
-          subst NoSign (sym same) (s.stops a));
+          (λ a e n. subst NoSign (cc (f.same n, w.joined, empty_is whole.0 e)) (s.stops a));
     }
 
 -- ---- the same field again
@@ -144,21 +125,16 @@ record Stops (field : Spelled) (rest : List ℕ) : Type 0 where
   no_sign : is_bare field ≡ true → NoSign rest
 
 stops_parts : {field : Spelled} (rest : List ℕ) → FieldStops field rest → Stops field rest
-stops_parts [] s = record { no_digit = tt; no_point = λ e. tt; no_sign = λ e. tt }
-stops_parts (byte ∷ rest) s =
-    record { no_digit = grind (arith, nat_tests); no_point = λ n. grind (arith, nat_tests); no_sign = λ b. grind (arith, nat_tests) }
+stops_parts rest s = grind (arith, nat_tests)
 
 -- no digit comes after the whole digits
 no_digit_behind : (fraction : Option (List ℕ)) (rest : List ℕ) → NoDigit rest → NoDigit (fraction_bytes fraction ++ rest)
-no_digit_behind None rest n = n
-no_digit_behind (Some digits) rest n = refl
+no_digit_behind fraction rest n = grind arith
 
 -- no sign comes after an absent one
 no_sign_behind : (whole : List ℕ) (fraction : Option (List ℕ)) (rest : List ℕ) → AreDigits whole
     → (is_empty whole ≡ true → is_none fraction ≡ true → NoSign rest) → NoSign (whole ++ (fraction_bytes fraction ++ rest))
-no_sign_behind [] None rest d n = n refl refl
-no_sign_behind [] (Some digits) rest d n = refl
-no_sign_behind (digit ∷ whole) fraction rest d n = let is : is_digit digit ≡ true = d.0 in grind (arith, nat_tests)
+no_sign_behind whole fraction rest d n = grind (arith, nat_tests)
 
 -- a field is read as it is spelled, where it stops
 pub field_again : {field : Spelled} {rest : List ℕ} → IsField field → FieldStops field rest
@@ -166,9 +142,8 @@ pub field_again : {field : Spelled} {rest : List ℕ} → IsField field → Fiel
 unfolding field_at
 field_again {field} {rest} f s =
     let p = stops_parts rest s in
-    let behind = fraction_bytes field.fraction ++ rest in
-    let sign = sign_again field.sign (field.whole ++ behind)
+    let sign = sign_again field.sign (field.whole ++ (fraction_bytes field.fraction ++ rest))
     (λ a. no_sign_behind field.whole field.fraction rest f.0 (λ e n. p.no_sign (rw (a, e, n) refl))) in
-    let whole = front_again is_digit field.whole behind f.0 (no_digit_behind field.fraction rest p.no_digit) in
-    let fraction = fraction_again field.fraction rest f.1 p.no_point p.no_digit in
-    simp (append_assoc, sign, ap (λ (p : List ℕ × List ℕ). p.0) whole, ap (λ (p : List ℕ × List ℕ). p.1) whole, fraction)
+    let whole = front_again is_digit field.whole _ f.0 (no_digit_behind field.fraction rest p.no_digit) in
+    simp (append_assoc, sign, ap (λ (p : List ℕ × List ℕ). p.0) whole, ap (λ (p : List ℕ × List ℕ). p.1) whole)
+    (simp (fraction_again field.fraction rest f.1 p.no_point p.no_digit))

@@ -16,13 +16,7 @@ Ends line behind = ((text : List ℕ) × (line ≡ text ++ 10 ∷ []) × HasNoFe
 
 -- a line of the job language has bytes
 pub line_long : (bytes : List ℕ) → is_job_line bytes ≡ true → 0 < line_len bytes
-line_long [] e = absurd cc
-line_long (byte ∷ bytes) e = grind arith
-
--- the same of a line that is cut out
-line_has : (line : List ℕ) → is_job_line line ≡ true → 0 < length line
-line_has [] e = absurd cc
-line_has (byte ∷ line) e = omega arith
+line_long bytes e = grind arith
 
 -- a line has no more bytes than there are
 pub line_within : (bytes : List ℕ) → line_len bytes ≤ length bytes
@@ -61,20 +55,15 @@ word_before (c ∷ word) (byte ∷ line) behind e =
 line_is : (bytes : List ℕ) → is_job_line bytes ≡ true → IsLine (take (line_len bytes) bytes) (drop (line_len bytes) bytes)
 line_is bytes e = (word_in_line (codes "@PJL") bytes (refl, (refl, (refl, (refl, tt)))) e, line_ends bytes)
 
--- up to its LF a line is found
-fed_again : (text behind : List ℕ) → HasNoFeed text → line_len ((text ++ 10 ∷ []) ++ behind) ≡ length (text ++ 10 ∷ [])
-fed_again [] behind none = refl
-fed_again (byte ∷ text) behind none = rw none.0 (ap (λ (n : ℕ). suc n) (fed_again text behind none.1))
-
--- without LF a line goes to the end
-whole_again : (line : List ℕ) → HasNoFeed line → line_len (line ++ []) ≡ length line
-whole_again [] none = refl
-whole_again (byte ∷ line) none = rw none.0 (ap (λ (n : ℕ). suc n) (whole_again line none.1))
+-- a line goes on where there is no LF
+text_again : (text behind : List ℕ) → HasNoFeed text → line_len (text ++ behind) ≡ length text + line_len behind
+text_again [] behind none = omega arith
+text_again (byte ∷ text) behind none = rw none.0 (omega (arith, text_again text behind none.1))
 
 -- a line is found as it ends
 found_again : {line behind : List ℕ} → Ends line behind → line_len (line ++ behind) ≡ length line
-found_again {behind} (inl (text, same, none)) = rw same (fed_again text behind none)
-found_again {line} (inr (same, none)) = rw same (whole_again line none)
+found_again {behind} (inl (text, same, none)) = rw (same, append_assoc, text_again text (10 ∷ behind) none) (simp length-append)
+found_again {line} (inr (same, none)) = rw (same, text_again line [] none) (omega arith)
 
 -- ---- one step
 
@@ -84,12 +73,7 @@ at_line : {line behind : List ℕ} (more place : ℕ) → IsLine line behind
     else (if names_pcl line then Ok behind else Err place))
 unfolding lines_from
 at_line {line} {behind} more place is =
-    rw (
-      found_again is.1,
-      take_at line behind (length line) refl,
-      drop_at line behind (length line) refl,
-      word_before (codes "@PJL") line behind is.0,
-    ) refl
+    rw (found_again is.1, take_at line behind _ refl, drop_at line behind _ refl, word_before (codes "@PJL") line behind is.0) refl
 
 -- the bytes after a line are fewer
 behind_shorter : (bytes : List ℕ) → is_job_line bytes ≡ true → length (drop (line_len bytes) bytes) < length bytes
@@ -134,8 +118,7 @@ line_first : {place : ℕ} {line behind : List ℕ} {read : Result (List ℕ) �
 line_first {line} is none (skipped lines rest each) =
     rw (← append_assoc line (joined lines) rest) (skipped (line ∷ lines) rest (more_lines is none each))
 line_first {place} {line} is none (foreign lines last rest each ends l p) =
-    let further : (place + length line) + length (joined lines) ≡ place + length (line ++ joined lines) =
-    simp length-append (omega arith) in
+    let further : place + length line + length (joined lines) ≡ place + length (line ++ joined lines) = simp length-append (omega arith) in
     rw (further, ← append_assoc line (joined lines) (last ++ rest)) (foreign (line ∷ lines) last rest (is, none, each) ends l p)
 
 -- what the steps give says what the bytes are
@@ -145,20 +128,17 @@ lines_split zero h = absurd (omega arith)
 lines_split (suc n) {place} {bytes} h =
     let line = take (line_len bytes) bytes in
     let behind = drop (line_len bytes) bytes in
-    by_test (Lines place bytes) (not (is_job_line bytes)) (λ other. skipped [] bytes (to_other_bytes [] tt (grind arith)))
-    (λ job.
+    by_test (Lines place bytes) (not (is_job_line bytes)) (λ other. skipped [] bytes (to_other_bytes [] tt (grind arith))) (λ job.
     let e : is_job_line bytes ≡ true = grind arith in
     let is = line_is bytes e in
     let shorter = behind_shorter bytes e in
-    let long : length line ≡ line_len bytes = length-take-le (line_len bytes) bytes (line_within bytes) in
+    let long = length-take-le (line_len bytes) bytes (line_within bytes) in
     let next = lines_from n (place + line_len bytes) behind in
     let read = if not (names_language line) then next else (if names_pcl line then Ok behind else Err place) in
     subst (λ (bs : List ℕ). Lines place bs read) (take-append-drop (line_len bytes) bytes)
     (by_test (Lines place (line ++ behind)) (not (names_language line))
     (λ l. line_first is (grind arith) (rw long (lines_split n (omega arith))))
-    (λ l.
-    let asks : names_language line ≡ true = grind arith in
-    by_test (Lines place (line ++ behind)) (names_pcl line)
+    (λ l. let asks : names_language line ≡ true = grind arith in by_test (Lines place (line ++ behind)) (names_pcl line)
     (λ p. rw (← append-nil line) (skipped (line ∷ []) behind (to_pcl [] line tt is asks p)))
     (λ p. subst (λ (k : ℕ). Lines place (line ++ behind) (Err k)) (add-zero place) (foreign [] line behind tt is asks p)))))
 
@@ -172,18 +152,17 @@ others_again : (lines : List (List ℕ)) (n place : ℕ) (behind : List ℕ) {re
 others_again [] n place behind each h gives = rw (← add-zero place) (gives n h)
 others_again (line ∷ lines) zero place behind each h gives = absurd (omega arith)
 others_again (line ∷ lines) (suc n) place behind each h gives =
-    let has = line_has line each.0.0 in
+    let some = line_long line each.0.0 in
+    let within = line_within line in
     let long = simp length-append at h in
-    let further : (place + length line) + length (joined lines) ≡ place + length (line ++ joined lines) =
-    simp length-append (omega arith) in
+    let further : place + length line + length (joined lines) ≡ place + length (line ++ joined lines) = simp length-append (omega arith) in
     rw (append_assoc line (joined lines) behind, at_line n place each.0, each.1)
     (others_again lines n (place + length line) behind each.2 (simp length-append (omega arith)) (λ m fits. rw further (gives m fits)))
 
 -- at other bytes the steps end
 other_bytes : (m place : ℕ) {behind : List ℕ} → length behind < m → is_job_line behind ≡ false → lines_from m place behind ≡ Ok behind
 unfolding lines_from
-other_bytes zero place h e = absurd (omega arith)
-other_bytes (suc m) place h e = rw e refl
+other_bytes m place h e = grind arith
 
 -- so do they at a line that asks for a language
 asking_line : (m place : ℕ) {line behind : List ℕ} {pcl : Bool} → length (line ++ behind) < m → IsLine line behind
@@ -222,11 +201,11 @@ unfolding lines_from
 at_other_line place {bytes} {behind} cut l =
     let within = line_within bytes in
     let shorter = behind_shorter bytes (sym cut.job) in
-    let none : names_language (take (line_len bytes) bytes) ≡ false = rw (← cut.line_is) (sym l) in
-    let long : length behind ≡ length bytes - line_len bytes = ap length cut.behind_is ∙ length-drop (line_len bytes) bytes in
-    let len : length bytes - length behind ≡ line_len bytes = omega arith in
-    rw (len, cut.behind_is, ← cut.job, none) (lines_enough (length bytes) (suc (length (drop (line_len bytes) bytes)))
-    (place + line_len bytes) (drop (line_len bytes) bytes) shorter (omega arith))
+    let none : names_language (take (line_len bytes) bytes) ≡ false = cc in
+    let rest = drop (line_len bytes) bytes in
+    let len : length bytes - length behind ≡ line_len bytes = omega (arith, ap length cut.behind_is, length-drop (line_len bytes) bytes) in
+    rw (len, cut.behind_is, ← cut.job, none)
+    (lines_enough (length bytes) (suc (length rest)) (place + line_len bytes) rest shorter (omega arith))
 
 -- one that asks for a language ends the skipping
 pub at_asking_line : (place : ℕ) {bytes line behind : List ℕ} {pcl : Bool} → IsCut bytes line behind → true ≡ names_language line
@@ -235,10 +214,8 @@ unfolding lines_from
 at_asking_line place cut l p = rw (← cut.job, ← cut.line_is, ← l, ← p, cut.behind_is) refl
 
 -- what stands after lines is no longer than what stands before them
-skipped_within : {place : ℕ} {bytes rest : List ℕ} {read : Result (List ℕ) ℕ} → Lines place bytes read → read ≡ Ok rest
-    → length rest ≤ length bytes
-skipped_within {rest} (skipped lines behind each) e = let same : behind ≡ rest = cc in rw (← same) (simp length-append (omega arith))
-skipped_within (foreign lines line behind each ends l p) e = absurd cc
+skipped_within : {place : ℕ} {bytes rest : List ℕ} → Lines place bytes (Ok rest) → length rest ≤ length bytes
+skipped_within (skipped lines rest each) = simp length-append (omega arith)
 
 pub lines_within : (place : ℕ) (bytes rest : List ℕ) → lines_at place bytes ≡ Ok rest → length rest ≤ length bytes
-lines_within place bytes rest e = skipped_within (lines_split (suc (length bytes)) (omega arith)) e
+lines_within place bytes rest e = skipped_within (rw e at (lines_split (suc (length bytes)) {place = place} {bytes = bytes} (omega arith)))

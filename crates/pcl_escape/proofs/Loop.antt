@@ -1,20 +1,12 @@
 -- The steps of the loop: each takes the front off the reading.
-use Rattle.std.proofs.Common.{◌≡◌, ℕ, suc, ◌+◌, ◌-◌, ◌<◌, ◌≤◌, true, false, ◌==◌, is_some, List, [], ◌∷◌, ◌++◌, length, Option, Some, None, Result, Ok, Err, refl, sym, append-nil, eqb-true, arith}
+use Rattle.std.proofs.Common.{◌≡◌, ℕ, suc, ◌+◌, ◌-◌, ◌≤◌, true, false, ◌==◌, is_some, List, ◌++◌, length, Option, Result, Ok, Err, refl, sym, append-nil, arith}
 use Rattle.pcl_base.specs.declared.refusal.Refusal.{Refusal}
 use Rattle.pcl_escape.specs.declared.step.Prefix.{Prefix}
 use Rattle.pcl_escape.specs.Said.{Said}
 use Rattle.pcl_escape.specs.inner.Scan.{Reads, step_at, commands_said, with_front, outcome}
-use Rattle.pcl_escape.proofs.Steps.{parameter_shorter}
-use Rattle.pcl_escape.proofs.Starts.{start_step}
-use Rattle.pcl_escape.proofs.Runs.{with_fronts, start_shorter}
-use Rattle.pcl_escape.proofs.Again.{GoesOn, first_step, enough}
-
--- a step takes a byte
-pub step_shorter : (inside : Option Prefix) (at : ℕ) (bytes : List ℕ) {reads : Reads} → GoesOn inside bytes
-    → step_at inside at bytes ≡ Ok reads → length reads.rest < length bytes
-step_shorter None at [] goes e = absurd cc
-step_shorter None at (byte ∷ bytes) goes e = start_shorter start_step e
-step_shorter (Some prefix) at bytes goes e = parameter_shorter prefix at bytes e
+use Rattle.pcl_escape.proofs.Runs.{with_fronts, GoesOn, step_shorter}
+use Rattle.pcl_escape.proofs.Again.{first_step, enough}
+use Rattle.std.proofs.lemmas.Bool.Decides.{nat_tests}
 
 -- what was read before, and what is still read of the rest of so many bytes
 abbrev pub so_far : List Said → ℕ → Option Prefix → List ℕ → Result (List Said) Refusal
@@ -28,8 +20,7 @@ one_more front total inside rest reads h goes e =
     let shorter = step_shorter inside (total - length rest) rest goes e in
     let place : (total - length rest) + (length rest - length reads.rest) ≡ total - length reads.rest = omega arith in
     let steps = enough (suc (length reads.rest)) (length rest) reads.inside (total - length reads.rest) reads.rest (omega arith) shorter in
-    rw (first_step (length rest) inside (total - length rest) rest goes, e, place, steps)
-    (sym (with_fronts front (commands_said reads.said) (outcome (length rest) reads.inside (total - length reads.rest) reads.rest)))
+    rw (first_step (length rest) inside (total - length rest) rest goes, e, place, steps) (sym (with_fronts front _ _))
 
 -- a fault of a step is the job's
 pub stops_at : (front : List Said) (total : ℕ) (inside : Option Prefix) (rest : List ℕ) {fault : Refusal} → GoesOn inside rest
@@ -40,6 +31,4 @@ stops_at front total inside rest goes e = rw (first_step (length rest) inside (t
 pub is_done : (front : List Said) (total : ℕ) (inside : Option Prefix) (rest : List ℕ) → true ≡ (length rest == 0) → false ≡ is_some inside
     → so_far front total inside rest ≡ Ok front
 unfolding outcome
-is_done front total None [] e i = simp append-nil
-is_done front total None (byte ∷ rest) e i = let z = eqb-true (suc (length rest)) 0 (sym e) in absurd (omega arith)
-is_done front total (Some prefix) rest e i = absurd cc
+is_done front total inside rest e i = grind (arith, nat_tests, append-nil front)

@@ -1,5 +1,5 @@
 -- What a step of the code reads inside a sequence, by what it found: no letter, a fault of the checks, or a parameter.
-use Rattle.std.proofs.Common.{◌≡◌, ℕ, Bool, true, false, if◌then◌else◌, List, [], ◌∷◌, length, Some, None, Err, refl}
+use Rattle.std.proofs.Common.{◌≡◌, ℕ, Bool, true, false, if◌then◌else◌, List, length, Some, None, Err, arith}
 use Rattle.std.specs.Bool.{then_some}
 use Rattle.pcl_base.specs.declared.kind.Kind.TheVariants.{Truncated}
 use Rattle.pcl_base.specs.declared.value.Value.{Value}
@@ -14,20 +14,16 @@ use Rattle.pcl_escape.specs.inner.Scan.{parameter_at}
 pub nothing_behind : (prefix : Prefix) (at : ℕ) (bytes : List ℕ) {field : Spelled} (rest : List ℕ) → (field, rest) ≡ field_at bytes
     → length rest ≡ 0 → parameter_at prefix at bytes ≡ Err (refusal Truncated at (prefix_name prefix))
 unfolding parameter_at
-nothing_behind prefix at bytes [] e z = rw (← e) refl
-nothing_behind prefix at bytes (byte ∷ rest) e z = absurd cc
+nothing_behind prefix at bytes rest e z = rw (← e) (grind arith)
 
 -- a value that isn't given is out of range
 pub not_given : (value : Value) (within : Bool) → None ≡ (if within then Some value else None) → within ≡ false
-not_given value true e = absurd cc
-not_given value false e = refl
+not_given value within e = grind arith
 
 -- a value that is given is in range, and the field's
 pub given : {value read : Value} (within : Bool) → Some read ≡ (if within then Some value else None) → (within ≡ true) × (read ≡ value)
-given true e = (refl, cc)
-given false e = absurd cc
+given within e = grind arith
 
 -- the sequence goes on where the letter says so
 pub some_if : (on : Bool) (prefix : Prefix) → then_some {T = Prefix} on prefix ≡ (if on then Some prefix else None)
-some_if true prefix = refl
-some_if false prefix = refl
+some_if on prefix = grind arith

@@ -45,11 +45,8 @@ Stands bytes (Err fault) = Unit {0}
 
 -- with more bytes before them
 further : (more bytes : List ℕ) (read : Result Reads Refusal) → Stands bytes read → Stands (more ++ bytes) read
-further more bytes (Ok reads) s = record {
-  front = more ++ s.front;
-  joined = simp append_assoc (let same = s.joined in cc);
-  told = s.told;
-}
+further more bytes (Ok reads) s =
+    record { front = more ++ s.front; joined = simp append_assoc (let same = s.joined in cc); told = s.told }
 further more bytes (Err fault) s = tt
 
 -- ---- commands without a value
@@ -66,12 +63,9 @@ code_stands at code rest = elim (operation_of (One code)) as (λ operation. Stan
 -- the letter of a name is no zero
 parameter_told : (prefix : Prefix) (letter : ℕ) → is_letter prefix letter ≡ true → IsTold (parameter_name prefix letter)
 parameter_told prefix letter l =
-    let upper_case = if goes_on letter then letter - 32 else letter in
-    let some : (upper_case == 0) ≡ false = grind (arith, nat_tests) in
-    elim prefix.group as (λ group. IsTold (name_with_letter prefix.parameterized group upper_case)) [
-      | None ↦ rw some refl
-      | Some group ↦ rw some refl
-    ]
+    let upper = if goes_on letter then letter - 32 else letter in
+    let some : (upper == 0) ≡ false = grind (arith, nat_tests) in
+    elim prefix.group as (λ group. IsTold (name_with_letter prefix.parameterized group upper)) [ None ↦ rw some refl | _ ↦ rw some refl ]
 
 checked_stands : (prefix : Prefix) (at letter : ℕ) (value : Value) (bytes : List ℕ) (checks : Result ℕ Kind)
     → IsTold (parameter_name prefix letter) → Stands (letter ∷ bytes) (checked_at prefix at letter value bytes checks)
@@ -167,8 +161,7 @@ pub step_placed : {job bytes : List ℕ} (inside : Option Prefix) (at : ℕ) (re
     → step_at inside at bytes ≡ Ok reads → IfSome reads.said (IsPlaced job (length reads.rest)) × IsEndOf job reads.rest
 step_placed {job} {bytes} inside at reads is e =
     let s : StandsIn bytes reads = rw e at (step_stands inside at bytes) in
-    let whole : job ≡ (is.read ++ s.front) ++ (data_of reads.said ++ reads.rest) =
-    simp append_assoc (let a = is.joined in let b = s.joined in cc) in (
-      place_of_data (is.read ++ s.front) reads.rest reads.said whole s.told,
-      record { read = (is.read ++ s.front) ++ data_of reads.said; joined = rw append_assoc whole },
-    )
+    let before = is.read ++ s.front in
+    let whole : job ≡ before ++ (data_of reads.said ++ reads.rest) = simp append_assoc (let a = is.joined in let b = s.joined in cc) in
+    let left : IsEndOf job reads.rest = record { read = before ++ data_of reads.said; joined = rw append_assoc whole } in
+    (place_of_data before reads.rest reads.said whole s.told, left)

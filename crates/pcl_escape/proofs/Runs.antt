@@ -1,5 +1,5 @@
 -- All steps: what the reading of the bytes gives says what the bytes are.
-use Rattle.std.proofs.Common.{◌≡◌, ℕ, zero, suc, ◌+◌, ◌-◌, ◌<◌, true, is_some, List, [], ◌∷◌, ◌++◌, length, Option, Some, None, Result, Ok, Err, refl, sym, ap, append_assoc, append-nil, length-append, add-zero, ◌&&◌, zero-add, arith}
+use Rattle.std.proofs.Common.{◌≡◌, ℕ, zero, suc, ◌+◌, ◌-◌, ◌<◌, true, is_some, List, [], ◌∷◌, ◌++◌, length, Option, Some, None, Result, Ok, Err, refl, append_assoc, append-nil, length-append, add-zero, ◌&&◌, zero-add, arith, ◌==◌, not, false}
 use Rattle.std.specs.List.{flat_map, AllByRecursion}
 use Rattle.pcl_base.specs.declared.fault.JobFault.{JobFault}
 use Rattle.pcl_base.specs.declared.fault.JobFault.TheVariants.{Refused, Memory}
@@ -7,11 +7,12 @@ use Rattle.pcl_base.specs.declared.refusal.Refusal.{Refusal}
 use Rattle.pcl_escape.specs.declared.step.Prefix.{Prefix}
 use Rattle.pcl_escape.specs.Letter.{goes_on, prefix_bytes}
 use Rattle.pcl_escape.specs.Said.{Said}
-use Rattle.pcl_escape.specs.inner.Scan.{Reads, with_front, and_then, outcome, outcome_of, Yields}
+use Rattle.pcl_escape.specs.inner.Scan.{Reads, with_front, and_then, outcome, outcome_of, Yields, step_at}
 use Rattle.pcl_escape.specs.Pieces.{Parameter, Piece, combined, IsPrefix, IsPiece, ArePieces, IsMiddle, IsEnd, parameter_bytes, spelling, command_of, parameter_commands, first_place, commands_from, commands_of, IsReading}
 use Rattle.pcl_escape.specs.Faults.{Fails, IsFault, IsFaultOf, IsUngrouped, in_parameter, FailsParameter, place_behind}
-use Rattle.pcl_escape.proofs.Steps.{Inside, is_middle, is_end, is_wrong, is_inside, found_shorter, parameter_shorter, grouped_step}
+use Rattle.pcl_escape.proofs.Steps.{Inside, is_middle, is_end, is_wrong, is_inside, found_shorter, grouped_step, parameter_step, parameter_shorter}
 use Rattle.pcl_escape.proofs.Starts.{Outside, whole_piece, sequence, wrong, start_step}
+use Rattle.std.proofs.lemmas.Bool.Decides.{nat_tests}
 
 -- ---- what bytes are
 
@@ -58,13 +59,11 @@ IsRead (Some prefix) at bytes read = is_some prefix.group ≡ true → Rest pref
 -- two fronts are one
 pub with_fronts : (front more : List Said) (read : Result (List Said) Refusal)
     → with_front front (with_front more read) ≡ with_front (front ++ more) read
-with_fronts front more (Ok commands) = ap (λ (cs : List Said). Ok cs) (sym (append_assoc front more commands))
-with_fronts front more (Err fault) = refl
+with_fronts front more read = grind (arith, append_assoc front more)
 
 -- an empty front changes nothing
 pub no_front : (read : Result (List Said) Refusal) → with_front [] read ≡ read
-no_front (Ok commands) = refl
-no_front (Err fault) = refl
+no_front read = grind arith
 
 -- the place after the front of the bytes
 pub place_of : (at : ℕ) (front rest : List ℕ) → at + (length (front ++ rest) - length rest) ≡ at + length front
@@ -79,11 +78,7 @@ piece_first : (piece : Piece) {at : ℕ} {bytes : List ℕ} {read : Result (List
     → Reading (at + length (spelling piece)) bytes read
     → Reading at (spelling piece ++ bytes) (with_front (commands_from at piece) read)
 piece_first piece {at} is (reading pieces behind last each ends) =
-    rw (
-      with_fronts (commands_from at piece) (commands_of (at + length (spelling piece)) pieces) last,
-      ← append_assoc (spelling piece) (flat_map spelling pieces) behind,
-    )
-    (reading (piece ∷ pieces) behind last (is, each) (rw (place_further at (spelling piece) (flat_map spelling pieces)) at ends))
+    rw (with_fronts, ← append_assoc (spelling piece)) (reading (piece ∷ pieces) behind last (is, each) (rw place_further at ends))
 
 -- the place after one more parameter
 pub place_from_more : (begin : ℕ) (parameter : Parameter) (middle : List Parameter)
@@ -101,11 +96,8 @@ middle_first {prefix} {at} {begin} {parameter} is (whole middle end sent behind 
     let next = begin + length (parameter_bytes parameter) in
     let place : next + length (sequence_bytes middle end sent) ≡ begin + length (sequence_bytes (parameter ∷ middle) end sent) =
     simp length-append (omega arith) in
-    rw (
-      with_fronts (command_of prefix at parameter [] ∷ []) (parameter_commands prefix next next middle end sent) more,
-      ← append_assoc (parameter_bytes parameter) (sequence_bytes middle end sent) behind,
-      ← append_assoc (parameter_bytes parameter) (flat_map parameter_bytes middle) (parameter_bytes end ++ sent),
-    )
+    let own = parameter_bytes parameter in
+    rw (with_fronts, ← append_assoc own (sequence_bytes middle end sent), ← append_assoc own)
     (whole (parameter ∷ middle) end sent behind more (is, each) last (rw place at r))
 middle_first {begin} {parameter} is (broken middle behind refusal each f) =
     rw (← append_assoc (parameter_bytes parameter) (flat_map parameter_bytes middle) behind)
@@ -114,8 +106,7 @@ middle_first {begin} {parameter} is (broken middle behind refusal each f) =
 -- in a sequence that begins at ESC the parameters begin after its prefix
 pub place_in_sequence : (at : ℕ) (prefix : Prefix) (middle : List Parameter)
     → place_from at (first_place at prefix) middle ≡ place_behind at prefix middle
-place_in_sequence at prefix [] = refl
-place_in_sequence at prefix (parameter ∷ middle) = refl
+place_in_sequence at prefix middle = grind arith
 
 -- the place after the prefix and more
 pub place_prefixed : (at : ℕ) (prefix : Prefix) (more : List ℕ)
@@ -124,8 +115,7 @@ place_prefixed at prefix more = simp length-append (omega arith)
 
 -- with a group character, the bytes after it may be any
 pub grouped_any : (group : Option ℕ) (bytes : List ℕ) → is_some group ≡ true → IsUngrouped group bytes
-grouped_any None bytes g = absurd cc
-grouped_any (Some group) bytes g = tt
+grouped_any group bytes g = grind arith
 
 -- a middle parameter stands after a group character
 pub middle_grouped : {prefix : Prefix} {parameter : Parameter} → IsMiddle prefix parameter → is_some prefix.group ≡ true
@@ -155,13 +145,21 @@ sequence_first {prefix} {at} is n (broken middle behind refusal each f) =
 -- ---- each step goes on
 
 -- each step outside a sequence takes a byte
-pub start_shorter : {at : ℕ} {bytes : List ℕ} {read : Result Reads Refusal} {reads : Reads} → Outside at bytes read → read ≡ Ok reads
-    → length reads.rest < length bytes
-start_shorter {reads} (whole_piece piece rest said is long gives) e =
-    let same : rest ≡ reads.rest = cc in rw (← same) (simp length-append (omega arith))
-start_shorter (sequence prefix more same is n inside) e =
-    let shorter = found_shorter (is_inside inside) e in simp length-append (omega arith)
-start_shorter (wrong f) e = absurd cc
+pub start_shorter : {at : ℕ} {bytes : List ℕ} {reads : Reads} → Outside at bytes (Ok reads) → length reads.rest < length bytes
+start_shorter (whole_piece piece rest said is long gives) = simp length-append (omega arith)
+start_shorter (sequence prefix more same is n inside) =
+    let shorter = found_shorter (is_inside inside) in simp length-append (omega arith)
+
+-- there is more to read: bytes are left, or a sequence goes on
+abbrev pub GoesOn : Option Prefix → List ℕ → Type 0
+GoesOn inside bytes = (length bytes == 0 && not (is_some inside)) ≡ false
+
+-- a step takes a byte
+pub step_shorter : (inside : Option Prefix) (at : ℕ) (bytes : List ℕ) {reads : Reads} → GoesOn inside bytes
+    → step_at inside at bytes ≡ Ok reads → length reads.rest < length bytes
+step_shorter None at [] goes e = absurd cc
+step_shorter None at (byte ∷ bytes) goes e = start_shorter (rw e at (start_step {at = at} {byte = byte} {rest = bytes}))
+step_shorter (Some prefix) at bytes goes e = found_shorter (rw e at (parameter_step {prefix = prefix} {at = at} {bytes = bytes}))
 
 -- one step inside a sequence, and what the bytes after it are, say what all the bytes are
 rest_after : {prefix : Prefix} {at begin : ℕ} {bytes : List ℕ} {read : Result Reads Refusal} {go_on : Reads → Result (List Said) Refusal}
@@ -193,7 +191,7 @@ reading_after {at} (whole_piece piece rest said is long gives) next =
     let reads : Reads = record { said = said; rest = rest; inside = None } in
     rw (← gives) (piece_first piece is (rw (place_of at (spelling piece) rest) at (next reads refl)))
 reading_after {at} (sequence prefix more same is n inside) next = sequence_first is n
-    (rest_after inside (λ reads e. rw (place_in at prefix more (found_shorter (is_inside inside) e)) at (next reads e)))
+    (rest_after inside (λ reads e. rw (place_in at prefix more (found_shorter (is_inside (rw e at inside)))) at (next reads e)))
 reading_after (wrong {fault = refusal} f) next = failing f
 
 -- all steps together say what the bytes are
@@ -202,14 +200,11 @@ pub is_read : (n : ℕ) (inside : Option Prefix) (at : ℕ) (bytes : List ℕ) �
 unfolding outcome
 is_read zero inside at bytes h = absurd (omega arith)
 is_read (suc n) None at [] h = reading [] [] (Ok []) tt no_more
-is_read (suc n) None at (byte ∷ bytes) h =
-    reading_after (start_step)
-    (λ reads e. let shorter = start_shorter (start_step) e in
-    is_read n reads.inside (at + (length (byte ∷ bytes) - length reads.rest)) reads.rest (omega arith))
-is_read (suc n) (Some prefix) at bytes h = λ g.
-    rest_after (grouped_step g)
-    (λ reads e. let shorter = parameter_shorter prefix at bytes e in
-    is_read n reads.inside (at + (length bytes - length reads.rest)) reads.rest (omega arith))
+is_read (suc n) None at (byte ∷ bytes) h = reading_after start_step
+    (λ reads e. let shorter = step_shorter None at (byte ∷ bytes) (grind (arith, nat_tests)) e in
+    is_read n reads.inside _ reads.rest (omega arith))
+is_read (suc n) (Some prefix) at bytes h = λ g. rest_after (grouped_step g)
+    (λ reads e. let shorter = parameter_shorter prefix at bytes e in is_read n reads.inside _ reads.rest (omega arith))
 
 -- ---- what a whole job is
 
@@ -230,8 +225,7 @@ broken_off : {job : List ℕ} {read : Result (List Said) Refusal} {fault : Refus
 broken_off (reading pieces behind last each no_more) e = absurd cc
 broken_off {fault} (reading pieces behind last each (first_fault {refusal = refusal} f)) e =
     let same : refusal ≡ fault = cc in
-    let place = zero-add (length (flat_map spelling pieces)) in
-    record { front = pieces; each = each; behind = behind; spelled = refl; fails = rw (place, same) at f }
+    record { front = pieces; each = each; behind = behind; spelled = refl; fails = rw (zero-add, same) at f }
 
 -- the commands that are read are those of a reading
 pub reading_of : {job : List ℕ} {commands : List Said} → outcome_of job ≡ Ok commands → IsReading job commands

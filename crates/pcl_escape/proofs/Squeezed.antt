@@ -45,10 +45,9 @@ push_step {front} line byte so_far e other within =
 -- a front longer than a word is the word where all is
 front_is : (word : List ℕ) (n : ℕ) (said : List ℕ) → length word < n → bytes_eq (take n said) word ≡ bytes_eq said word
 front_is word zero said h = absurd (omega arith)
-front_is [] (suc n) [] h = refl
-front_is [] (suc n) (first ∷ said) h = refl
-front_is (c ∷ word) (suc n) [] h = refl
 front_is (c ∷ word) (suc n) (first ∷ said) h = ap (λ (b : Bool). nat_eq first c && b) (front_is word n said (omega arith))
+front_is [] (suc n) [] h = refl
+front_is _ (suc n) _ h = refl
 
 -- a front as long as a word begins with the word where all does
 front_begins : (word : List ℕ) (n : ℕ) (said : List ℕ) → length word ≤ n

@@ -1,5 +1,5 @@
 -- What a step reads outside sequences: a whole piece, the first parameter of a sequence, or a fault.
-use Rattle.std.proofs.Common.{◌≡◌, ℕ, suc, ◌+◌, ◌-◌, ◌<◌, true, false, ◌==◌, IsTrue, is_some, List, [], ◌∷◌, ◌++◌, length, take, take_at, drop, Option, Some, None, Result, Ok, Err, inl, inr, refl, sym, ap, subst, subst₂, ◌∙◌, append_assoc, length-append, arith}
+use Rattle.std.proofs.Common.{◌≡◌, ◌↔◌, ℕ, suc, ◌+◌, ◌-◌, ◌<◌, true, false, ◌==◌, IsTrue, is_some, List, [], ◌∷◌, ◌++◌, length, take, take_at, drop, Option, Some, None, Result, Ok, Err, inl, inr, refl, sym, ap, subst₂, ◌∙◌, append_assoc, length-append, arith}
 use Rattle.std.proofs.lemmas.Bool.{eqb-true, cases_Bool}
 use Rattle.std.proofs.lemmas.Bool.Decides.{nat_tests}
 use Rattle.std.specs.List.{prefix_len}
@@ -9,7 +9,7 @@ use Rattle.pcl_base.specs.declared.kind.Kind.TheVariants.{Truncated, Unsupported
 use Rattle.pcl_base.specs.declared.operation.Operation.{Operation}
 use Rattle.pcl_base.specs.declared.refusal.Refusal.{Refusal}
 use Rattle.pcl_base.specs.declared.value.Sign.{Sign}
-use Rattle.pcl_base.specs.declared.value.Sign.TheVariants.{Absent, Plus, Minus}
+use Rattle.pcl_base.specs.declared.value.Sign.TheVariants.{Absent}
 use Rattle.pcl_base.specs.Operation.{operation_of}
 use Rattle.pcl_escape.specs.declared.step.Prefix.{Prefix}
 use Rattle.pcl_escape.specs.Letter.{is_silent, is_control, is_text, is_two_character, is_parameterized, is_ungrouped, is_group, is_last, prefix_bytes}
@@ -48,26 +48,18 @@ pub data Outside (at : ℕ) : List ℕ → Result Reads Refusal → Type 0 where
 -- a name that is performed gives its command
 pub named_again : {at code : ℕ} {rest : List ℕ} (operation : Option Operation) → is_some operation ≡ true
     → named_by operation at code rest ≡ piece_reads (Some (bare_command at code)) rest
-named_again None s = absurd cc
-named_again (Some operation) s = refl
+named_again operation s = grind arith
 
 -- a name that isn't performed is refused
 pub unknown_again : {at code : ℕ} (rest : List ℕ) (operation : Option Operation) → is_some operation ≡ false
     → named_by operation at code rest ≡ refuse UnsupportedCommand at (One code)
-unknown_again rest None s = refl
-unknown_again rest (Some operation) s = absurd cc
+unknown_again rest operation s = grind arith
 
 -- ---- text
 
--- where bytes that are text stop, no text goes on
-no_text : (rest : List ℕ) → StopsAt is_text rest → IsNoText rest
-no_text [] s = tt
-no_text (byte ∷ rest) s = s
-
--- the same the other way
-text_stops : (rest : List ℕ) → IsNoText rest → StopsAt is_text rest
-text_stops [] s = tt
-text_stops (byte ∷ rest) s = s
+-- where bytes that are text stop, no text goes on, and the other way
+no_text : (rest : List ℕ) → StopsAt is_text rest ↔ IsNoText rest
+no_text rest = grind arith
 
 -- a run of text
 text_run : {at byte : ℕ} {rest : List ℕ} → is_text byte ≡ true → Outside at (byte ∷ rest) (text_at at (byte ∷ rest))
@@ -79,12 +71,12 @@ text_run {at} {byte} {rest} t =
     let reads : List ℕ × List ℕ → Result Reads Refusal = λ parts. piece_reads (Some (text_command at parts.0)) parts.1 in
     subst₂ (Outside at) (ap (λ (bs : List ℕ). byte ∷ bs) (sym f.joined)) (ap reads (sym (front_yes is_text rest t)))
     (whole_piece (text (byte ∷ run)) behind (Some (text_command at (byte ∷ run)))
-    ((t, f.pass), no_text behind f.stops) (omega arith) refl)
+    ((t, f.pass), (no_text behind).0 f.stops) (omega arith) refl)
 
 -- ---- universal exits
 
-abbrev percent : Prefix
-percent = record { parameterized = 37; group = None }
+abbrev ungrouped : ℕ → Prefix
+ungrouped byte = record { parameterized = byte; group = None }
 
 abbrev exit_parameter : Spelled → Parameter
 exit_parameter field = record { field = field; letter = 88 }
@@ -96,9 +88,7 @@ exit_joined field lines rest = simp append_assoc
 
 -- what stands before the rest
 pub before_rest_is : (front rest : List ℕ) → before_rest (front ++ rest) rest ≡ front
-before_rest_is front rest =
-    let own : length (front ++ rest) - length rest ≡ length front = let e = length-append front rest in omega arith in
-    ap (λ (n : ℕ). take n (front ++ rest)) own ∙ take_at front rest (length front) refl
+before_rest_is front rest = take_at front rest (length (front ++ rest) - length rest) (simp length-append (omega arith))
 
 -- an exit without data and the lines after it
 exit_lines : {at : ℕ} (field : Spelled) {bytes : List ℕ} {read : Result (List ℕ) ℕ} → IsField field
@@ -113,46 +103,40 @@ exit_lines field f x e (foreign lines line rest each ends l p) =
 
 -- what a step reads of the bytes of an exit and those after it
 exit_reads : (at : ℕ) (field : Spelled) (bytes : List ℕ) → is_exit exit_name (field_value field) ≡ true
-    → with_lines (at + 2) (length (parameter_bytes (exit_parameter field) ++ bytes)) (end_reads percent at (exit_parameter field) [] bytes)
+    → with_lines (at + 2) (length (parameter_bytes (exit_parameter field) ++ bytes))
+    (end_reads (ungrouped 37) at (exit_parameter field) [] bytes)
     ≡ skipped_by bytes (Some (exit_command at field [])) (lines_at (at + 3 + length (field_bytes field)) bytes)
 exit_reads at field bytes x =
     let place : (at + 2) + (length (parameter_bytes (exit_parameter field) ++ bytes) - length bytes) ≡ at + 3 + length (field_bytes field) =
     simp length-append (omega arith) in
     rw (x, place) refl
 
--- a leaving parameter of a sequence without a group character
-abbrev LeavesAt : ℕ → Spelled → List ℕ → List ℕ → ℕ → ℕ → Type 0
-LeavesAt at field sent rest byte letter =
-    let prefix : Prefix = record { parameterized = byte; group = None } in
-    let parameter : Parameter = record { field = field; letter = letter } in
-    IsLast prefix parameter sent → is_leaving prefix parameter ≡ true
-    → Outside at (27 ∷ byte ∷ (parameter_bytes parameter ++ (sent ++ rest)))
-    (with_lines (at + 2) (length (parameter_bytes parameter ++ (sent ++ rest))) (end_reads prefix at parameter sent rest))
-
--- it is an exit, which has no data
-leave_step : {at : ℕ} {field : Spelled} {sent : List ℕ} (rest : List ℕ) {byte letter : ℕ} → LeavesAt at field sent rest byte letter
+-- a leaving parameter of a sequence without a group character is an exit, which has no data
+leave_step : {at : ℕ} {field : Spelled} {sent : List ℕ} (rest : List ℕ) {byte letter : ℕ}
+    → IsLast (ungrouped byte) (record { field = field; letter = letter }) sent
+    → is_leaving (ungrouped byte) (record { field = field; letter = letter }) ≡ true
+    → Outside at (27 ∷ byte ∷ ((field_bytes field ++ letter ∷ []) ++ (sent ++ rest)))
+    (with_lines (at + 2) (length ((field_bytes field ++ letter ∷ []) ++ (sent ++ rest)))
+    (end_reads (ungrouped byte) at (record { field = field; letter = letter }) sent rest))
 leave_step {at} {field} {sent} rest {byte} {letter} is x =
     let last : is_last letter ≡ true = is.letter in
-    let percent_is : 37 ≡ byte = grind (arith, nat_tests) in
-    let letter_is : 88 ≡ letter = grind (arith, nat_tests) in
-    let empty : LeavesAt at field [] rest 37 88 = λ last leaves. rw (exit_reads at field rest leaves)
-    (exit_lines field last.field leaves last.checks (lines_split (suc (length rest)) {bytes = rest} (omega arith))) in
-    let here : LeavesAt at field sent rest 37 88 = λ last leaves.
-    let none : sent ≡ [] = nil_from_length sent (exit_takes_none 88 (field_value field) (length sent) last.checks) in
-    subst (λ (bs : List ℕ). LeavesAt at field bs rest 37 88) (sym none) empty last leaves in
-    subst₂ (LeavesAt at field sent rest) percent_is letter_is here is x
+    let percent_is : byte ≡ 37 = grind (arith, nat_tests) in
+    let letter_is : letter ≡ 88 = grind (arith, nat_tests) in
+    let leaves = rw (percent_is, letter_is) at x in
+    let checks = rw (percent_is, letter_is) at is.checks in
+    let none : sent ≡ [] = nil_from_length sent (exit_takes_none 88 (field_value field) (length sent) checks) in
+    rw (percent_is, letter_is, none, exit_reads at field rest leaves)
+    (exit_lines field is.field leaves (rw none at checks) (lines_split (suc (length rest)) {bytes = rest} (omega arith)))
 
 -- ---- sequences without a group character
 
 -- what was found there
 ungrouped_found : {at byte : ℕ} {bytes : List ℕ} {read : Result Reads Refusal} → is_ungrouped byte ≡ true → IsUngrouped None bytes
-    → Found (record { parameterized = byte; group = None }) at bytes read
-    → Outside at (27 ∷ byte ∷ bytes) (with_lines (at + 2) (length bytes) read)
+    → Found (ungrouped byte) at bytes read → Outside at (27 ∷ byte ∷ bytes) (with_lines (at + 2) (length bytes) read)
 ungrouped_found u n (is_inside (is_middle parameter rest m)) = absurd (let never = m.letter in cc)
 ungrouped_found {byte} {bytes} u n (is_inside (is_end parameter sent rest e)) =
-    rw e.stays (sequence (record { parameterized = byte; group = None }) bytes _ u n (is_end parameter sent rest e))
-ungrouped_found {byte} {bytes} {read} u n (is_inside (is_wrong f)) =
-    sequence (record { parameterized = byte; group = None }) bytes read u n (is_wrong f)
+    rw e.stays (sequence (ungrouped byte) bytes _ u n (is_end parameter sent rest e))
+ungrouped_found {byte} {bytes} {read} u n (is_inside (is_wrong f)) = sequence (ungrouped byte) bytes read u n (is_wrong f)
 ungrouped_found u n (is_leave parameter sent rest is x) = leave_step rest is x
 
 -- ---- sequences
@@ -163,7 +147,7 @@ unfolding prefix_at ungrouped_at
 prefix_step {at} {byte} [] p = elim (cases_Bool (is_ungrouped byte)) [
   | inl u ↦
       let nothing : Spelled = record { sign = Absent; whole = []; fraction = None } in
-      sequence (record { parameterized = byte; group = None }) [] (refuse Truncated at (One byte)) u tt (is_wrong (cut nothing (tt, tt)))
+      sequence (ungrouped byte) [] (refuse Truncated at (One byte)) u tt (is_wrong (cut nothing (tt, tt)))
   | inr u ↦ wrong (no_group p u)
 ]
 prefix_step {at} {byte} (group ∷ rest) p =
@@ -231,28 +215,22 @@ pub text_again : {at byte : ℕ} {more rest : List ℕ} → IsRun (byte ∷ more
 text_again {at} {byte} {more} {rest} is =
     let reads : List ℕ × List ℕ → Result Reads Refusal = λ parts. piece_reads (Some (text_command at parts.0)) parts.1 in
     at_text byte (more ++ rest) is.0.0
-    ∙ ap reads (front_again is_text (byte ∷ more) rest is.0 (text_stops rest is.1))
+    ∙ ap reads (front_again is_text (byte ∷ more) rest is.0 ((no_text rest).1 is.1))
 
 -- ---- the first parameter of a sequence
 
 -- a last parameter begins with no group character
-parts_apart : (sign : Sign) (whole : List ℕ) (fraction : Option (List ℕ)) (letter : ℕ) (rest : List ℕ) → Pass is_digit whole
+pub parts_apart : (sign : Sign) (whole : List ℕ) (fraction : Option (List ℕ)) (letter : ℕ) (rest : List ℕ) → Pass is_digit whole
     → is_last letter ≡ true
     → IsUngrouped None (field_bytes (record { sign = sign; whole = whole; fraction = fraction }) ++ letter ∷ rest)
-parts_apart Plus whole fraction letter rest d l = refl
-parts_apart Minus whole fraction letter rest d l = refl
 parts_apart Absent [] None letter rest d l = grind (arith, nat_tests)
-parts_apart Absent [] (Some digits) letter rest d l = refl
 parts_apart Absent (digit ∷ whole) fraction letter rest d l = let is : is_digit digit ≡ true = d.0 in grind (arith, nat_tests)
-
-pub field_apart : (field : Spelled) (letter : ℕ) (rest : List ℕ) → IsField field → is_last letter ≡ true
-    → IsUngrouped None (field_bytes field ++ letter ∷ rest)
-field_apart field letter rest f l = parts_apart field.sign field.whole field.fraction letter rest f.0 l
+parts_apart _ _ _ letter rest d l = refl
 
 -- a step reads the parameter of a sequence without a group character, and then lines
 ungrouped_again : (at parameterized : ℕ) (bytes : List ℕ) → is_ungrouped parameterized ≡ true → IsUngrouped None bytes
     → start_at at (27 ∷ parameterized ∷ bytes)
-    ≡ with_lines (at + 2) (length bytes) (parameter_at (record { parameterized = parameterized; group = None }) at bytes)
+    ≡ with_lines (at + 2) (length bytes) (parameter_at (ungrouped parameterized) at bytes)
 unfolding prefix_at ungrouped_at parameter_at field_at
 ungrouped_again at parameterized [] p n = at_prefix at parameterized [] (grind (arith, nat_tests))
 ungrouped_again at parameterized (byte ∷ bytes) p n =
@@ -265,21 +243,16 @@ no_lines begin len (is_middle parameter rest m) = rw (middle_stays m) refl
 no_lines begin len (is_end parameter sent rest e) = rw e.stays refl
 no_lines begin len (is_wrong f) = refl
 
-inside_by : (parameterized : ℕ) (group : Option ℕ) {at : ℕ} {bytes : List ℕ} {read : Result Reads Refusal}
+-- a step reads the first parameter as it would inside
+pub inside_again : (parameterized : ℕ) (group : Option ℕ) {at : ℕ} {bytes : List ℕ} {read : Result Reads Refusal}
     → IsPrefix (record { parameterized = parameterized; group = group }) → IsUngrouped group bytes
     → Inside (record { parameterized = parameterized; group = group }) at bytes read
     → start_at at (27 ∷ (prefix_bytes (record { parameterized = parameterized; group = group }) ++ bytes)) ≡ read
 unfolding prefix_at
-inside_by parameterized None {at} {bytes} p n inside =
+inside_again parameterized None {at} {bytes} p n inside =
     ungrouped_again at parameterized bytes p n ∙ rw (inside_reads inside) (no_lines (at + 2) (length bytes) inside)
-inside_by parameterized (Some group) {at} {bytes} p n inside =
+inside_again parameterized (Some group) {at} {bytes} p n inside =
     at_prefix at parameterized (group ∷ bytes) p.0 ∙ rw p.1 (inside_reads inside)
-
--- a step reads the first parameter as it would inside
-pub inside_again : {prefix : Prefix} {at : ℕ} {bytes : List ℕ} {read : Result Reads Refusal} → IsPrefix prefix
-    → IsUngrouped prefix.group bytes → Inside prefix at bytes read
-    → start_at at (27 ∷ (prefix_bytes prefix ++ bytes)) ≡ read
-inside_again {prefix} p n inside = inside_by prefix.parameterized prefix.group p n inside
 
 -- ---- universal exits
 
@@ -289,16 +262,13 @@ pub exit_first : (at : ℕ) (field : Spelled) (bytes : List ℕ) {read : Result 
     → Lines (at + 3 + length (field_bytes field)) bytes read
     → start_at at (27 ∷ 37 ∷ (parameter_bytes (exit_parameter field) ++ bytes)) ≡ skipped_by bytes (Some (exit_command at field [])) read
 exit_first at field bytes f x e lines =
-    let last : IsLast percent (exit_parameter field) [] = record { field = f; letter = refl; checks = e } in
+    let last : IsLast (ungrouped 37) (exit_parameter field) [] = record { field = f; letter = refl; checks = e } in
     ungrouped_again at 37 (parameter_bytes (exit_parameter field) ++ bytes) refl
-    (rw (parameter_joined field 88 bytes) (field_apart field 88 bytes f refl))
+    (rw (parameter_joined field 88 bytes) (parts_apart field.sign field.whole field.fraction 88 bytes f.0 refl))
     ∙ rw (last_again at bytes last, exit_reads at field bytes x, lines_again lines) refl
 
 pub exit_again : {at : ℕ} {field : Spelled} {lines : List (List ℕ)} {rest : List ℕ} → IsExit field lines rest
     → start_at at (spelling (exit field lines) ++ rest) ≡ piece_reads (Some (exit_command at field lines)) rest
 exit_again {at} {field} {lines} {rest} is =
-    rw (
-      exit_joined field (joined lines) rest,
-      exit_first at field (joined lines ++ rest) is.field_is is.leaves is.checks (skipped lines rest is.lines_are),
-      before_rest_is (joined lines) rest,
-    ) refl
+    let first = exit_first at field (joined lines ++ rest) is.field_is is.leaves is.checks (skipped lines rest is.lines_are) in
+    rw (exit_joined field (joined lines) rest, first, before_rest_is (joined lines) rest) refl

@@ -1,12 +1,11 @@
 -- What a step reads inside a sequence: a middle parameter, the last one with its data, or its first fault.
-use Rattle.std.proofs.Common.{◌≡◌, ℕ, Bool, true, false, ◌&&◌, ◌-◌, ◌<◌, if◌then◌else◌, is_some, IsTrue, List, [], ◌∷◌, ◌++◌, length, take, drop, Option, Some, None, inl, inr, Result, Ok, Err, refl, sym, ap, subst, ◌∙◌, append_assoc, append-nil, length-append, length-take-le, take-append-drop, take_at, drop_at, arith}
+use Rattle.std.proofs.Common.{◌≡◌, ℕ, Bool, true, false, ◌&&◌, ◌-◌, ◌<◌, is_some, IsTrue, List, [], ◌∷◌, ◌++◌, length, take, drop, Some, None, inl, inr, Result, Ok, Err, refl, sym, ap, subst, ◌∙◌, append_assoc, append-nil, length-append, length-take-le, take-append-drop, take_at, drop_at, arith}
 use Rattle.std.proofs.lemmas.Bool.{cases_Bool}
 use Rattle.std.proofs.lemmas.Bool.Decides.{nat_tests}
 use Rattle.pcl_base.specs.declared.kind.Kind.{Kind}
 use Rattle.pcl_base.specs.declared.refusal.Refusal.{Refusal}
-use Rattle.pcl_base.specs.declared.value.Value.{Value}
 use Rattle.pcl_escape.specs.declared.step.Prefix.{Prefix}
-use Rattle.pcl_escape.specs.Letter.{is_last, goes_on, is_letter, name_with_letter, parameter_name}
+use Rattle.pcl_escape.specs.Letter.{is_last, goes_on, is_letter, parameter_name}
 use Rattle.pcl_escape.specs.Field.{Spelled, field_bytes, field_value}
 use Rattle.pcl_escape.specs.inner.Fields.{field_at}
 use Rattle.pcl_escape.specs.Checks.{parameter_checks, is_exit}
@@ -65,29 +64,22 @@ checked_step {prefix} {at} field letter rest (Ok len) f l e =
     let name = parameter_name prefix letter in
     let parameter : Parameter = record { field = field; letter = letter } in
     let taken = checks_take name letter (field_value field) e in
-    let reads : Option Prefix → Result Reads Refusal = λ inside. Ok record {
-      said = Some record { at = at; name = name; value = field_value field; bytes = take len rest };
-      rest = drop len rest;
-      inside = inside;
-    } in
-    by_test (λ inside. Found prefix at (field_bytes field ++ letter ∷ rest) (reads inside)) (goes_on letter)
-    (λ g.
+    let said = command_of prefix at parameter (take len rest) in
+    by_test (λ inside. Found prefix at (field_bytes field ++ letter ∷ rest)
+    (Ok record { said = Some said; rest = drop len rest; inside = inside })) (goes_on letter) (λ g.
     let nothing : len ≡ 0 = none_behind name letter (field_value field) (length rest) g e in
     let passes = rw nothing at (taken.again 0) in
     rw (nothing, ← parameter_joined field letter rest)
     (is_inside (is_middle parameter rest (record { field = f; letter = grind (arith, nat_tests); checks = passes (omega arith) }))))
     (λ g.
     let last : is_last letter ≡ true = grind (arith, nat_tests) in
-    let long : length (take len rest) ≡ len = length-take-le len rest taken.fits in
-    let ends : IsLast prefix parameter (take len rest) =
-    record { field = f; letter = last; checks = rw long (taken.again len (omega arith)) } in
+    let checks : PassesChecks prefix parameter (take len rest) = rw (length-take-le len rest taken.fits) (taken.again len (omega arith)) in
     let joined : parameter_bytes parameter ++ (take len rest ++ drop len rest) ≡ field_bytes field ++ letter ∷ rest =
     rw take-append-drop (parameter_joined field letter rest) in
     rw (← joined) (elim (cases_Bool (is_leaving prefix parameter)) [
-      | inl l ↦ is_leave parameter (take len rest) (drop len rest) ends l
-      | inr l ↦
-          is_inside (is_end parameter (take len rest) (drop len rest)
-          (record { field = f; letter = last; checks = ends.checks; stays = l }))
+      | inl l ↦ is_leave parameter (take len rest) (drop len rest) (record { field = f; letter = last; checks = checks }) l
+      | inr l ↦ is_inside (is_end parameter (take len rest) (drop len rest)
+          (record { field = f; letter = last; checks = checks; stays = l }))
     ]))
 
 -- after a field that stops stands a byte, or nothing
@@ -110,25 +102,19 @@ parameter_step {prefix} {at} {bytes} =
 -- ---- sequences with a group character
 
 -- no name of three bytes is a universal exit's
-grouped_stays : (parameterized : ℕ) (group : Option ℕ) (letter : ℕ) (value : Value) → is_some group ≡ true
-    → is_exit (name_with_letter parameterized group letter) value ≡ false
-grouped_stays parameterized None letter value g = absurd cc
-grouped_stays parameterized (Some group) letter value g = refl
+grouped_stays : (prefix : Prefix) (parameter : Parameter) → is_some prefix.group ≡ true → is_leaving prefix parameter ≡ false
+grouped_stays prefix parameter g = grind arith
 
 -- so they hold none
 inside_found : {prefix : Prefix} {at : ℕ} {bytes : List ℕ} {read : Result Reads Refusal} → is_some prefix.group ≡ true
     → Found prefix at bytes read → Inside prefix at bytes read
 inside_found g (is_inside inside) = inside
-inside_found {prefix} g (is_leave parameter sent rest is l) =
-    let stays = grouped_stays prefix.parameterized prefix.group
-    (if goes_on parameter.letter then parameter.letter - 32 else parameter.letter) (field_value parameter.field) g in absurd cc
+inside_found {prefix} g (is_leave parameter sent rest is l) = absurd (let stays = grouped_stays prefix parameter g in cc)
 
 -- a middle parameter is none
 pub middle_stays : {prefix : Prefix} {parameter : Parameter} → IsMiddle prefix parameter → is_leaving prefix parameter ≡ false
 middle_stays {prefix} {parameter} m =
-    let goes : (is_some prefix.group && goes_on parameter.letter) ≡ true = m.letter in
-    grouped_stays prefix.parameterized prefix.group (if goes_on parameter.letter then parameter.letter - 32 else parameter.letter)
-    (field_value parameter.field) (grind arith)
+    let goes : (is_some prefix.group && goes_on parameter.letter) ≡ true = m.letter in grouped_stays prefix parameter (grind arith)
 
 pub grouped_step : {prefix : Prefix} {at : ℕ} {bytes : List ℕ} → is_some prefix.group ≡ true
     → Inside prefix at bytes (parameter_at prefix at bytes)
@@ -136,24 +122,16 @@ grouped_step g = inside_found g (parameter_step)
 
 -- ---- each step goes on
 
--- what is after a parameter is shorter
-rest_shorter : (parameter : Parameter) (sent rest : List ℕ) → length rest < length (parameter_bytes parameter ++ (sent ++ rest))
-rest_shorter parameter sent rest = simp length-append (omega arith)
-
 -- each step inside a sequence takes a byte
-pub found_shorter : {prefix : Prefix} {at : ℕ} {bytes : List ℕ} {read : Result Reads Refusal} {reads : Reads}
-    → Found prefix at bytes read → read ≡ Ok reads → length reads.rest < length bytes
-found_shorter {reads} (is_inside (is_middle parameter rest is)) e =
-    let same : rest ≡ reads.rest = cc in rw (← same) (rest_shorter parameter [] rest)
-found_shorter {reads} (is_inside (is_end parameter sent rest is)) e =
-    let same : rest ≡ reads.rest = cc in rw (← same) (rest_shorter parameter sent rest)
-found_shorter (is_inside (is_wrong f)) e = absurd cc
-found_shorter {reads} (is_leave parameter sent rest is l) e =
-    let same : rest ≡ reads.rest = cc in rw (← same) (rest_shorter parameter sent rest)
+pub found_shorter : {prefix : Prefix} {at : ℕ} {bytes : List ℕ} {reads : Reads} → Found prefix at bytes (Ok reads)
+    → length reads.rest < length bytes
+found_shorter (is_inside (is_middle parameter rest is)) = simp length-append (omega arith)
+found_shorter (is_inside (is_end parameter sent rest is)) = simp length-append (omega arith)
+found_shorter (is_leave parameter sent rest is l) = simp length-append (omega arith)
 
 pub parameter_shorter : (prefix : Prefix) (at : ℕ) (bytes : List ℕ) {reads : Reads} → parameter_at prefix at bytes ≡ Ok reads
     → length reads.rest < length bytes
-parameter_shorter prefix at bytes e = found_shorter parameter_step e
+parameter_shorter prefix at bytes e = found_shorter (rw e at (parameter_step {prefix = prefix} {at = at} {bytes = bytes}))
 
 -- ---- from the parts to the step
 
@@ -178,14 +156,8 @@ last_again {prefix} at {parameter} {bytes} rest m =
     let last : is_last letter ≡ true = m.letter in
     let stops : goes_on letter ≡ false = grind (arith, nat_tests) in
     let again = (checks_take (parameter_name prefix letter) letter (field_value parameter.field) m.checks).again (length (bytes ++ rest)) in
-    rw (
-      parameter_joined parameter.field letter (bytes ++ rest),
-      checks_behind prefix at parameter.field letter (bytes ++ rest) m.field (grind arith),
-      again (simp length-append (omega arith)),
-      stops,
-      take_at bytes rest (length bytes) refl,
-      drop_at bytes rest (length bytes) refl,
-    ) refl
+    rw (parameter_joined parameter.field letter, checks_behind prefix at parameter.field letter (bytes ++ rest) m.field (grind arith))
+    (rw (again (simp length-append (omega arith)), stops, take_at bytes rest _ refl, drop_at bytes rest _ refl) refl)
 
 -- a step reads what the bytes begin with
 pub inside_reads : {prefix : Prefix} {at : ℕ} {bytes : List ℕ} {read : Result Reads Refusal} → Inside prefix at bytes read
@@ -195,12 +167,8 @@ inside_reads {prefix} {at} (is_middle parameter rest m) =
     let goes : (is_some prefix.group && goes_on letter) ≡ true = m.letter in
     let on : goes_on letter ≡ true = grind arith in
     let again = (checks_take (parameter_name prefix letter) letter (field_value parameter.field) m.checks).again (length rest) in
-    rw (
-      parameter_joined parameter.field letter rest,
-      checks_behind prefix at parameter.field letter rest m.field (grind arith),
-      again (omega arith),
-      on,
-    ) refl
+    rw (parameter_joined parameter.field letter, checks_behind prefix at parameter.field letter rest m.field (grind arith))
+    (rw (again (omega arith), on) refl)
 inside_reads {at} (is_end parameter sent rest m) =
     last_again at rest (record { field = m.field; letter = m.letter; checks = m.checks })
 inside_reads {prefix} {at} (is_wrong (cut field f)) = simp append-nil at (field_behind prefix at field [] f tt)

@@ -1,11 +1,10 @@
 -- The value of a field of the code, whose digits before the point are read up to a limit.
-use Rattle.std.proofs.Common.{◌≡◌, ℕ, ◌+◌, ◌*◌, ◌≤◌, min, nat_le, if◌then◌else◌, List, [], Option, Some, None, refl, arith}
+use Rattle.std.proofs.Common.{◌≡◌, ℕ, ◌+◌, ◌*◌, ◌≤◌, min, nat_le, if◌then◌else◌, List, [], Option, Some, None, arith}
 use Rattle.std.proofs.lemmas.Bool.Decides.{nat_tests}
 use Rattle.std.specs.Bool.{then_some}
 use Rattle.std.specs.Borrow.{Bor}
 use Rattle.std.specs.Option.{unwrap_or}
 use Rattle.pcl_base.specs.declared.value.Sign.{Sign}
-use Rattle.pcl_base.specs.declared.value.Sign.TheVariants.{Absent, Plus, Minus}
 use Rattle.pcl_base.specs.declared.value.Value.{Value}
 use Rattle.pcl_escape.specs.Field.{contents, fraction_parts, greatest_parts, in_range, ten_thousandths}
 
@@ -15,9 +14,7 @@ value_with sign n t = record { sign = sign; parts = n * 10000 + t }
 
 -- no value in range has a larger number than the limit
 reach : (sign : Sign) → greatest_parts sign ≤ 655350000
-reach Absent = omega arith
-reach Plus = omega arith
-reach Minus = omega arith
+reach sign = grind arith
 
 -- the number up to the limit gives the same value where that is in range, and none where it isn't
 pub value_read : {value : Option Value} (sign : Sign) (n t : ℕ) {number digits greatest : ℕ}
@@ -29,5 +26,4 @@ value_read sign n t v e d g = let limit = reach sign in rw (v, e, d, g) (grind (
 -- the digits after the point, none where there is no point
 pub fraction_read : (fraction : Option (Bor (List ℕ))) (none : Bor (List ℕ)) → none.now ≡ []
     → ten_thousandths (unwrap_or fraction none).now ≡ fraction_parts (contents fraction)
-fraction_read None none e = rw e refl
-fraction_read (Some digits) none e = refl
+fraction_read fraction none e = grind arith

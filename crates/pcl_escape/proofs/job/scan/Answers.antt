@@ -1,11 +1,11 @@
 use Rattle.std.proofs.Common.{◌-◌, length, arith, refl, sym, ap, ◌∙◌}
 use Rattle.pcl_escape.specs.inner.Scan.{step_view}
-use Rattle.pcl_escape.proofs.Again.{GoesOn}
-use Rattle.pcl_escape.proofs.Loop.{step_shorter, so_far, one_more, stops_at, is_done}
+use Rattle.pcl_escape.proofs.Loop.{so_far, one_more, stops_at, is_done}
 use Rattle.pcl_escape.proofs.Places.{step_placed}
 use Rattle.pcl_escape.proofs.job.scan.Given.{Over}
 use Rattle.pcl_escape.proofs.job.scan.Goals as goal
 use Rattle.pcl_escape.proofs.job.scan.Goals.{After-read_step, then-not-is_empty, else-not-is_empty+then-is_some}
+use Rattle.pcl_escape.proofs.Runs.{step_shorter, GoesOn}
 
 -- what the loop's test says
 more_to_read : (g : Over) (c : After-read_step g) → GoesOn c.loop-inside.inside c.loop-inside.rest.now
@@ -26,26 +26,21 @@ loop-inside-smaller g c =
     step_shorter c.loop-inside.inside (length c.args.job.now - length c.loop-inside.rest.now) c.loop-inside.rest.now goes c.in-Ok.ensures
 
 pub append-requires : goal.append-requires
-append-requires g c = λ _. (
-  (refl, tt),
-  (step_placed c.loop-inside.inside (length c.args.job.now - length c.loop-inside.rest.now) (step_view c.in-Ok.step)
-      c.loop-inside.invariant.is_end c.in-Ok.ensures).0,
-)
+append-requires g c =
+    let placed = step_placed c.loop-inside.inside _ (step_view c.in-Ok.step) c.loop-inside.invariant.is_end c.in-Ok.ensures in
+    λ _. ((refl, tt), placed.0)
 
 pub loop-inside-preserved : goal.loop-inside-preserved
 loop-inside-preserved g c =
     let goes = more_to_read g (goal.at.loop-inside-preserved g c).After-read_step in
-    let total = length c.args.job.now in
-    let at = total - length c.loop-inside.rest.now in
-    let shorter = step_shorter c.loop-inside.inside at c.loop-inside.rest.now goes c.in-Ok.ensures in
+    let shorter = step_shorter c.loop-inside.inside _ c.loop-inside.rest.now goes c.in-Ok.ensures in
     let within = c.loop-inside.invariant.within in
+    let read = step_view c.in-Ok.step in
     record {
       within = omega arith;
-      same = ap (λ front. so_far front total c.in-Ok.step.inside c.in-Ok.step.rest.now) c.in_ok-append.ensures
-          ∙ one_more (g.S.CommandStore.kept c.args.job.now c.loop-inside.store) total c.loop-inside.inside c.loop-inside.rest.now
-          (step_view c.in-Ok.step) within goes c.in-Ok.ensures
-          ∙ c.loop-inside.invariant.same;
-      is_end = (step_placed c.loop-inside.inside at (step_view c.in-Ok.step) c.loop-inside.invariant.is_end c.in-Ok.ensures).1;
+      same = rw c.in_ok-append.ensures (one_more (g.S.CommandStore.kept c.args.job.now c.loop-inside.store) (length c.args.job.now)
+          c.loop-inside.inside c.loop-inside.rest.now read within goes c.in-Ok.ensures ∙ c.loop-inside.invariant.same);
+      is_end = (step_placed c.loop-inside.inside _ read c.loop-inside.invariant.is_end c.in-Ok.ensures).1;
     }
 
 pub returns : goal.returns

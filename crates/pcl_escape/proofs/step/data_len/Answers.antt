@@ -19,16 +19,10 @@ returns-in_default-clause-checks c =
 
 pub returns-in_default-2-clause-checks : goal.returns-in_default-2-clause-checks
 returns-in_default-2-clause-checks c =
-    rw (
-      checks (goal.at.returns-in_default-2-clause-checks c).After-whole-in-Some-3 (omega arith),
-      ← c.if-goes_on.ensures,
-      lt-ltb _ _ c.if-left-len.true,
-    ) refl
+    rw (checks (goal.at.returns-in_default-2-clause-checks c).After-whole-in-Some-3 (omega arith), ← c.if-goes_on.ensures)
+    (rw (lt-ltb _ _ c.if-left-len.true) refl)
 
 pub returns-in_default-3-clause-checks : goal.returns-in_default-3-clause-checks
 returns-in_default-3-clause-checks c =
-    rw (
-      checks (goal.at.returns-in_default-3-clause-checks c).After-whole-in-Some-3 (omega arith),
-      ← c.if-goes_on.ensures,
-      le-ltb _ _ c.if-left-len.false,
-    ) refl
+    rw (checks (goal.at.returns-in_default-3-clause-checks c).After-whole-in-Some-3 (omega arith), ← c.if-goes_on.ensures)
+    (rw (le-ltb _ _ c.if-left-len.false) refl)
