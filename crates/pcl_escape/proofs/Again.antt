@@ -69,8 +69,7 @@ whole_again : (middle : List Parameter) (n : ℕ) {prefix : Prefix} (at begin : 
 whole_again [] n at begin {end} {sent} behind each is h gives =
     let long = simp length-append at h in
     let place : begin + (length (parameter_bytes end ++ (sent ++ behind)) - length behind)
-    ≡ begin + length (parameter_bytes end ++ sent) =
-    simp length-append (omega arith) in
+    ≡ begin + length (parameter_bytes end ++ sent) = simp length-append (omega arith) in
     rw (inside_reads (is_end end sent behind is), place, gives n (omega arith)) refl
 whole_again (parameter ∷ middle) zero at begin behind each is h gives = absurd (let long = simp length-append at h in omega arith)
 whole_again (parameter ∷ middle) (suc n) {prefix} at begin {end} {sent} behind {read} each is h gives =

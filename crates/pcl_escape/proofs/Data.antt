@@ -36,8 +36,7 @@ pub counts : (value : Value) {y z : ℤ} → mag z < 2147483648 → y ≡ signed
     → int_lt (through_bits y) (pos 0) ≡ false → Counts value (nat_abs (through_bits z))
 counts value {y} {z} fits a b e =
     let same : through_bits z ≡ signed_whole value = to_z-of_z w32 z (record { sfits = fits }) ∙ b in
-    let parts = not_below_by value.sign (whole_of value)
-    (ap (λ (x : ℤ). int_lt x (pos 0)) (sym same ∙ ap through_bits (b ∙ sym a)) ∙ e) in
+    let parts = not_below_by value.sign (whole_of value) (ap (λ (x : ℤ). int_lt x (pos 0)) (sym same ∙ ap through_bits (b ∙ sym a)) ∙ e) in
     record { not_below = parts.0; whole = parts.1 ∙ ap nat_abs (sym same) }
 
 -- the checks of a value that counts bytes, of which there are as many as are left

@@ -74,8 +74,7 @@ leaving : IsReading (escape (codes "%-12345X@PJL x") ++ 10 ∷ (codes "@PJL Ente
 leaving = unfold reading in reading_of refl
 
 -- a line without LF goes to the end, whatever it holds
-last_line : IsReading (escape (codes "%-12345X@PJL") ++ 27 ∷ 7 ∷ [])
-    (said 0 (Two 37 88) Minus 123450000 (codes "@PJL" ++ 27 ∷ 7 ∷ []) ∷ [])
+last_line : IsReading (escape (codes "%-12345X@PJL") ++ 27 ∷ 7 ∷ []) (said 0 (Two 37 88) Minus 123450000 (codes "@PJL" ++ 27 ∷ 7 ∷ []) ∷ [])
 last_line = unfold reading in reading_of refl
 
 -- another value of that name skips nothing

@@ -45,8 +45,7 @@ Stands bytes (Err fault) = Unit {0}
 
 -- with more bytes before them
 further : (more bytes : List ℕ) (read : Result Reads Refusal) → Stands bytes read → Stands (more ++ bytes) read
-further more bytes (Ok reads) s =
-    record { front = more ++ s.front; joined = simp append_assoc (let same = s.joined in cc); told = s.told }
+further more bytes (Ok reads) s = record { front = more ++ s.front; joined = simp append_assoc (let same = s.joined in cc); told = s.told }
 further more bytes (Err fault) s = tt
 
 -- ---- commands without a value
@@ -69,8 +68,7 @@ parameter_told prefix letter l =
 
 checked_stands : (prefix : Prefix) (at letter : ℕ) (value : Value) (bytes : List ℕ) (checks : Result ℕ Kind)
     → IsTold (parameter_name prefix letter) → Stands (letter ∷ bytes) (checked_at prefix at letter value bytes checks)
-checked_stands prefix at letter value bytes (Ok len) t =
-    record { front = letter ∷ []; joined = rw take-append-drop refl; told = t }
+checked_stands prefix at letter value bytes (Ok len) t = record { front = letter ∷ []; joined = rw take-append-drop refl; told = t }
 checked_stands prefix at letter value bytes (Err kind) t = tt
 
 letter_stands : (prefix : Prefix) (at : ℕ) (field : Spelled) (bytes : List ℕ) → Stands bytes (letter_at prefix at field bytes)
@@ -99,8 +97,7 @@ lines_stand : (begin len : ℕ) (bytes : List ℕ) (read : Result Reads Refusal)
     → Stands bytes (with_lines begin len read)
 lines_stand begin len bytes (Ok reads) s = by_test (Stands bytes) (leaves reads.said)
     (λ l. skipped_stands (s.front ++ data_of reads.said) reads.said (simp append_assoc s.joined) s.told
-    (lines_split (suc (length reads.rest)) (omega arith)))
-    (λ l. s)
+    (lines_split (suc (length reads.rest)) (omega arith))) (λ l. s)
 lines_stand begin len bytes (Err fault) s = tt
 
 -- ---- all steps

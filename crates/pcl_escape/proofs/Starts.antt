@@ -166,8 +166,7 @@ sequence_step {at} (byte ∷ rest) =
       | inl n ↦ rw (named_again (operation_of (One byte)) n)
           (whole_piece (two_character byte) rest (Some (bare_command at byte)) (t, n) (omega arith) refl)
       | inr n ↦ rw (unknown_again rest (operation_of (One byte)) n) (wrong (unknown_two t n))
-    ])
-    (λ t. by_test (Outside at (27 ∷ byte ∷ rest)) (is_parameterized byte) (λ p. prefix_step rest p) (λ p. wrong (no_sequence t p)))
+    ]) (λ t. by_test (Outside at (27 ∷ byte ∷ rest)) (is_parameterized byte) (λ p. prefix_step rest p) (λ p. wrong (no_sequence t p)))
 
 -- a step outside sequences reads what the bytes begin with
 pub start_step : {at byte : ℕ} {rest : List ℕ} → Outside at (byte ∷ rest) (start_at at (byte ∷ rest))
@@ -179,8 +178,7 @@ start_step {at} {byte} {rest} =
       | inl n ↦ rw (named_again (operation_of (One byte)) n)
           (whole_piece (control byte) rest (Some (bare_command at byte)) (c, s, n) (omega arith) refl)
       | inr n ↦ rw (unknown_again rest (operation_of (One byte)) n) (wrong (unknown_control c s n))
-    ])
-    (λ c. text_run (rw (s, c, e) refl))))
+    ]) (λ c. text_run (rw (s, c, e) refl))))
 
 -- ---- from the parts to the step
 
@@ -214,8 +212,7 @@ pub text_again : {at byte : ℕ} {more rest : List ℕ} → IsRun (byte ∷ more
     → start_at at ((byte ∷ more) ++ rest) ≡ piece_reads (Some (text_command at (byte ∷ more))) rest
 text_again {at} {byte} {more} {rest} is =
     let reads : List ℕ × List ℕ → Result Reads Refusal = λ parts. piece_reads (Some (text_command at parts.0)) parts.1 in
-    at_text byte (more ++ rest) is.0.0
-    ∙ ap reads (front_again is_text (byte ∷ more) rest is.0 ((no_text rest).1 is.1))
+    at_text byte (more ++ rest) is.0.0 ∙ ap reads (front_again is_text (byte ∷ more) rest is.0 ((no_text rest).1 is.1))
 
 -- ---- the first parameter of a sequence
 
@@ -233,8 +230,7 @@ ungrouped_again : (at parameterized : ℕ) (bytes : List ℕ) → is_ungrouped p
     ≡ with_lines (at + 2) (length bytes) (parameter_at (ungrouped parameterized) at bytes)
 unfolding prefix_at ungrouped_at parameter_at field_at
 ungrouped_again at parameterized [] p n = at_prefix at parameterized [] (grind (arith, nat_tests))
-ungrouped_again at parameterized (byte ∷ bytes) p n =
-    at_prefix at parameterized (byte ∷ bytes) (grind (arith, nat_tests)) ∙ rw (n, p) refl
+ungrouped_again at parameterized (byte ∷ bytes) p n = at_prefix at parameterized (byte ∷ bytes) (grind (arith, nat_tests)) ∙ rw (n, p) refl
 
 -- what stands inside a sequence is no universal exit, after which more is read
 no_lines : {prefix : Prefix} {at : ℕ} {bytes : List ℕ} {read : Result Reads Refusal} (begin len : ℕ)

@@ -70,8 +70,7 @@ checked_step {prefix} {at} field letter rest (Ok len) f l e =
     let nothing : len ≡ 0 = none_behind name letter (field_value field) (length rest) g e in
     let passes = rw nothing at (taken.again 0) in
     rw (nothing, ← parameter_joined field letter rest)
-    (is_inside (is_middle parameter rest (record { field = f; letter = grind (arith, nat_tests); checks = passes (omega arith) }))))
-    (λ g.
+    (is_inside (is_middle parameter rest (record { field = f; letter = grind (arith, nat_tests); checks = passes (omega arith) })))) (λ g.
     let last : is_last letter ≡ true = grind (arith, nat_tests) in
     let checks : PassesChecks prefix parameter (take len rest) = rw (length-take-le len rest taken.fits) (taken.again len (omega arith)) in
     let joined : parameter_bytes parameter ++ (take len rest ++ drop len rest) ≡ field_bytes field ++ letter ∷ rest =
@@ -169,9 +168,7 @@ inside_reads {prefix} {at} (is_middle parameter rest m) =
     let again = (checks_take (parameter_name prefix letter) letter (field_value parameter.field) m.checks).again (length rest) in
     rw (parameter_joined parameter.field letter, checks_behind prefix at parameter.field letter rest m.field (grind arith))
     (rw (again (omega arith), on) refl)
-inside_reads {at} (is_end parameter sent rest m) =
-    last_again at rest (record { field = m.field; letter = m.letter; checks = m.checks })
+inside_reads {at} (is_end parameter sent rest m) = last_again at rest (record { field = m.field; letter = m.letter; checks = m.checks })
 inside_reads {prefix} {at} (is_wrong (cut field f)) = simp append-nil at (field_behind prefix at field [] f tt)
 inside_reads {prefix} {at} (is_wrong (no_letter field byte rest f s l)) = field_behind prefix at field (byte ∷ rest) f s ∙ rw l refl
-inside_reads {prefix} {at} (is_wrong (check field letter rest kind f l e)) =
-    checks_behind prefix at field letter rest f l ∙ rw e refl
+inside_reads {prefix} {at} (is_wrong (check field letter rest kind f l e)) = checks_behind prefix at field letter rest f l ∙ rw e refl

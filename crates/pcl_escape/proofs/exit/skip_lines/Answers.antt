@@ -48,8 +48,7 @@ loop-line-preserved c =
     let place : c.args.place + (length c.args.bytes.now - length behind) ≡ at + (length rest - length behind) = omega arith in
     record {
       within = omega arith;
-      same = ap (λ k. lines_at k behind) place
-          ∙ sym (at_other_line at (cut_off (goal.at.loop-line-preserved c).After-front-1) other)
+      same = ap (λ k. lines_at k behind) place ∙ sym (at_other_line at (cut_off (goal.at.loop-line-preserved c).After-front-1) other)
           ∙ c.loop-line.invariant.same;
     }
 

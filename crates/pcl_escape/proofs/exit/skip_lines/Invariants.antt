@@ -6,8 +6,7 @@ use Rattle.pcl_escape.proofs.exit.skip_lines.Given as goal
 abbrev pub invariant-loop-line : goal.invariant-loop-line
 invariant-loop-line l = record {
   within : length l.rest ≤ length l.bytes;
-  same : lines_at
-      (l.place + (length l.bytes - length l.rest)) l.rest ≡ lines_at l.place l.bytes;
+  same : lines_at (l.place + (length l.bytes - length l.rest)) l.rest ≡ lines_at l.place l.bytes;
 }
 
 abbrev pub decreases-loop-line : goal.decreases-loop-line

@@ -12,8 +12,7 @@ checked : (c : After-parameter_name-name) → parameter_at c.args.prefix c.args.
     (parameter_checks c.parameter_name-name.result c.in-Some.field-0-0.now (field_value (spelled c.read_field.result.0))
     (length c.in-Some.after.now))
 unfolding parameter_at
-checked c =
-    rw (← c.read_field.ensures, c.in-Some.ensures.cases.0, ← c.if-not-is_letter.ensures, c.parameter_name-name.ensures) refl
+checked c = rw (← c.read_field.ensures, c.in-Some.ensures.cases.0, ← c.if-not-is_letter.ensures, c.parameter_name-name.ensures) refl
 
 pub returns-in_default : goal.returns-in_default
 returns-in_default c = rw (c.refused.ensures, c.name.ensures)

@@ -14,8 +14,7 @@ skip_lines-requires c =
 
 pub returns-in-Err : goal.returns-in-Err
 unfolding ungrouped_at
-returns-in-Err c =
-    rw (c.refused.ensures, c.in_ok-step.ensures, ap said_of c.in-Some.is, ← c.if-is_exit.ensures, c.in-Err.ensures) refl
+returns-in-Err c = rw (c.refused.ensures, c.in_ok-step.ensures, ap said_of c.in-Some.is, ← c.if-is_exit.ensures, c.in-Err.ensures) refl
 
 pub with_lines-requires : goal.with_lines-requires
 with_lines-requires c = lines_within _ c.in_ok-step.step.rest.now c.in-Ok.rest.now c.in-Ok.ensures
