@@ -1,11 +1,11 @@
 -- What stands at the front of data.
-use Rattle.std.proofs.Common.{◌≡◌, ℕ, ◌+◌, ◌-◌, ◌<◌, ◌≤◌, min, eqb, Bool, true, false, List, [], ◌∷◌, ◌++◌, length, get_or, take, drop, replicate, inl, inr, refl, sym, ap, ◌∙◌, append_assoc, arith}
+use Rattle.std.proofs.Common.{◌≡◌, ℕ, ◌+◌, ◌-◌, ◌<◌, ◌≤◌, min, eqb, Bool, true, false, List, [], ◌∷◌, ◌++◌, length, get_or, take, drop, replicate, refl, sym, ap, ◌∙◌, append_assoc, arith}
 use Rattle.std.proofs.lemmas.List.{append-nil, take_all, take-append-drop, length-append, length-take-le, length-drop, length-replicate, nil_from_length, take_more, drop_all, drop_min}
 use Rattle.std.specs.Prelude.{MatchBool}
-use Rattle.std.proofs.lemmas.Bool.{cases_lt, eqb-true, eqb-false}
+use Rattle.std.proofs.lemmas.Bool.{eqb-true, eqb-false}
 use Rattle.pcl_base.specs.declared.method.Method.{Method}
 use Rattle.pcl_rows.specs.Elements.{IsHead}
-use Rattle.pcl_rows.specs.Heads.{Head, Far, head_bytes, new_count, copies_of, offset_of}
+use Rattle.pcl_rows.specs.Heads.{Head, head_bytes, new_count, copies_of, offset_of}
 use Rattle.pcl_rows.specs.inner.Fronts.{Begins, Opens, IsWholeFront, IsCutFront}
 
 pub Begins-cons : (bytes front : List ℕ) (byte : ℕ) → 0 < length bytes → byte ≡ get_or bytes 0 0 → Begins (drop 1 bytes) front
@@ -27,34 +27,25 @@ Begins-after (x ∷ bytes) (byte ∷ front) b = cc (Begins-after bytes front (b.
 pub Begins-further : (bytes : List ℕ) (full last : ℕ) → full < length bytes → take full bytes ≡ replicate full 255
     → last ≡ get_or bytes full 0 → Begins bytes (replicate full 255 ++ last ∷ [])
 Begins-further bytes full last within all e =
-    let size : length (replicate full 255 ++ last ∷ []) ≡ full + 1 =
-    omega (arith, length-append {A = ℕ} (replicate full 255) (last ∷ []), length-replicate {A = ℕ} full 255) in
+    let size : length (replicate full 255 ++ last ∷ []) ≡ full + 1 = simp (length-append, length-replicate) in
     ([], rw (append-nil, size, take_more bytes full 0 within, all, e))
 
 -- bytes 255 alone
 pub Begins-full : (bytes : List ℕ) → bytes ≡ replicate (length bytes) 255 → Begins bytes (replicate (length bytes) 255 ++ 0 ∷ [])
 Begins-full bytes all =
     let size : length bytes ≤ length {A = ℕ} (replicate (length bytes) 255 ++ 0 ∷ []) =
-    omega (arith, length-append {A = ℕ} (replicate (length bytes) 255) (0 ∷ []), length-replicate {A = ℕ} (length bytes) 255) in
+    simp (length-append, length-replicate) (omega arith) in
     (0 ∷ [], cc (take_all _ bytes size, all))
 
 -- what a head says, where data begins with its bytes
 pub opens_with : {method : Method} {bytes : List ℕ} (h : Head) → IsHead method h → Begins bytes (head_bytes h)
     → Opens method bytes (length (head_bytes h)) (offset_of h) (new_count h) (copies_of h)
-opens_with h is begins = record {
-  head = h;
-  head_is = is;
-  len_is = refl;
-  offset_is = refl;
-  count_is = refl;
-  copies_is = refl;
-  begins = begins;
-}
+opens_with h is begins =
+    record { head = h; head_is = is; len_is = refl; offset_is = refl; count_is = refl; copies_is = refl; begins = begins }
 
 -- only a head of one byte has no new bytes
 head_without_new : (h : Head) → new_count h ≡ 0 → length (head_bytes h) ≤ 1
-head_without_new (Far more full last) e = absurd (omega arith)
-head_without_new h e = omega arith
+head_without_new h e = grind arith
 
 module _ (bytes : List ℕ) (h : Head) (room count : ℕ) (some : 0 < length bytes) (begins : Begins bytes (head_bytes h))
     (room-is : room ≡ length bytes - length (head_bytes h)) (count-is : count ≡ min (new_count h) room) where
@@ -66,14 +57,9 @@ module _ (bytes : List ℕ) (h : Head) (room count : ℕ) (some : 0 < length byt
 
   whole_front : count ≡ new_count h → IsWholeFront bytes h (take count behind) (drop count behind)
   whole_front all =
-      let long : length (head_bytes h) ≤ length bytes =
-      elim (cases_lt (length bytes) (length (head_bytes h))) [
-        | inl short ↦ omega (arith, head_without_new h (omega arith))
-        | inr long ↦ long
-      ] in
+      let long : length (head_bytes h) ≤ length bytes = grind (arith, head_without_new h) in
       let joined = Begins-after bytes (head_bytes h) begins in
-      let none : begins.0 ≡ [] =
-      nil_from_length begins.0
+      let none : begins.0 ≡ [] = nil_from_length begins.0
       (omega (arith, ap length joined, length-append bytes begins.0, length-append (head_bytes h) behind, size)) in
       record {
         complete = length-take-le count behind (omega (arith, size)) ∙ all;
@@ -88,11 +74,7 @@ module _ (bytes : List ℕ) (h : Head) (room count : ℕ) (some : 0 < length byt
         padding = behind ++ pad;
         missing = begins.0 ++ pad;
         complete = omega (arith, length-append behind pad, size);
-        lacking = cc (
-          Begins-after bytes (head_bytes h) begins,
-          append_assoc bytes begins.0 pad,
-          append_assoc (head_bytes h) behind pad,
-        );
+        lacking = cc (Begins-after bytes (head_bytes h) begins, append_assoc bytes begins.0 pad, append_assoc (head_bytes h) behind pad);
         lacks = omega (arith, length-append begins.0 pad);
         new_is = take_all count behind (omega (arith, size));
         rest_is = drop_all count behind (omega (arith, size));

@@ -6,7 +6,7 @@ use Rattle.std.proofs.lemmas.List.{take-append-le, take_at, drop_at, take_all, d
 use Rattle.std.proofs.Math.Seq.{drop-nil}
 use Rattle.pcl_base.specs.declared.method.Method.{Method}
 use Rattle.pcl_rows.specs.Heads.{Head, Far, method_of, IsInRange, head_bytes, new_count, offset_of}
-use Rattle.pcl_rows.specs.Elements.{Element, IsElement, element_bytes, given_by}
+use Rattle.pcl_rows.specs.Elements.{Element, IsElement, element_bytes, given_by, IsHead}
 use Rattle.pcl_rows.specs.Rows.{base, after_element, IsCutIntoElements, treated, Decodes}
 use Rattle.pcl_rows.specs.Decoding.{Front, further, treated_by, decoded}
 use Rattle.pcl_rows.proofs.Readings.{after_none}
@@ -20,9 +20,8 @@ with_head : (d : Element) {shown : List ℕ} (missing : List ℕ) → shown ++ m
     → (tail : List ℕ) × (shown ≡ head_bytes d.head ++ tail)
 with_head d {shown} missing lacking long =
     let n : ℕ = length (head_bytes d.head) in
-    let front : take n shown ≡ head_bytes d.head =
-    rw (← take-append-le n shown missing long, lacking) (take_at (head_bytes d.head) d.bytes n refl) in
-    (drop n shown, cc (front, take-append-drop n shown))
+    let front = take_at (head_bytes d.head) d.bytes n refl in
+    (drop n shown, cc (take-append-le n shown missing long, front, take-append-drop n shown))
 
 -- an offset that data ends within
 further_cut : (full last offset count : ℕ) (bytes missing padding : List ℕ) → length bytes ≤ full
@@ -31,8 +30,7 @@ further_cut : (full last offset count : ℕ) (bytes missing padding : List ℕ) 
 further_cut full last offset count [] missing padding short e = (refl, refl)
 further_cut zero last offset count (byte ∷ bytes) missing padding short e = absurd (omega arith)
 further_cut (suc full) last offset count (byte ∷ bytes) missing padding short e =
-    let is : byte ≡ 255 = cc in
-    rw is (further_cut full last (offset + 255) count bytes missing padding (omega arith) cc)
+    let is : byte ≡ 255 = cc in rw is (further_cut full last (offset + 255) count bytes missing padding (omega arith) cc)
 
 -- data that ends within a head gives nothing
 front_cut : (head : Head) (bytes missing padding : List ℕ) → length bytes < length (head_bytes head)
@@ -42,8 +40,7 @@ front_cut head [] missing padding short e = (refl, refl)
 front_cut (Far count full last) (byte ∷ bytes) missing padding short e =
     let is : byte ≡ 32 * count + 31 = cc in
     let low : (32 * count + 31) % 32 ≡ 31 = omega arith in
-    let within : length bytes ≤ full =
-    omega (arith, length-append {A = ℕ} (replicate full 255) (last ∷ []), length-replicate {A = ℕ} full 255) in
+    let within : length bytes ≤ full = omega (arith, length-append {A = ℕ}, length-replicate {A = ℕ}) in
     rw (is, low) (further_cut full last 31 _ bytes missing padding within cc)
 front_cut head (byte ∷ bytes) missing padding short e = absurd (omega arith)
 
@@ -51,8 +48,7 @@ front_cut head (byte ∷ bytes) missing padding short e = absurd (omega arith)
 
 treated_none : (n : ℕ) (method : Method) (old : List ℕ) → treated_by n method [] old ≡ old
 unfolding treated_by
-treated_none zero method old = refl
-treated_none (suc n) method old = refl
+treated_none n method old = grind arith
 
 treated_step : (n : ℕ) (method : Method) (bytes old : List ℕ) {front : Front} → first_of method bytes ≡ front
     → treated_by (suc n) method bytes old ≡ take front.offset old
@@ -86,23 +82,17 @@ treated_cut (suc n) {cut} shown missing old is e some fits =
           ∙ sym (after_none h old (drop_all (length (head_bytes h)) shown (omega arith)))
       | inr long ↦
           let t = with_head cut missing e long in
-          treated_tail n h t.0 old is.head_is.in_range t.1 (omega (
-            arith,
-            is.complete,
-            ap length e,
-            ap length t.1,
-            length-append shown missing,
-            length-append (head_bytes h) t.0,
-            length-append (head_bytes h) cut.bytes,
-          ))
+          let whole = simp length-append at (ap length e) in
+          treated_tail n h t.0 old is.head_is.in_range t.1
+          (omega (arith, is.complete, ap length t.1, length-append (head_bytes h) t.0))
     ]
 
 pub treated_is : (n : ℕ) (whole : List Element) {method : Method} {bytes : List ℕ} {cut : Element} {shown : List ℕ} (old : List ℕ)
     → IsCutIntoElements method bytes whole cut shown → length bytes ≤ n
     → treated_by n method bytes old ≡ treated whole cut shown old
 treated_is n [] {cut = cut} {shown = shown} old r fits =
-    let is : IsElement (method_of cut.head) cut =
-    record { head_is = record { method_is = refl; in_range = r.element.head_is.in_range }; complete = r.element.complete } in
+    let head : IsHead (method_of cut.head) cut.head = record { method_is = refl; in_range = r.element.head_is.in_range } in
+    let is : IsElement (method_of cut.head) cut = record { head_is = head; complete = r.element.complete } in
     rw (r.joined, ← r.element.head_is.method_is)
     (treated_cut n shown r.lacking.0 old is r.lacking.1 r.lacking.2 (omega (arith, ap length r.joined)))
 treated_is zero (e ∷ es) {shown = shown} old r fits =
@@ -121,5 +111,4 @@ treated_is (suc n) (e ∷ es) {method} {bytes} {cut} {shown} old r fits =
 pub decoded_is : (method : Method) (seed bytes row : List ℕ) → Decodes method seed bytes row → row ≡ decoded method seed bytes
 unfolding decoded
 decoded_is method seed bytes row d =
-    d.4 ∙ ap (take (length (base method seed)))
-    (sym (treated_is (length bytes) d.0 (base method seed) d.3 (omega arith)))
+    d.4 ∙ ap (take (length (base method seed))) (sym (treated_is (length bytes) d.0 (base method seed) d.3 (omega arith)))

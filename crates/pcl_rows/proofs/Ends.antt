@@ -2,11 +2,11 @@
 use Rattle.std.proofs.Common.{◌≡◌, ℕ, zero, suc, ◌+◌, ◌-◌, ◌*◌, ◌/◌, ◌%◌, ◌<◌, ◌≤◌, Bool, true, false, List, [], ◌∷◌, ◌++◌, length, take, drop, get_or, replicate, refl, sym, ap, inl, inr, append_assoc, arith}
 use Rattle.std.proofs.lemmas.Bool.{cases_lt, cases_order}
 use Rattle.std.proofs.lemmas.List.{get_or-drop, take-append-drop, take_at, drop_at, take_all, drop_all, length-append, length-drop, length-replicate, length-take-le}
-use Rattle.std.specs.Prelude.{MatchBool, ◌⊎◌}
+use Rattle.std.specs.Prelude.{◌⊎◌}
 use Rattle.pcl_base.specs.declared.method.Method.{Method}
 use Rattle.pcl_base.specs.declared.method.Method.TheVariants.{Plain, Runs, Packed, Delta}
 use Rattle.pcl_rows.specs.Heads.{Head, Count, Literal, Skipped, Repeat, Near, Far, head_bytes, new_count, offset_of}
-use Rattle.pcl_rows.specs.inner.Fronts.{IsWholeFront, IsCutFront, IsFront, IsPastSkipped}
+use Rattle.pcl_rows.specs.inner.Fronts.{IsCutFront, IsFront, IsPastSkipped}
 use Rattle.pcl_rows.specs.Elements.{IsHead, given_by}
 use Rattle.pcl_rows.specs.Rows.{RowFrom}
 use Rattle.pcl_rows.proofs.Readings.{Fills, Fills-none, Fills-cut, Fills-cons, Fills-plain, IsTreatedTo}
@@ -20,21 +20,19 @@ pub dropped : (n : ℕ) (bytes : List ℕ) → AreBytes bytes → AreBytes (drop
 dropped n bytes small i = rw (get_or-drop n bytes i 0) (small (n + i))
 
 after_prefix : (before bytes : List ℕ) → AreBytes (before ++ bytes) → AreBytes bytes
-after_prefix before bytes small =
-    rw (← drop_at before bytes (length before) refl) (dropped (length before) (before ++ bytes) small)
+after_prefix before bytes small = rw (← drop_at before bytes (length before) refl) (dropped (length before) (before ++ bytes) small)
 
-after_front : (bytes : List ℕ) (h : Head) (new rest : List ℕ) (whole : Bool)
-    → MatchBool whole (IsWholeFront bytes h new rest) (IsCutFront bytes h new rest) → AreBytes bytes → AreBytes rest
-after_front bytes h new rest true f small = after_prefix (head_bytes h ++ new) rest (rw (← f.joined) small)
-after_front bytes h new rest false f small = rw f.rest_is (λ i. omega arith)
+after_front : {method : Method} {bytes : List ℕ} {offset copies : ℕ} {new rest : List ℕ} (whole : Bool)
+    → IsFront method bytes offset copies new rest whole → AreBytes bytes → AreBytes rest
+after_front {new = new} {rest} true f small = after_prefix (head_bytes f.head ++ new) rest (rw (← f.parts.joined) small)
+after_front false f small = rw f.parts.rest_is (λ i. omega arith)
 
 pub skipped_bytes : {method : Method} {bytes : List ℕ} (left : List ℕ) → IsPastSkipped method bytes left → AreBytes bytes → AreBytes left
 skipped_bytes left (count, joined, packed) small = after_prefix (replicate count 128) left (rw (← joined) small)
 
 pub rest_bytes : {method : Method} {bytes : List ℕ} {offset copies : ℕ} {new rest : List ℕ} {whole : Bool} (left : List ℕ)
     → IsFront method bytes offset copies new rest whole → IsPastSkipped method rest left → AreBytes bytes → AreBytes left
-rest_bytes {bytes} {new = new} {rest = rest} {whole = whole} left front past small =
-    skipped_bytes left past (after_front bytes front.head new rest whole front.parts small)
+rest_bytes {whole = whole} left front past small = skipped_bytes left past (after_front whole front small)
 
 -- ---- readings
 
@@ -53,28 +51,22 @@ headed most h tail old readings is few small =
     elim (cases_lt (length tail) n) [
       | inl cut ↦
           let missing : List ℕ = replicate (n - length tail) 0 in
-          let count : length missing ≡ n - length tail = length-replicate {A = ℕ} (n - length tail) 0 in (
-            _,
-            Fills-cut {new = tail} {rest = []} old is (record {
-              padding = tail ++ missing;
-              missing = missing;
-              complete = omega (arith, length-append tail missing);
-              lacking = append_assoc (head_bytes h) tail missing;
-              lacks = omega arith;
-              new_is = sym (drop_at (head_bytes h) tail (length (head_bytes h)) refl);
-              rest_is = refl;
-            }),
-          )
+          let count : length missing ≡ n - length tail = length-replicate {A = ℕ} (n - length tail) 0 in
+          let cut : IsCutFront (head_bytes h ++ tail) h tail [] = record {
+            padding = tail ++ missing;
+            missing = missing;
+            complete = omega (arith, length-append tail missing);
+            lacking = append_assoc (head_bytes h) tail missing;
+            lacks = omega arith;
+            new_is = sym (drop_at (head_bytes h) tail (length (head_bytes h)) refl);
+            rest_is = refl;
+          } in
+          (_, Fills-cut old is cut)
       | inr whole ↦
           let new : List ℕ = take n tail in
           let rest = readings (drop n tail) (drop (offset_of h + length (given_by h new)) old)
-          (omega (arith, length-drop n tail)) (dropped n tail small) in (
-            _,
-            Fills-cons old is (record {
-              complete = length-take-le n tail whole;
-              joined = rw (append_assoc, take-append-drop);
-            }) rest.1,
-          )
+          (omega (arith, length-drop n tail)) (dropped n tail small) in
+          (_, Fills-cons old is (record { complete = length-take-le n tail whole; joined = rw (append_assoc, take-append-drop) }) rest.1)
     ]
 
 -- bytes 255 to the end, or up to one that is less
@@ -99,28 +91,24 @@ far_reading most c bytes old readings byte is few small =
       | inl all ↦
           let padding : List ℕ = replicate (c / 32 + 1) 0 in
           let full : List ℕ = replicate all.0 255 in
-          let size : length (full ++ 0 ∷ []) ≡ length bytes + 1 = rw (all.1, length-append) in (
-            _,
-            Fills-cut {h = Far (c / 32) all.0 0} {new = []} {rest = []} old
-                (record { method_is = refl; in_range = (omega arith, omega arith) })
-                (record {
-                  padding = padding;
-                  missing = 0 ∷ padding;
-                  complete = length-replicate {A = ℕ} (c / 32 + 1) 0;
-                  lacking = cc (is, all.1, append_assoc full (0 ∷ []) padding);
-                  lacks = omega arith;
-                  new_is = sym (drop_all (suc (length (full ++ 0 ∷ []))) (c ∷ bytes) (omega arith));
-                  rest_is = refl;
-                }),
-          )
+          let size : length (full ++ 0 ∷ []) ≡ length bytes + 1 = rw (all.1, length-append) in
+          let cut : IsCutFront (c ∷ bytes) (Far (c / 32) all.0 0) [] [] = record {
+            padding = padding;
+            missing = 0 ∷ padding;
+            complete = length-replicate {A = ℕ} (c / 32 + 1) 0;
+            lacking = cc (is, all.1, append_assoc full (0 ∷ []) padding);
+            lacks = omega arith;
+            new_is = sym (drop_all (suc (length (full ++ 0 ∷ []))) (c ∷ bytes) (omega arith));
+            rest_is = refl;
+          } in
+          (_, Fills-cut old (record { method_is = refl; in_range = (omega arith, omega arith) }) cut)
       | inr up ↦
           let full : List ℕ = replicate up.0 255 in
           let head : Head = Far (c / 32) up.0 up.1 in
-          let reading = headed most head up.2 old readings (record { method_is = refl; in_range = (omega arith, up.3) })
-          (omega (arith, ap length up.4, length-append full (up.1 ∷ up.2)))
-          (dropped 1 (up.1 ∷ up.2) (after_prefix full (up.1 ∷ up.2) (rw (← up.4) small))) in
           let same : c ∷ bytes ≡ head_bytes head ++ up.2 = cc (is, up.4, append_assoc full (up.1 ∷ []) up.2) in
-          rw same reading
+          rw same (headed most head up.2 old readings (record { method_is = refl; in_range = (omega arith, up.3) })
+          (omega (arith, ap length up.4, length-append full (up.1 ∷ up.2)))
+          (dropped 1 (up.1 ∷ up.2) (after_prefix full (up.1 ∷ up.2) (rw (← up.4) small))))
     ]
 
 pub has_readings : (method : Method) (most : ℕ) → HasReadings method most
@@ -145,10 +133,8 @@ has_readings Delta (suc most) (c ∷ bytes) old few small =
     let behind = dropped 1 (c ∷ bytes) small in
     elim (cases_lt (c % 32) 31) [
       | inl near ↦
-          let is : 32 * (c / 32) + c % 32 ≡ c = omega arith in
-          let reading = headed most (Near (c / 32) (c % 32)) bytes old readings
-          (record { method_is = refl; in_range = (omega (arith, small 0), near) }) (omega arith) behind in
-          rw is at reading
+          let is : 32 * (c / 32) + c % 32 ≡ c = omega arith in rw is at (headed most (Near (c / 32) (c % 32)) bytes old readings
+          (record { method_is = refl; in_range = (omega (arith, small 0), near) }) (omega arith) behind)
       | inr far ↦ far_reading most c bytes old readings (small 0) (omega arith) (omega arith) behind
     ]
 

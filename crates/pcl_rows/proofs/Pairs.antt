@@ -26,15 +26,7 @@ lone_front {count} small = record {
   head_is = record { method_is = refl; in_range = small };
   offset_is = refl;
   copies_is = refl;
-  parts = record {
-    padding = 0 ∷ [];
-    missing = 0 ∷ [];
-    complete = refl;
-    lacking = refl;
-    lacks = lit< tt;
-    new_is = refl;
-    rest_is = refl;
-  };
+  parts = record { padding = 0 ∷ []; missing = 0 ∷ []; complete = refl; lacking = refl; lacks = lit< tt; new_is = refl; rest_is = refl };
 }
 
 -- one more pair
@@ -59,8 +51,7 @@ rest_all : {bytes old : List ℕ} (rest : List ℕ) {row : List ℕ} {place : �
     → length row ≡ length old → place ≤ length row → IsTreatedTo Runs bytes old rest row place → RowFrom Runs bytes old row
 rest_all [] {place = place} few small size within so_far = treated_all place size so_far
 rest_all (count ∷ []) {row} {place} few small size within so_far =
-    treated_all place size
-    (treated_more row {start = place} size within (omega arith) (lone_front (small (lit< tt)))
+    treated_all place size (treated_more row {start = place} size within (omega arith) (lone_front (small (lit< tt)))
     (sym (overlaid-nil row place within)) (omega arith) so_far)
 rest_all (count ∷ byte ∷ rest) few small size within so_far = absurd (omega arith)
 

@@ -1,5 +1,5 @@
 -- What a reading of data makes of a row, an element at a time.
-use Rattle.std.proofs.Common.{◌≡◌, ℕ, zero, suc, ◌+◌, ◌-◌, ◌*◌, ◌<◌, ◌≤◌, ◌↔◌, min, Bool, true, false, List, [], ◌∷◌, ◌++◌, length, take, drop, replicate, refl, sym, ap, ◌∙◌, append_assoc, add-zero, arith}
+use Rattle.std.proofs.Common.{◌≡◌, ℕ, zero, suc, ◌+◌, ◌-◌, ◌*◌, ◌<◌, ◌≤◌, ◌↔◌, min, Bool, true, false, List, [], ◌∷◌, ◌++◌, length, take, drop, replicate, refl, sym, ap, ◌∙◌, append_assoc, add-zero, arith, zero-add}
 use Rattle.std.specs.Prelude.{MatchBool}
 use Rattle.std.specs.List.{flat_map}
 use Rattle.std.proofs.Math.Seq.{take-add, drop-nil}
@@ -9,11 +9,12 @@ use Rattle.pcl_base.specs.declared.method.Method.{Method}
 use Rattle.pcl_base.specs.declared.method.Method.TheVariants.{Plain, Runs, Packed, Delta}
 use Rattle.pcl_rows.specs.Heads.{Head, Itself, Count, Skipped, Near, head_bytes, copies_of, offset_of}
 use Rattle.pcl_rows.specs.Elements.{Element, IsHead, IsElement, AreElements, element_bytes, given_by, reach}
-use Rattle.pcl_rows.specs.Decoding.{Front}
 use Rattle.pcl_rows.specs.Rows.{after_element, base, IsCutIntoElements, treated, RowFrom, Decodes, IsWhole}
 use Rattle.pcl_rows.specs.inner.Fronts.{IsWholeFront, IsCutFront, IsFront, IsPastSkipped, overlaid}
 use Rattle.pcl_rows.proofs.Overlays.{drop-overlaid, take-overlaid}
 use Rattle.pcl_rows.proofs.Spellings.{element_at, behind_shorter, spelling_has_byte, cut_is_not_whole}
+use Rattle.std.proofs.Math.Numerals.{one-add}
+use Rattle.pcl_rows.specs.Decoding.{Front}
 
 -- what data makes of untreated bytes, before what lies past the row is dropped
 pub record Fills (method : Method) (bytes old row : List ℕ) : Type 0 where
@@ -47,12 +48,7 @@ Fills-none method old =
       whole = [];
       cut = e.0;
       shown = [];
-      parts = record {
-        elements = tt;
-        joined = refl;
-        element = e.1;
-        lacking = (element_bytes e.0, refl, spelling_has_byte method e.0 e.1);
-      };
+      parts = record { elements = tt; joined = refl; element = e.1; lacking = (element_bytes e.0, refl, spelling_has_byte method e.0 e.1) };
       row_is = sym (after_none e.0.head old (drop-nil (length (head_bytes e.0.head))));
     }
 
@@ -110,9 +106,7 @@ Fills-parts new old false is front f =
 pub Fills-plain : (bytes old : List ℕ) → Fills Plain bytes old (bytes ++ drop (length bytes) old)
 Fills-plain [] old = Fills-none Plain old
 Fills-plain (byte ∷ bytes) old =
-    let count : 1 + length bytes ≡ suc (length bytes) = omega arith in
-    let behind = rw count at (drop-drop (length bytes) 1 old) in
-    rw (← behind)
+    rw (← (rw one-add at (drop-drop (length bytes) 1 old)))
     (Fills-cons {h = Itself} {new = byte ∷ []} old (record { method_is = refl; in_range = tt }) (record { complete = refl; joined = refl })
     (Fills-plain bytes (drop 1 old)))
 
@@ -122,18 +116,13 @@ pub plain_elements : (bytes : List ℕ) → (es : List Element) × AreElements P
 plain_elements [] = ([], tt, refl, refl)
 plain_elements (byte ∷ bytes) =
     let element : Element = record { head = Itself; bytes = byte ∷ [] } in
-    let rest = plain_elements bytes in (
-      element ∷ rest.0,
-      (record { head_is = record { method_is = refl; in_range = tt }; complete = refl }, rest.1),
-      cc,
-      omega (arith, rest.3),
-    )
+    let rest = plain_elements bytes in
+    let is : IsElement Plain element = record { head_is = record { method_is = refl; in_range = tt }; complete = refl } in
+    (element ∷ rest.0, (is, rest.1), cc, omega (arith, rest.3))
 
 pub row_of_plain : (bytes old : List ℕ) → RowFrom Plain bytes old (overlaid old 0 bytes)
 row_of_plain bytes old =
-    let f = Fills-plain bytes old in
-    let begin : 0 + length bytes ≡ length bytes = omega arith in
-    (f.whole, f.cut, f.shown, f.parts, rw (begin, f.row_is))
+    let f = Fills-plain bytes old in (f.whole, f.cut, f.shown, f.parts, rw (zero-add, f.row_is))
 
 -- the bytes of a row that was treated up to a place, where all the data makes the rest of it
 abbrev pub IsTreatedTo : Method → List ℕ → List ℕ → List ℕ → List ℕ → ℕ → Type 0
@@ -158,24 +147,13 @@ treated_more row {place} {start} {new = new} {whole = whole} {row' = row'} {plac
     let inside : start ≤ length row = omega arith in
     let begin : start ≡ min (place + offset_of h) (length row) = omega (arith, front.offset_is) in
     let behind : drop place' row' ≡ drop (offset_of h + length g) (drop place row) =
-    rw (
-      laid,
-      end,
-      drop-overlaid row g inside,
-      ← drop-drop (length g) start row,
-      begin,
-      drop_min,
-      ← drop-drop (offset_of h) place row,
-      ← drop-drop (length g) (offset_of h) (drop place row),
-    ) in
+    rw (laid, end, drop-overlaid row g inside, ← drop-drop (length g) start row, begin, drop_min)
+    (rw (← drop-drop (offset_of h) place row, ← drop-drop (length g) (offset_of h) (drop place row))) in
     let before : take place row ++ with_front h new (drop place row) made ≡ take start row ++ (g ++ made) =
     rw (begin, take_min, take-add, append_assoc) in
     let r = so_far (with_front h new (drop place row) made)
-    (Fills-parts new (drop place row) whole front.head_is front.parts (rw behind at f)) in (
-      r.0,
-      r.1,
-      cc (r.2, take-overlaid row g made inside),
-    )
+    (Fills-parts new (drop place row) whole front.head_is front.parts (rw behind at f)) in
+    (r.0, r.1, cc (r.2, take-overlaid row g made inside))
 
 -- controls that give nothing stand before data that makes the row
 Fills-skipped : {method : Method} (count : ℕ) {rest old row : List ℕ} → (0 < count → method ≡ Packed) → Fills method rest old row
@@ -216,12 +194,9 @@ front_has_byte {h = h} {new} {rest} is front =
 pub whole_cons : {method : Method} {bytes : List ℕ} {h : Head} {new rest : List ℕ} {room : ℕ} → IsHead method h
     → IsWholeFront bytes h new rest → offset_of h + length (given_by h new) ≤ room
     → IsWhole method rest (room - (offset_of h + length (given_by h new))) → IsWhole method bytes room
-whole_cons {h = h} {new} is front fits (es, are, joined, within) = (
-  record { head = h; bytes = new } ∷ es,
-  (record { head_is = is; complete = front.complete }, are),
-  rw (front.joined, joined),
-  omega arith,
-)
+whole_cons {method} {h = h} {new} is front fits (es, are, joined, within) =
+    let first : IsElement method (record { head = h; bytes = new }) = record { head_is = is; complete = front.complete } in
+    (record { head = h; bytes = new } ∷ es, (first, are), rw (front.joined, joined), omega arith)
 
 pub whole_uncons : {method : Method} {bytes : List ℕ} {h : Head} {new rest : List ℕ} {room : ℕ} → IsHead method h
     → IsWholeFront bytes h new rest → IsWhole method bytes room
@@ -245,10 +220,7 @@ plain_fits (byte ∷ bytes) w =
 
 pub plain_is_whole : (bytes : List ℕ) (room : ℕ) → (length bytes ≤ room) ↔ IsWhole Plain bytes room
 plain_is_whole bytes room =
-    let es = plain_elements bytes in (
-      (λ fits. (es.0, es.1, es.2, omega (arith, es.3))),
-      plain_fits bytes,
-    )
+    let es = plain_elements bytes in ((λ fits. (es.0, es.1, es.2, omega (arith, es.3))), plain_fits bytes)
 
 -- ---- what a loop over the elements uses
 
@@ -269,8 +241,8 @@ pub whole_more : {method : Method} {all bytes : List ℕ} {limit room offset cop
     → (IsWhole method all limit ↔ IsWhole method bytes room) → IsWhole method all limit ↔ IsWhole method rest (room - stopped)
 whole_more front stop-is fits so_far =
     let stop = stop_of_front front stop-is in (
-      (λ w. rw stop (whole_uncons front.head_is front.parts (so_far.0 w)).1),
-      (λ w. so_far.1 (whole_cons front.head_is front.parts (omega arith) (rw stop at w))),
+      λ w. rw stop (whole_uncons front.head_is front.parts (so_far.0 w)).1,
+      λ w. so_far.1 (whole_cons front.head_is front.parts (omega arith) (rw stop at w)),
     )
 
 -- one that doesn't

@@ -16,9 +16,7 @@ first_of method (byte ∷ bytes) = front_of method byte bytes
 -- an offset that goes on
 further_at : (full offset count : ℕ) {last : ℕ} (behind : List ℕ) → last < 255
     → further offset count (replicate full 255 ++ last ∷ behind) ≡ literal (offset + 255 * full + last) count behind
-further_at zero offset count {last} behind lt =
-    let other : (last == 255) ≡ false = grind (arith, nat_tests) in
-    rw (other, add-zero)
+further_at zero offset count {last} behind lt = let other : (last == 255) ≡ false = grind (arith, nat_tests) in rw (other, add-zero)
 further_at (suc full) offset count {last} behind lt =
     let place : (offset + 255) + 255 * full + last ≡ offset + 255 * suc full + last = omega arith in
     further_at full (offset + 255) count behind lt ∙ ap (λ (n : ℕ). literal n count behind) place
@@ -61,8 +59,7 @@ element_at {e = e} more is joined =
     ∙ rw (take_at e.bytes more (new_count e.head) is.complete, drop_at e.bytes more (new_count e.head) is.complete))
 
 head_needs_byte : (h : Head) → 0 < length (head_bytes h) + new_count h
-head_needs_byte (Far more full last) = omega arith
-head_needs_byte h = omega arith
+head_needs_byte h = grind arith
 
 -- an element has a byte
 pub spelling_has_byte : (method : Method) (e : Element) → IsElement method e → 0 < length (element_bytes e)

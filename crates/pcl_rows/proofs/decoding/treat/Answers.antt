@@ -16,8 +16,7 @@ pub loop-rest-preserved : goal.loop-rest-preserved
 loop-rest-preserved c = record {
   within = omega (arith, c.put-place.ensures.end, c.put-place.auto.row);
   treated = treated_skipped c.past_skipped-rest-in-loop-rest.result.now c.put-place.new.row c.put-place.result
-      c.past_skipped-rest-in-loop-rest.ensures
-      (treated_more c.loop-rest.row
+      c.past_skipped-rest-in-loop-rest.ensures (treated_more c.loop-rest.row
       c.loop-rest.auto.row c.loop-rest.invariant.within c.skip-place.ensures c.read-front.ensures.front c.put-place.ensures.row
       c.put-place.ensures.end c.loop-rest.invariant.treated);
   bytes = rest_bytes c.past_skipped-rest-in-loop-rest.result.now c.read-front.ensures.front c.past_skipped-rest-in-loop-rest.ensures
@@ -28,12 +27,9 @@ pub loop-rest-smaller : goal.loop-rest-smaller
 loop-rest-smaller c =
     let some : 0 < length c.loop-rest.rest.now =
     omega (arith, eqb-false (length c.loop-rest.rest.now) 0 (sym c.is_empty.ensures ∙ c.loop-rest-test.true)) in
-    omega (
-      arith,
-      rest_shorter some c.read-front.ensures.front,
-      past_skipped_length c.read-front.result.rest.now c.past_skipped-rest-in-loop-rest.result.now
-          c.past_skipped-rest-in-loop-rest.ensures,
-    )
+    let left = c.past_skipped-rest-in-loop-rest in
+    let shorter = past_skipped_length c.read-front.result.rest.now left.result.now left.ensures in
+    omega (arith, rest_shorter some c.read-front.ensures.front)
 
 pub returns-then-place-row : goal.returns-then-place-row
 returns-then-place-row c =

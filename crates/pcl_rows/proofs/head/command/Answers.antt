@@ -19,12 +19,7 @@ returns-clause-opens c =
     record {
       head = Far more further.full further.last;
       head_is = record { method_is = refl; in_range = (omega (arith, c.type_inv.bytes 0), further.last_in_range) };
-      len_is = omega (
-        arith,
-        further.len_is,
-        length-append {A = ℕ} (replicate further.full 255) (further.last ∷ []),
-        length-replicate {A = ℕ} further.full 255,
-      );
+      len_is = omega (arith, further.len_is, length-append {A = ℕ}, length-replicate {A = ℕ});
       offset_is = omega (arith, further.sum_is);
       count_is = refl;
       copies_is = refl;

@@ -15,6 +15,5 @@ returns-in-0-to-127-clause-opens c =
 
 pub returns-in_default-clause-opens : goal.returns-in_default-clause-opens
 returns-in_default-clause-opens c =
-    opens_with (Repeat c.from-control.result)
-    (record { method_is = refl; in_range = (omega arith, omega (arith, c.type_inv.bytes 0)) })
+    opens_with (Repeat c.from-control.result) (record { method_is = refl; in_range = (omega arith, omega (arith, c.type_inv.bytes 0)) })
     (Begins-one c.args.bytes.now c.from-control.result c.requires c.from-control.ensures)

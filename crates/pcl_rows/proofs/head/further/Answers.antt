@@ -13,8 +13,7 @@ returns-clause-further c =
       last_in_range = omega arith;
       sum_is = omega arith;
       len_is = refl;
-      begins = Begins-full bytes
-          (cc (take_all c.loop-full.full bytes c.loop-full-test.false, c.loop-full.invariant, end));
+      begins = Begins-full bytes (cc (take_all c.loop-full.full bytes c.loop-full-test.false, c.loop-full.invariant, end));
     }
 
 pub returns-then-byte-lt255-clause-further : goal.returns-then-byte-lt255-clause-further

@@ -16,8 +16,7 @@ returns-then-not-front c =
     let some : 0 < length rest = omega (arith, eqb-false (length rest) 0 (sym c.is_empty.ensures ∙ c.loop-rest-test.true)) in
     let never : IsWhole c.args.method rest c.loop-rest.room → ⊥ =
     elim c.then-not-front.branch [
-      | then-not-front-via-then-not-front w ↦
-          λ h. whole_cut some (rw w.if-not-front.true at c.read-front.ensures.front) h
+      | then-not-front-via-then-not-front w ↦ λ h. whole_cut some (rw w.if-not-front.true at c.read-front.ensures.front) h
       | then-not-front-via-else-not-front+then-room-stop w ↦
           λ h. whole_past (rw w.if-not-front.false at c.read-front.ensures.front) refl w.if-room-stop.true h
     ] in
