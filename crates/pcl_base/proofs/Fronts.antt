@@ -35,7 +35,7 @@ front_by : (test : ℕ → Bool) (byte : ℕ) (bytes : List ℕ) (passes : Bool)
     → IsFront test (byte ∷ bytes) (front_at test (byte ∷ bytes))
 front_by test byte bytes true e h =
     rw (front_yes test bytes e) (record { joined = ap (λ bs. byte ∷ bs) h.joined; pass = (e, h.pass); stops = h.stops })
-front_by test byte bytes false e h = rw (front_no test e) (record { joined = refl; pass = tt; stops = e })
+front_by test byte bytes false e h = rw e (record { joined = refl; pass = tt; stops = e })
 
 -- the front that is taken has all bytes that pass
 pub front_split : (test : ℕ → Bool) (bytes : List ℕ) → IsFront test bytes (front_at test bytes)
