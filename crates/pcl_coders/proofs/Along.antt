@@ -30,17 +30,9 @@ use Rattle.pcl_coders.proofs.Places.{runs_shorten, packed_shorten, falls}
 pub right_from_drop : {method : Method} {old row table : List ℕ} {place : ℕ} → place ≤ length row → AreRightFrom method old row table 0
     → AreRightFrom method (drop place old) (drop place row) (drop place table) 0
 right_from_drop {old} {row} {table} {place} within right q low high =
-    let is = right (place + q) (omega arith) (omega (arith, length-drop place row)) in
-    grind (
-      arith,
-      is.steps,
-      is.ends,
-      is.attained,
-      drop-drop q place old,
-      drop-drop q place row,
-      get_or-drop place table,
-      length-drop place row,
-    )
+    let long = length-drop place row in
+    let is = right (place + q) (omega arith) (omega arith) in
+    grind (arith, is.steps, is.ends, is.attained, drop-drop q place old, drop-drop q place row, get_or-drop place table)
 
 -- a shape whose bytes and number are the first number is a best one
 pub along_choice : {method : Method} {old wanted numbers : List ℕ} {shape : Shape} {bytes : ℕ} → AreRightFrom method old wanted numbers 0
@@ -61,15 +53,13 @@ along_literal {old} {wanted} {len} right is =
 repeat_of_run : (old : List ℕ) {wanted : List ℕ} {run end : ℕ} → IsRunLen wanted end → run ≡ min end 128 → 2 ≤ run
     → IsShapeElement Packed old wanted (RepeatRun run) 2
 repeat_of_run old {wanted} {run} {end} is run-is more =
-    repeat_step old more (omega arith) (omega (arith, is.within))
-    (run_part wanted (slice_index wanted 0) (omega arith) is.equal)
+    repeat_step old more (omega arith) (omega (arith, is.within)) (run_part wanted (slice_index wanted 0) (omega arith) is.equal)
 
 pub along_repeat : {old wanted numbers : List ℕ} {run end : ℕ} → AreRightFrom Packed old wanted numbers 0 → IsRunEnd wanted 0 end
     → run ≡ min end 128 → 2 ≤ run → slice_index numbers run + 2 ≡ slice_index numbers 0
     → IsShapeChoice Packed old wanted numbers (RepeatRun run) (slice_index numbers 0)
 along_repeat {old} {wanted} {end} right is run-is more sum-is =
-    along_choice right
-    (repeat_of_run old (run_len_of end is (omega arith)) run-is more) (omega arith) (omega arith)
+    along_choice right (repeat_of_run old (run_len_of end is (omega arith)) run-is more) (omega arith) (omega arith)
 
 -- where no literal is best, the longest repeat is
 pub no_literal_repeat : (old wanted numbers : List ℕ) (run end : ℕ) → length old ≡ length wanted → 0 < length wanted
@@ -108,11 +98,7 @@ walk_bounds [] {place} size right within walk = omega (arith, (right place (omeg
 walk_bounds {old} {row} {table} (e ∷ es) {place} size right within walk =
     let inside = stop_within Delta old row place e size walk.1.element walk.1.agrees in
     let next = walk.1.next_is in
-    grind (
-      arith,
-      (right place (omega arith) within).steps e walk.1.element walk.1.agrees,
-      walk_bounds es size right (omega arith) walk.2,
-    )
+    grind (arith, (right place (omega arith) within).steps e walk.1.element walk.1.agrees, walk_bounds es size right (omega arith) walk.2)
 
 pub along_run : {old wanted numbers : List ℕ} {end len : ℕ} → length old ≡ length wanted → AreRightFrom Runs old wanted numbers 0
     → IsRunEnd wanted 0 end → len ≡ min end 256 → IsShapeChoice Runs old wanted numbers (Run len) (2 + slice_index numbers len)
@@ -135,12 +121,8 @@ pub along_replacement : {old wanted numbers : List ℕ} {start : ℕ} {shape : S
     → IsReplacement start (length wanted) numbers shape sum → IsShapeChoice Delta old wanted numbers shape sum
 along_replacement {old} {wanted} {numbers} {start} {shape} {sum} size long right needed is r =
     let inside : start < length wanted = along_start size right needed is in
-    let latest : IsLatestStart old wanted 0 start = record {
-      order = omega arith;
-      within = inside;
-      same = λ k low high. is.same k high;
-      differs = is.differs (omega arith);
-    } in
+    let latest : IsLatestStart old wanted 0 start =
+    record { order = omega arith; within = inside; same = λ k low high. is.same k high; differs = is.differs (omega arith) } in
     let walk = attained_from (length wanted) size right (omega arith) (omega arith) in
     let s = latest_is_as_good old wanted walk.0 0 start size latest walk.1 in
     let d = delta_step size latest s.walk.1 in
@@ -149,15 +131,8 @@ along_replacement {old} {wanted} {numbers} {start} {shape} {sum} size long right
     let there : s.walk.0 ≡ start + d.len = omega (arith, d.next_is, begins) in
     let rest = walk_bounds s.rest size right d.within s.walk.2 in
     let most : sum ≤ slice_index numbers 0 =
-    omega (
-      arith,
-      r.best.least d.len d.some (omega (arith, d.few, d.within, there)),
-      at d.len,
-      rw begins at d.cost_is,
-      rw there at rest,
-      s.cheap,
-      walk.2,
-    ) in
+    let bound = r.best.least d.len d.some (omega (arith, d.few, d.within, there)) in
+    omega (arith, bound, at d.len, rw begins at d.cost_is, rw there at rest, s.cheap, walk.2) in
     let len : ℕ = r.len in
     let e = replace_step old wanted start len r.best.above (omega (arith, r.best.below)) (omega (arith, r.best.below))
     (same_len_of size is).equal in

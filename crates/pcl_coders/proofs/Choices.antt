@@ -84,13 +84,9 @@ run_step old {wanted} {len} some few within run =
     let times : len - 1 + 1 ≡ len = omega arith in
     let a = agrees_by old (element_of (Run len) wanted) len refl (rw times (given_copies len (first_byte wanted (omega arith)) ∙ sym run))
     (omega arith) in
-    record {
-      within = (some, few, within);
-      element = record { head_is = record { method_is = refl; in_range = omega arith }; complete = size };
-      agrees = a.0;
-      stop_is = omega (arith, a.1);
-      bytes_are = omega (arith, size);
-    }
+    let is : IsElement Runs (element_of (Run len) wanted) =
+    record { head_is = record { method_is = refl; in_range = omega arith }; complete = size } in
+    record { within = (some, few, within); element = is; agrees = a.0; stop_is = omega (arith, a.1); bytes_are = omega (arith, size) }
 
 -- a control and a byte that it repeats
 pub repeat_step : (old : List ℕ) {wanted : List ℕ} {len : ℕ} → 2 ≤ len → len ≤ 128 → len ≤ length wanted
@@ -100,13 +96,9 @@ repeat_step old {wanted} {len} some few within run =
     let times : 257 - (257 - len) ≡ len = omega arith in
     let a = agrees_by old (element_of (RepeatRun len) wanted) len refl
     (rw times (given_copies len (first_byte wanted (omega arith)) ∙ sym run)) (omega arith) in
-    record {
-      within = (some, few, within);
-      element = record { head_is = record { method_is = refl; in_range = (omega arith, omega arith) }; complete = size };
-      agrees = a.0;
-      stop_is = omega (arith, a.1);
-      bytes_are = omega (arith, size);
-    }
+    let is : IsElement Packed (element_of (RepeatRun len) wanted) =
+    record { head_is = record { method_is = refl; in_range = (omega arith, omega arith) }; complete = size } in
+    record { within = (some, few, within); element = is; agrees = a.0; stop_is = omega (arith, a.1); bytes_are = omega (arith, size) }
 
 -- a control and literal bytes
 pub literal_step : (old wanted : List ℕ) (len : ℕ) → 1 ≤ len → len ≤ 128 → len ≤ length wanted
@@ -182,13 +174,11 @@ delta_below {old} {wanted} numbers {same} size is best d element agrees some =
 
 pub plain_choice : {old wanted numbers : List ℕ} → 0 < length wanted
     → IsShapeChoice Plain old wanted numbers SingleByte (1 + slice_index numbers 1)
-plain_choice {old} {wanted} {numbers} some = step_choice
-    (byte_step old wanted some) (omega arith) refl (plain_below old numbers)
+plain_choice {old} {wanted} {numbers} some = step_choice (byte_step old wanted some) (omega arith) refl (plain_below old numbers)
 
 pub runs_choice : {old wanted numbers : List ℕ} {run len sum : ℕ} → length old ≡ length wanted → IsRunLen wanted run
     → IsLeastLen numbers 1 (min run 256) 2 0 len sum → IsShapeChoice Runs old wanted numbers (Run len) sum
 runs_choice {old} {wanted} {numbers} {run} {len} size is best =
-    step_choice
-    (run_step old best.above (omega (arith, best.below)) (omega (arith, best.below, is.within))
+    step_choice (run_step old best.above (omega (arith, best.below)) (omega (arith, best.below, is.within))
     (run_part wanted (slice_index wanted 0) (omega (arith, best.below)) is.equal))
     (omega (arith, best.above)) (omega (arith, best.sum_is)) (runs_below old numbers size is best.least)

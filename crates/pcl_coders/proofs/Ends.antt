@@ -13,8 +13,7 @@ ends_by old row place size same =
     (λ k below. grind (arith, get_or-drop, length-drop place row, same (place + k)))
 
 pub ends_at : (old row : List ℕ) {place : ℕ} (k : ℕ) → Ends old row place → place ≤ k → get_or row k 0 ≡ get_or old k 0
-ends_at old row {place} k end low =
-    grind (arith, get_or-drop place row (k - place) 0, get_or-drop place old (k - place) 0)
+ends_at old row {place} k end low = grind (arith, get_or-drop place row (k - place) 0, get_or-drop place old (k - place) 0)
 
 -- after such a place there are only such places
 pub ends_on : (old row : List ℕ) {place q : ℕ} → Ends old row place → place ≤ q → Ends old row q
@@ -36,8 +35,7 @@ white_byte n k = grind (arith, get_or-replicate, get_or_past, length-replicate)
 
 pub first_end_of_trimmed : {row : List ℕ} {n len : ℕ} → n ≡ length row → IsTrimmedLen row len → IsFirstEnd (replicate n 0) row len
 first_end_of_trimmed {n} {len} size is =
-    first_end_by (length-replicate {A = ℕ} n 0 ∙ size) is.within
-    (λ k low high. is.zeros k low ∙ sym (white_byte n k))
+    first_end_by (length-replicate {A = ℕ} n 0 ∙ size) is.within (λ k low high. is.zeros k low ∙ sym (white_byte n k))
     (λ some same. is.last some (same ∙ white_byte n (len - 1)))
 
 -- rows that are the same from a place on

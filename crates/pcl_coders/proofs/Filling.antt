@@ -58,8 +58,7 @@ choice_small {method} old row table {place} {sum} inside c small =
 
 pub ends_here : (old row : List ℕ) {place : ℕ} → length old ≡ length row → place < length row → get_or row place 0 ≡ get_or old place 0
     → Ends old row (place + 1) → Ends old row place
-ends_here old row {place} size inside same end =
-    cc (drop_more row place 0 inside, drop_more old place 0 (omega arith))
+ends_here old row {place} size inside same end = cc (drop_more row place 0 inside, drop_more old place 0 (omega arith))
 
 pub ends_behind : (old row : List ℕ) (place : ℕ) → Ends old row place → Ends old row (place + 1)
 ends_behind old row place end = cc (drop-drop 1 place row, drop-drop 1 place old)
@@ -93,11 +92,10 @@ attained_from {method} {old} {row} (suc rest) {place} size right within left =
       | inr next ↦
           let e : Element = next.0 in
           let inside = stop_within method old row place e size next.1.element next.1.agrees in
-          let walk = attained_from rest size right (omega arith) (omega (arith, next.1.goes_on)) in (
-            e ∷ walk.0,
-            (place + stop e, record { element = next.1.element; agrees = next.1.agrees; next_is = refl }, walk.1),
-            omega (arith, walk.2, next.1.number_is),
-          )
+          let walk = attained_from rest size right (omega arith) (omega (arith, next.1.goes_on)) in
+          let first : Leads method old row place e (place + stop e) =
+          record { element = next.1.element; agrees = next.1.agrees; next_is = refl } in
+          (e ∷ walk.0, (place + stop e, first, walk.1), omega (arith, walk.2, next.1.number_is))
     ]
 
 pub table_is_least : {method : Method} {seed row table : List ℕ} → length seed ≡ length row → length table ≡ length row + 1

@@ -10,5 +10,4 @@ length_small is = omega (arith, is.attained.1.fits, is.attained.2)
 -- two least lengths are the same
 pub least_alone : {method : Method} {seed row : List ℕ} {one other : ℕ} → IsLeastLength method seed row one
     → IsLeastLength method seed row other → one ≡ other
-least_alone a b =
-    omega (arith, a.attained.2, b.attained.2, a.shortest b.attained.0 b.attained.1, b.shortest a.attained.0 a.attained.1)
+least_alone a b = omega (arith, a.attained.2, b.attained.2, a.shortest b.attained.0 b.attained.1, b.shortest a.attained.0 a.attained.1)

@@ -22,8 +22,7 @@ use Rattle.pcl_coders.proofs.Places.{packed_shorten, longest_least, literal_boun
 pub next_is_end : {table : List ℕ} {end place best : ℕ} → place < end → HasLiteralEnd table end (place + 1) best
     → (place + 128 < best) ⊎ (place + 1 + slice_index table (place + 1) ≤ best + slice_index table best)
     → IsLiteralEnd table end place (place + 1)
-next_is_end {table} {end} {place} {best} inside has good =
-    grind (arith, has.some, has.literals (place + 1) best)
+next_is_end {table} {end} {place} {best} inside has good = grind (arith, has.some, has.literals (place + 1) best)
 
 -- at the end
 pub has_no_literal : {table : List ℕ} {end : ℕ} → HasLiteralEnd table end end end
@@ -77,28 +76,20 @@ packed_place {row} {table} {place} {run_end} {best} {literal} {repeat} {number} 
     let repeat-is : place + 1 < run_end → repeat ≡ slice_index table (place + len) + 2 = rw at at some in
     let small = (behind best (omega (arith, is.above)) (omega (arith, is.within, begun.first_end.within))).small in
     let l = literal_least begun behind is literal-is in
-    let repeats : (k : ℕ) → 2 ≤ k → k ≤ len → number ≤ 2 + 0 * k + slice_index (drop place table) k =
-    λ k low high.
+    let repeats : (k : ℕ) → 2 ≤ k → k ≤ len → number ≤ 2 + 0 * k + slice_index (drop place table) k = λ k low high.
     let two : 2 ≤ len = omega arith in
-    omega (
-      arith,
-      (longest_least 128 packed_shorten begun.same_size behind run (omega arith) two refl).least k low high,
-      repeat-is (omega arith),
-    ) in
+    let longest = longest_least 128 packed_shorten begun.same_size behind run (omega arith) two refl in
+    omega (arith, longest.least k low high, repeat-is (omega arith)) in
     let below : IsBelow Packed old wanted (drop place table) number =
     packed_below old (drop place table) (omega (arith, length-drop {A = ℕ} place (replicate (length row) 0), long, begun.same_size)) is-run
     (λ k low high. omega (arith, l.least k low high)) repeats in
     elim (cases_lt repeat literal) [
       | inl better ↦
-          let more : place + 1 < run_end = grind (arith, run.after, none, is.near, begun.small) in (
-            RepeatRun len,
-            step_choice (repeat_step old (omega arith) (omega arith) (omega (arith, is-run.within))
-                (run_part wanted (slice_index wanted 0) (omega arith) is-run.equal))
-                (omega arith) (omega (arith, repeat-is more, get_or-drop place table len 0)) below,
-          )
-      | inr worse ↦ (
-        LiteralRun (best - place),
-        step_choice (literal_step old wanted (best - place) l.above (omega (arith, l.below)) (omega (arith, l.below)))
-            (omega (arith, l.above)) (omega (arith, l.sum_is)) below,
-      )
+          let more : place + 1 < run_end = grind (arith, run.after, none, is.near, begun.small) in
+          let alike = run_part wanted {len = len} (slice_index wanted 0) (omega arith) is-run.equal in
+          let step = repeat_step old (omega arith) (omega arith) (omega (arith, is-run.within)) alike in
+          (RepeatRun len, step_choice step (omega arith) (omega (arith, repeat-is more, get_or-drop place table len 0)) below)
+      | inr worse ↦
+          let step = literal_step old wanted (best - place) l.above (omega (arith, l.below)) (omega (arith, l.below)) in
+          (LiteralRun (best - place), step_choice step (omega (arith, l.above)) (omega (arith, l.sum_is)) below)
     ]

@@ -61,13 +61,9 @@ pub runs_shorten : CanShorten Runs
 runs_shorten old wanted e size element agrees more =
     let s = runs_shape e.head element.head_is.method_is element.head_is.in_range element.complete in
     let g = agrees_gives old size element agrees in
-    let b = repeat_behind wanted e s.1 s.0 g.2 more in (
-      Run (s.1.count - 1),
-      2,
-      run_step (drop 1 old) (omega arith) (omega (arith, s.1.below)) (omega (arith, g.0, length-drop 1 wanted)) b.1,
-      omega (arith, b.0),
-      omega (arith, s.1.bytes_are),
-    )
+    let b = repeat_behind wanted e s.1 s.0 g.2 more in
+    let step = run_step (drop 1 old) (omega arith) (omega (arith, s.1.below)) (omega (arith, g.0, length-drop 1 wanted)) b.1 in
+    (Run (s.1.count - 1), 2, step, omega (arith, b.0), omega (arith, s.1.bytes_are))
 
 pub packed_shorten : CanShorten Packed
 packed_shorten old wanted e size element agrees more =
@@ -75,26 +71,18 @@ packed_shorten old wanted e size element agrees more =
     let s = packed_shape e.head e.bytes element.head_is.method_is element.head_is.in_range element.complete (omega arith) in
     let size' = length-drop 1 wanted in
     let literal : stop e ≤ 129 → stop e ≤ cost e → HasShapeElement Packed (drop 1 old) (drop 1 wanted) (stop e - 1) (cost e) =
-    λ few cheap. (
-      LiteralRun (stop e - 1),
-      1 + (stop e - 1),
-      literal_step (drop 1 old) (drop 1 wanted) (stop e - 1) (omega arith) (omega arith) (omega (arith, g.0)),
-      refl,
-      omega arith,
-    ) in
+    λ few cheap.
+    let step = literal_step (drop 1 old) (drop 1 wanted) (stop e - 1) (omega arith) (omega arith) (omega (arith, g.0)) in
+    (LiteralRun (stop e - 1), 1 + (stop e - 1), step, refl, omega arith) in
     elim s.1 [
       | inr l ↦ literal (omega (arith, s.0, l.below)) (omega (arith, s.0, l.bytes_are))
       | inl r ↦
           let b = repeat_behind wanted e r s.0 g.2 more in
           elim (cases_lt 2 r.count) [
             | inr short ↦ literal (omega (arith, b.0)) (omega (arith, b.0, r.bytes_are))
-            | inl long ↦ (
-              RepeatRun (r.count - 1),
-              2,
-              repeat_step (drop 1 old) (omega arith) (omega (arith, r.below)) (omega (arith, g.0)) b.1,
-              omega (arith, b.0),
-              omega (arith, r.bytes_are),
-            )
+            | inl long ↦
+                let step = repeat_step (drop 1 old) (omega arith) (omega (arith, r.below)) (omega (arith, g.0)) b.1 in
+                (RepeatRun (r.count - 1), 2, step, omega (arith, b.0), omega (arith, r.bytes_are))
           ]
     ]
 
@@ -121,11 +109,9 @@ falls method old row table from p zero shorten size right low order high = grind
 falls method old row table from p (suc q) shorten size right low order high =
     elim (cases_lt q p) [
       | inl same ↦ grind arith
-      | inr more ↦ grind (
-        arith,
-        falls method old row table from p q shorten size right low more (omega arith),
-        falls_once shorten size (right q (omega arith) (omega arith)) (right (q + 1) (omega arith) (omega arith)),
-      )
+      | inr more ↦
+          let one = falls_once shorten size (right q (omega arith) (omega arith)) (right (q + 1) (omega arith) (omega arith)) in
+          grind (arith, one, falls method old row table from p q shorten size right low more (omega arith))
     ]
 
 -- no number is above what a literal gives
@@ -178,9 +164,7 @@ run_last {row} {first} {end} {place} begun last = record {
   after = omega arith;
   within = begun.first_end.within;
   same = λ k low high. grind arith;
-  differs = λ inside alike.
-      last_differs place begun last
-      (white_byte (length row) place ∙ sym (white_byte (length row) end)
+  differs = λ inside alike. last_differs place begun last (white_byte (length row) place ∙ sym (white_byte (length row) end)
       ∙ sym (ends_at (replicate (length row) 0) row end begun.first_end.ends (omega arith)) ∙ alike);
 }
 
@@ -249,21 +233,12 @@ delta_place {old} {row} {table} {place} {start} {best} begun size inside next =
     let sum-is : replacement_bytes last + best ≡ replacement_bytes last + b.len + slice_index (drop place table) (last + b.len) =
     grind (arith, b.best_is, is.order, get_or-drop place table (last + b.len) 0) in (
       b.len,
-      step_choice
-          (replace_step (drop place old) (drop place row) last b.len b.above (omega (arith, b.below))
-          (omega (arith, b.below, long, is.order)) same.equal)
-          (omega (arith, b.above)) sum-is
-          (delta_below (drop place table) (omega (arith, length-drop place old, long, begun.same_size)) same
-          (λ o k low some few.
+      step_choice (replace_step (drop place old) (drop place row) last b.len b.above (omega (arith, b.below))
+          (omega (arith, b.below, long, is.order)) same.equal) (omega (arith, b.above)) sum-is
+          (delta_below (drop place table) (omega (arith, length-drop place old, long, begun.same_size)) same (λ o k low some few.
           let at : slice_index (drop o (drop place table)) k ≡ slice_index table (place + o + k) =
           rw drop-drop (get_or-drop (place + o) table k 0) in
-          grind (
-            arith,
-            next.numbers (place + o + k),
-            b.least (o + k - last),
-            command_joins o k last some,
-            command_grows o last,
-          ))),
+          grind (arith, next.numbers (place + o + k), b.least (o + k - last), command_joins o k last some, command_grows o last))),
     )
 
 -- the place's own number is set
@@ -271,14 +246,7 @@ pub next_start_set : {old row table : List ℕ} {place start best : ℕ} → len
     → IsNextStart old row table (place + 1) place start best
     → IsNextStart old row (set table place (replacement_bytes (start - place) + best)) place place start best
 next_start_set {table} {place} {start} {best} size inside next =
-    grind (
-      arith,
-      next.behind.least,
-      next.numbers,
-      next.latest.order,
-      get_or-set_same,
-      number_behind table place (replacement_bytes (start - place) + best),
-    )
+    grind (arith, next.behind.least, next.numbers, next.latest.order, get_or-set_same, number_behind table place)
 
 -- one place to the left, where the byte there is that of the row before
 pub next_start_stays : {old row table : List ℕ} {place start best : ℕ} → IsNextStart old row table (place + 1) (place + 1) start best

@@ -74,18 +74,7 @@ queue_put {numbers} {places} {put} {first} {end} {number} q room low-end high-en
       order = grind arith;
       stop_within = grind arith;
       inside = λ j low high. grind (arith, q.inside j, old_place j, new_place);
-      grow = λ i j low order high. grind (
-        arith,
-        q.grow i j,
-        q.inside i,
-        q.inside j,
-        old_place i,
-        old_place j,
-        new_place,
-        lower i,
-        old_number,
-        new_number,
-      );
+      grow = λ i j low order high. grind (arith, q.grow i j, q.inside i, q.inside j, old_place, new_place, lower i, old_number, new_number);
       covers = λ k low high.
           elim (cases_lt k put) [
             | inr here ↦ (end, low-end, omega arith, omega (arith, new_place), grind (arith, new_place, new_number))

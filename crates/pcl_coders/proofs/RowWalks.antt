@@ -5,7 +5,7 @@ use Rattle.std.proofs.lemmas.List.{append-nil, take_all, drop_at, drop-drop, len
 use Rattle.std.proofs.Math.Seq.{drop-nil}
 use Rattle.pcl_base.proofs.Lists.{length-copied}
 use Rattle.pcl_base.specs.declared.method.Method.{Method}
-use Rattle.pcl_base.specs.declared.method.Method.TheVariants.{Plain, Runs, Packed, Delta}
+use Rattle.pcl_base.specs.declared.method.Method.TheVariants.{Delta}
 use Rattle.pcl_rows.specs.Heads.{Head, Near, Far, head_bytes, new_count, offset_of}
 use Rattle.pcl_rows.specs.Elements.{Element, IsElement, AreElements, element_bytes, given, given_by, stop, reach}
 use Rattle.pcl_rows.specs.Rows.{base, after_element, after_elements, RowFrom, IsRowData}
@@ -20,10 +20,8 @@ abbrev pub kept : List ℕ → List ℕ
 kept rest = rest
 
 pub length-base : (method : Method) (seed : List ℕ) → length (base method seed) ≡ length seed
-length-base Plain seed = length-replicate (length seed) 0
-length-base Runs seed = length-replicate (length seed) 0
-length-base Packed seed = length-replicate (length seed) 0
 length-base Delta seed = refl
+length-base _ seed = length-replicate (length seed) 0
 
 pub total_is : (es : List Element) → total cost es ≡ length (flat_map element_bytes es)
 total_is [] = refl
@@ -48,27 +46,15 @@ walk_from_elements method old row (e ∷ es) place size are within made =
     let same : drop (stop e) (drop place row) ≡ rest =
     cc (append_assoc before (given e) rest, drop_at (before ++ given e) rest (stop e) len) in
     let next : after_elements es kept (drop (place + stop e) old) ≡ drop (place + stop e) row =
-    cc (drop-drop (stop e) place old, drop-drop (stop e) place row) in (
-      place + stop e,
-      record { element = are.0; agrees = cc; next_is = refl },
-      walk_from_elements method old row es (place + stop e) size are.1 (omega arith) next,
-    )
+    cc (drop-drop (stop e) place old, drop-drop (stop e) place row) in
+    let walk = walk_from_elements method old row es (place + stop e) size are.1 (omega arith) next in
+    (place + stop e, record { element = are.0; agrees = cc; next_is = refl }, walk)
 
 -- how far an element that agrees with the row goes
 pub stop_within : (method : Method) (old row : List ℕ) (place : ℕ) (e : Element) → length old ≡ length row → IsElement method e
     → Agrees (drop place old) (drop place row) e → stop e ≤ length row - place
 stop_within method old row place e size is agrees =
-    grind (
-      arith,
-      given_or_nothing_left e.head e.bytes is.complete,
-      ap length agrees,
-      length-append (take (offset_of e.head) (drop place old)) (given e ++ drop (stop e) (drop place row)),
-      length-append (given e) (drop (stop e) (drop place row)),
-      length-take (offset_of e.head) (drop place old),
-      length-drop (stop e) (drop place row),
-      length-drop place row,
-      length-drop place old,
-    )
+    grind (arith, given_or_nothing_left e.head e.bytes is.complete, ap length agrees, length-append, length-take, length-drop)
 
 -- a walk makes the wanted bytes
 pub walk_makes : (method : Method) (old row : List ℕ) (es : List Element) (place : ℕ) → length old ≡ length row
@@ -110,8 +96,7 @@ elements_decode {method} old es are =
 -- how many bytes there are after elements that stop within the row
 length-after : (es : List Element) (old : List ℕ) → reach es ≤ length old → length (after_elements es kept old) ≡ length old
 length-after [] old within = refl
-length-after (e ∷ es) old within =
-    grind (arith, length-append, length-take, length-drop, length-after es (drop (stop e) old))
+length-after (e ∷ es) old within = grind (arith, length-append, length-take, length-drop, length-after es (drop (stop e) old))
 
 -- whole data for a row is a walk
 pub walk_of_data : {method : Method} {seed row bytes : List ℕ} → length seed ≡ length row → IsRowData method seed row bytes

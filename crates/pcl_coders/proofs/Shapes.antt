@@ -29,41 +29,33 @@ pub record IsLiteral (h : Head) (bytes : List ℕ) (most head : ℕ) : Type 0 wh
   pub below : length (given_by h bytes) ≤ most
   pub bytes_are : length (head_bytes h ++ bytes) ≡ head + length (given_by h bytes)
 
+-- copies of the one byte behind a head of one byte
+repeats : (h : Head) {bytes : List ℕ} {least most : ℕ} → length (head_bytes h) ≡ 1 → length bytes ≡ 1 → least ≤ copies_of h
+    → copies_of h ≤ most → IsRepeat h bytes least most
+repeats h {bytes} one alone low high =
+    let b = single_byte bytes alone in
+    let size = length-append (head_bytes h) bytes in record {
+      count = copies_of h;
+      byte = b.0;
+      above = low;
+      below = high;
+      given_is = given_copies (copies_of h) b.1;
+      bytes_are = omega arith;
+    }
+
 pub plain_shape : (h : Head) {bytes : List ℕ} → method_of h ≡ Plain → length bytes ≡ new_count h → (offset_of h ≡ 0) × IsLiteral h bytes 1 0
 plain_shape Itself {bytes} m c = let l = ap length (once_each bytes) in (refl, grind arith)
 plain_shape h m c = absurd cc
 
 pub runs_shape : (h : Head) {bytes : List ℕ} → method_of h ≡ Runs → IsInRange h → length bytes ≡ new_count h
     → (offset_of h ≡ 0) × IsRepeat h bytes 1 256
-runs_shape (Count n) {bytes} m r c =
-    let b = single_byte bytes c in (
-      refl,
-      record {
-        count = n + 1;
-        byte = b.0;
-        above = omega arith;
-        below = omega arith;
-        given_is = given_copies (n + 1) b.1;
-        bytes_are = omega (arith, c);
-      },
-    )
+runs_shape (Count n) m r c = (refl, repeats (Count n) refl c (omega arith) (omega arith))
 runs_shape h m r c = absurd cc
 
 pub packed_shape : (h : Head) (bytes : List ℕ) → method_of h ≡ Packed → IsInRange h → length bytes ≡ new_count h
     → 0 < offset_of h + length (given_by h bytes) → (offset_of h ≡ 0) × (IsRepeat h bytes 2 128 ⊎ IsLiteral h bytes 128 1)
 packed_shape (Literal n) bytes m r c some = let l = ap length (once_each bytes) in (refl, inr (grind arith))
-packed_shape (Repeat n) bytes m r c some =
-    let b = single_byte bytes c in (
-      refl,
-      inl record {
-        count = 257 - n;
-        byte = b.0;
-        above = omega (arith, r.1);
-        below = omega (arith, r.0);
-        given_is = given_copies (257 - n) b.1;
-        bytes_are = omega (arith, c);
-      },
-    )
+packed_shape (Repeat n) bytes m r c some = (refl, inl (repeats (Repeat n) refl c (omega (arith, r.1)) (omega (arith, r.0))))
 packed_shape Skipped [] m r c some = absurd (omega arith)
 packed_shape Skipped (b ∷ bytes) m r c some = absurd (omega arith)
 packed_shape h bytes m r c some = absurd cc
@@ -80,13 +72,7 @@ delta_shape (Near more offset) {bytes} m r c =
     let l = ap length (once_each bytes) in grind (arith, near_bytes)
 delta_shape (Far more full last) {bytes} m r c =
     let l = ap length (once_each bytes) in
-    grind (
-      arith,
-      far_bytes (31 + 255 * full + last),
-      length-append (replicate full 255 ++ last ∷ []) bytes,
-      length-append (replicate full 255) (last ∷ []),
-      length-replicate,
-    )
+    grind (arith, far_bytes (31 + 255 * full + last), length-append, length-replicate)
 delta_shape h m r c = absurd cc
 
 -- the head of a replacement
@@ -100,9 +86,4 @@ pub record IsReplacementHead (offset len : ℕ) (h : Head) : Type 0 where
 
 pub replacement_is : {offset len : ℕ} → 1 ≤ len → len ≤ 8 → IsReplacementHead offset len (replacement offset len)
 replacement_is {offset} {len} some few =
-    grind (
-      arith,
-      nat_tests,
-      length-append (replicate ((offset - 31) / 255) 255) ((offset - 31) % 255 ∷ []),
-      length-replicate,
-    )
+    grind (arith, nat_tests, length-append (replicate ((offset - 31) / 255) 255) ((offset - 31) % 255 ∷ []), length-replicate)

@@ -72,12 +72,7 @@ latest_is_as_good old row (e ∷ es) place start size is walk =
           let r = latest_is_as_good old row es walk.0 start size later walk.2 in
           let f = delta_step size later r.walk.1 in
           let left : offset_of r.first.head ≡ last - (offset_of e.head + d.len) = omega (arith, r.offset_is, d.next_is) in
+          let joins = command_joins (offset_of e.head) d.len last d.some (omega (arith, d.next_is)) in
           latest_step f.len r.rest size is f.some f.few (omega (arith, f.next_is, r.offset_is)) f.within r.walk.2
-          (omega (
-            arith,
-            d.cost_is,
-            rw left at f.cost_is,
-            r.cheap,
-            command_joins (offset_of e.head) d.len last d.some (omega (arith, d.next_is)),
-          ))
+          (omega (arith, d.cost_is, rw left at f.cost_is, r.cheap, joins))
     ]

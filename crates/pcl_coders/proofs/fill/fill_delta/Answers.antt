@@ -8,19 +8,14 @@ use Rattle.pcl_coders.proofs.fill.fill_delta.Goals as goal
 use Rattle.pcl_coders.proofs.fill.fill_delta.Goals.{then-old-place, else-old-place}
 
 pub loop-place-init : goal.loop-place-init
-loop-place-init c = record {
-  right = begun_right c.requires;
-  next = λ none. absurd (omega arith);
-}
+loop-place-init c = record { right = begun_right c.requires; next = λ none. absurd (omega arith) }
 
 -- the next start of a place, and what its number then is: right, and small
 placed : (c : goal.After-row_known-in-loop-place-1)
     → IsNextStart c.args.old.now c.args.row.now c.loop-place.out (c.loop-place.place - 1 + 1) (c.loop-place.place - 1) c.if-old-place.start
     c.if-old-place.best
-    × AreRightFrom Delta c.args.old.now c.args.row.now
-    (set c.loop-place.out (c.loop-place.place - 1)
-    (replacement_bytes (c.if-old-place.start - (c.loop-place.place - 1)) + c.if-old-place.best))
-    (c.loop-place.place - 1)
+    × AreRightFrom Delta c.args.old.now c.args.row.now (set c.loop-place.out (c.loop-place.place - 1)
+    (replacement_bytes (c.if-old-place.start - (c.loop-place.place - 1)) + c.if-old-place.best)) (c.loop-place.place - 1)
     × (replacement_bytes (c.if-old-place.start - (c.loop-place.place - 1)) + c.if-old-place.best
     ≤ 2 * (length c.args.row.now - (c.loop-place.place - 1)))
 placed c =
@@ -35,8 +30,7 @@ placed c =
     elim c.if-old-place.branch [
       | then-old-place w ↦
           let e = rw (take_rest out place) at w.least_behind-best.ensures in
-          rw (w.start-is, w.best-is)
-          (next_start_here size (omega (arith, c.requires.first_end.within)) w.if-old-place.true e.1)
+          rw (w.start-is, w.best-is) (next_start_here size (omega (arith, c.requires.first_end.within)) w.if-old-place.true e.1)
       | else-old-place w ↦
           let last : place + 1 ≡ c.args.end → ⊥ = λ e. last_differs place c.requires e w.if-old-place.false in
           let more : place + 1 < c.args.end = omega (arith, last) in

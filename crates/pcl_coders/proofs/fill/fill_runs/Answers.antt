@@ -7,10 +7,7 @@ use Rattle.pcl_coders.proofs.fill.fill_runs.Goals as goal
 use Rattle.pcl_coders.proofs.fill.fill_runs.Goals.{then-place-end+then-row-place, else-place-end, else-place-end-via-then-place-end+else-row-place, else-place-end-via-else-place-end}
 
 pub loop-place-init : goal.loop-place-init
-loop-place-init c = record {
-  right = begun_right c.requires;
-  run = record { first = λ _. refl; run = λ none. absurd (omega arith) };
-}
+loop-place-init c = record { right = begun_right c.requires; run = record { first = λ _. refl; run = λ none. absurd (omega arith) } }
 
 pub loop-place-preserved : goal.loop-place-preserved
 loop-place-preserved c =
@@ -29,8 +26,6 @@ loop-place-preserved c =
     let len : ℕ = min (c.if-place-end.run_end - place) 256 in
     let at : c.min.result ≡ place + len = omega (arith, c.min.ensures, run.after) in
     record {
-      right = rw at
-          (place_done c.requires size inside behind
-          (runs_place c.requires size inside behind run refl)).0;
+      right = rw at (place_done c.requires size inside behind (runs_place c.requires size inside behind run refl)).0;
       run = record { first = λ at_end. absurd (omega arith); run = λ _. run };
     }

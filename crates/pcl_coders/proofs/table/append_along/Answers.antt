@@ -5,8 +5,7 @@ use Rattle.pcl_coders.proofs.Tables.{right_of_least}
 use Rattle.pcl_coders.proofs.table.append_along.Goals as goal
 
 pub append_steps-appended-requires-clause-right : goal.append_steps-appended-requires-clause-right
-append_steps-appended-requires-clause-right c =
-    rw c.base_row-old.ensures (right_of_least c.requires.codable.same_size c.requires.least)
+append_steps-appended-requires-clause-right c = rw c.base_row-old.ensures (right_of_least c.requires.codable.same_size c.requires.least)
 
 pub returns-else-is_err-clause-ok : goal.returns-else-is_err-clause-ok
 returns-else-is_err-clause-ok c =

@@ -9,6 +9,5 @@ returns c =
     let seed = c.args.seed.now in
     let row = c.args.row.now in
     let now = c.fill_before.new.out in
-    subst (IsLeastLength method seed row) (sym c.from.ensures)
-    (first_is_least method seed row now c.requires.codable
+    subst (IsLeastLength method seed row) (sym c.from.ensures) (first_is_least method seed row now c.requires.codable
     (table_is_least c.requires.codable.same_size (c.fill_before.auto.out ∙ c.requires.size) c.fill_before.ensures))
