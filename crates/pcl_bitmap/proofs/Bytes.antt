@@ -1,6 +1,6 @@
 -- One bit of a byte that `|`, `&` and shifts make, and the bits of a byte within its list.
-use Rattle.std.proofs.Common.{◌≡◌, ℕ, ◌+◌, ◌-◌, ◌*◌, ◌/◌, ◌%◌, ◌^◌, ◌<◌, ◌≤◌, nat_le, nat_lt, nat_eq, Bool, true, false, ◌&&◌, ◌||◌, if◌then◌else◌, List, length, get_or, set, bit_and, bit_or, w8, get_or-set_same, get_or-set_other, ap, ◌∙◌, inl, inr, arith}
-use Rattle.std.proofs.lemmas.Bool.{cases_lt, cases_eq}
+use Rattle.std.proofs.Common.{◌≡◌, ℕ, ◌+◌, ◌-◌, ◌*◌, ◌/◌, ◌%◌, ◌^◌, ◌<◌, ◌≤◌, nat_le, nat_lt, nat_eq, Bool, true, false, ◌&&◌, ◌||◌, if◌then◌else◌, List, length, get_or, set, bit_and, bit_or, w8, get_or-set_same, get_or-set_other, inl, inr, arith}
+use Rattle.std.proofs.lemmas.Bool.{cases_lt}
 use Rattle.std.proofs.lemmas.Bool.Decides.{nat_tests}
 use Rattle.std.proofs.lemmas.Nat.{pow_pos, shr-shr}
 use Rattle.std.proofs.lemmas.Nat.Bits.{bit_at-zero, bit_at_and, bit_at_or, bit_at_not, bit_at_ones, bit_at-lt, ones_shr, bit_at_cat_low, bit_at_cat_high, bit_at_mask_inside, bit_at_mask_below}
@@ -27,10 +27,7 @@ pub bit_of_byte-leading : {n k : ℕ} → n < 8 → k < 8 → bit_of_byte (255 -
 bit_of_byte-leading {n} {k} few small =
     let shifted : 255 / 2 ^ n ≡ 2 ^ (8 - n) - 1 = ones_shr 8 n (omega arith) in
     let mask : 255 - 255 / 2 ^ n ≡ 2 ^ 8 - 2 ^ (8 - n) = rw shifted (omega (arith, pow_pos (8 - n))) in
-    rw mask (elim (cases_lt k n) [
-      | inl inside ↦ grind (arith, nat_tests, bit_at_mask_inside (8 - n) 8 (7 - k) (omega arith) (omega arith))
-      | inr past ↦ grind (arith, nat_tests, bit_at_mask_below (8 - n) 8 (7 - k) (omega arith))
-    ])
+    rw mask (grind (arith, nat_tests, bit_at_mask_inside (8 - n) 8 (7 - k), bit_at_mask_below (8 - n) 8 (7 - k)))
 
 -- `& 0xFF` keeps the bits of the last byte
 pub bit_of_byte-low : (n : ℕ) {k : ℕ} → k < 8 → bit_of_byte (bit_and n 255) k ≡ bit_of_byte n k
@@ -47,27 +44,15 @@ dot_at row {x} j {m} small place =
 pub dot_of_set : (row : List ℕ) (i v k : ℕ) → i < length row
     → dot_of_row (set row i v) k ≡ (if nat_eq (k / 8) i then bit_of_byte v (k % 8) else dot_of_row row k)
 dot_of_set row i v k within =
-    elim (cases_eq (k / 8) i) [
-      | inl same ↦ grind (arith, nat_tests, get_or-set_same row i v 0 within)
-      | inr other ↦ grind (arith, nat_tests, get_or-set_other row i (k / 8) v 0 other)
-    ]
+    grind (arith, nat_tests, get_or-set_same row i v 0 within, get_or-set_other row i (k / 8) v 0)
 
 -- the same where the byte's bits are given by their places in the row
-pub dot_of_bits :
-    (row : List ℕ) (i v k : ℕ) (bits : ℕ → Bool) → i < length row → ((m : ℕ) → m < 8 → bit_of_byte v m ≡ bits (8 * i + m))
+pub dot_of_bits : (row : List ℕ) (i v k : ℕ) (bits : ℕ → Bool) → i < length row → ((m : ℕ) → m < 8 → bit_of_byte v m ≡ bits (8 * i + m))
     → dot_of_row (set row i v) k ≡ (if nat_eq (k / 8) i then bits k else dot_of_row row k)
-dot_of_bits row i v k bits within written =
-    rw dot_of_set (elim (cases_eq (k / 8) i) [
-      | inl same ↦
-          let here : 8 * i + k % 8 ≡ k = omega arith in
-          let bit : bit_of_byte v (k % 8) ≡ bits k = written (k % 8) (omega arith) ∙ ap bits here in
-          grind (arith, nat_tests)
-      | inr other ↦ grind (arith, nat_tests)
-    ])
+dot_of_bits row i v k bits within written = rw dot_of_set (grind (arith, nat_tests, written (k % 8)))
 
 -- eight dots of a row from dot 8 j - s on, which its bytes j - 1 and j hold
-pub shifted_bits :
-    (row : List ℕ) (p q j s k : ℕ)
+pub shifted_bits : (row : List ℕ) (p q j s k : ℕ)
     → s ≤ 8 → q < 256 → q ≡ get_or row j 0 → (0 < j → p ≡ get_or row (j - 1) 0) → (j ≡ 0 → p ≡ 0) → k < 8
     → bit_of_byte (bit_and ((p * 256 + q) / 2 ^ s) 255) k ≡ (nat_le s (8 * j + k) && dot_of_row row (8 * j + k - s))
 shifted_bits row p q j s k few byte at_j before none small =

@@ -1,5 +1,5 @@
 -- What is seen of a pattern.
-use Rattle.std.proofs.Common.{◌≡◌, ℕ, ℤ, ◌+◌, ◌-◌, ◌*◌, ◌/◌, ◌%◌, ◌<◌, ◌≤◌, min, nat_le, nat_lt, Bool, true, false, ◌&&◌, ◌||◌, if◌then◌else◌, Some, None, List, drop, refl, inl, inr, ◌⊎◌, arith}
+use Rattle.std.proofs.Common.{◌≡◌, ℕ, ℤ, ◌+◌, ◌-◌, ◌*◌, ◌/◌, ◌%◌, ◌<◌, ◌≤◌, min, nat_le, nat_lt, Bool, false, ◌&&◌, ◌||◌, if◌then◌else◌, Some, None, List, drop, inl, inr, ◌⊎◌, arith}
 use Rattle.std.proofs.lemmas.Bool.{cases_lt}
 use Rattle.std.proofs.lemmas.Bool.Decides.{nat_tests}
 use Rattle.std.proofs.lemmas.Nat.{mul-le, div_below, mod_below, div-add-mod', div-mul-add}
@@ -25,18 +25,13 @@ abbrev pub line_or : (rows : List ℕ) (x y u v s n : ℕ) → ℕ → ℕ → B
 line_or rows x y u v s n px py before = dot_of_row (drop ((py - y + v) / s * n) rows) ((u + (px - x)) / s) || before
 
 -- a pattern's bit where its edges are before a dot, the left one by the test t and the upper one by the test u
-seen_bit :
-    (s w h : ℕ) (rows : List ℕ) (t u : Bool) (i j : ℕ)
+seen_bit : (s w h : ℕ) (rows : List ℕ) (t u : Bool) (i j : ℕ)
     → pattern_bit s w h rows (if t then Some i else None) (if u then Some j else None)
     ≡ (t && u && nat_lt (i / s) w && nat_lt (j / s) h && dot_of_row (drop (j / s * ((w + 7) / 8)) rows) (i / s))
-seen_bit s w h rows true true i j = refl
-seen_bit s w h rows true false i j = refl
-seen_bit s w h rows false true i j = refl
-seen_bit s w h rows false false i j = refl
+seen_bit s w h rows t u i j = grind arith
 
 -- the dots of a pattern that are seen on the page, its edges at `left` and `top` and `skip` dots before that
-pub seen_pattern :
-    (x y : ℤ) (left top skip_x skip_y wide high w h s n width height px py : ℕ) (rows : List ℕ) (d : Bool)
+pub seen_pattern : (x y : ℤ) (left top skip_x skip_y wide high w h s n width height px py : ℕ) (rows : List ℕ) (d : Bool)
     → 1 ≤ s → n ≡ (width + 7) / 8 → w ≡ min (width * s - skip_x) (wide - left) → h ≡ min (height * s - skip_y) (high - top)
     → dots_past x px ≡ (if nat_le left px then Some (px + skip_x - left) else None)
     → dots_past y py ≡ (if nat_le top py then Some (py + skip_y - top) else None)
@@ -58,21 +53,16 @@ seen_pattern x y left top skip_x skip_y wide high w h s n width height px py row
     ])
 
 -- a row that is seen is one of the pattern's
-pub seen_row :
-    (j skip s height n size : ℕ) → 1 ≤ s → j + skip < height * s → height * n ≤ size → (j + skip) / s * n ≤ size
+pub seen_row : (j skip s height n size : ℕ) → 1 ≤ s → j + skip < height * s → height * n ≤ size → (j + skip) / s * n ≤ size
 seen_row j skip s height n size some below fits =
     let row : (j + skip) / s < height = div_below (j + skip) s height some below in
     omega (arith, mul-le ((j + skip) / s) n height n (omega arith) (omega arith))
 
 -- a pattern that begins right of or below the page
-pub pattern_off :
-    (x y : ℤ) (left top skip_x skip_y wide high s w h px py : ℕ) (rows : List ℕ)
+pub pattern_off : (x y : ℤ) (left top skip_x skip_y wide high s w h px py : ℕ) (rows : List ℕ)
     → (wide ≤ left) ⊎ (high ≤ top)
     → dots_past x px ≡ (if nat_le left px then Some (px + skip_x - left) else None)
     → dots_past y py ≡ (if nat_le top py then Some (py + skip_y - top) else None)
     → px < wide → py < high → pattern_dot x y s w h rows px py ≡ false
 pattern_off x y left top skip_x skip_y wide high s w h px py rows off e_x e_y within on_page =
-    rw (e_x, e_y, seen_bit) (elim off [
-      | inl right ↦ grind (arith, nat_tests)
-      | inr below ↦ grind (arith, nat_tests)
-    ])
+    rw (e_x, e_y, seen_bit) (grind (arith, nat_tests))

@@ -1,6 +1,6 @@
 -- Rectangles of dots that take ink, row by row, and the pages that they are on.
-use Rattle.std.proofs.Common.{◌≡◌, ℕ, ◌+◌, ◌-◌, ◌*◌, ◌<◌, ◌≤◌, Bool, ◌||◌, if◌then◌else◌, min, List, length, get_or, drop, All, ap, inl, inr, arith}
-use Rattle.std.proofs.lemmas.Bool.{cases_lt, cases_order}
+use Rattle.std.proofs.Common.{◌≡◌, ℕ, ◌+◌, ◌-◌, ◌*◌, ◌<◌, ◌≤◌, Bool, ◌||◌, if◌then◌else◌, min, List, length, get_or, drop, All, inl, inr, arith}
+use Rattle.std.proofs.lemmas.Bool.{cases_lt}
 use Rattle.std.proofs.lemmas.Bool.Decides.{nat_tests}
 use Rattle.std.proofs.lemmas.List.Elements.{All-from_get_or}
 use Rattle.pcl_base.specs.declared.dpi.Dpi.{Dpi}
@@ -19,8 +19,7 @@ pub record AreInked (r : ℕ) (old new : List ℕ) (x y w h row : ℕ) (ink : �
   pub room : row < y + h → row * r + r ≤ length new
 
 -- no row yet
-pub none_inked :
-    (r : ℕ) (page : List ℕ) (x y w h : ℕ) (ink : ℕ → ℕ → Bool → Bool)
+pub none_inked : (r : ℕ) (page : List ℕ) (x y w h : ℕ) (ink : ℕ → ℕ → Bool → Bool)
     → (y + h) * r ≤ length page → ((i : ℕ) → get_or page i 0 < 256) → AreInked r page page x y w h y ink
 none_inked r page x y w h ink high bytes = record {
   dots = λ px py within. grind (arith, nat_tests);
@@ -29,8 +28,7 @@ none_inked r page x y w h ink high bytes = record {
 }
 
 -- one row more, where the run of its dots took the ink
-pub row_inked :
-    {r x y w h row : ℕ} {old now : List ℕ} (new : List ℕ) {ink : ℕ → ℕ → Bool → Bool}
+pub row_inked : {r x y w h row : ℕ} {old now : List ℕ} (new : List ℕ) {ink : ℕ → ℕ → Bool → Bool}
     → AreInked r old now x y w h row ink
     → y ≤ row → x + w ≤ 8 * r → (y + h) * r ≤ length new → All (λ byte. byte < 256) new
     → ((px py : ℕ) → px < 8 * r → let from = 8 * (row * r) + x in let place = 8 * (py * r) + px in
@@ -40,31 +38,21 @@ row_inked {r} {x} {y} {w} {h} {row} {old} {now} new {ink} above since wide high 
   dots = λ px py within.
       let before = above.dots px py within in
       let here = painted px py within in
-      elim (cases_order py row) [
-        | inl level ↦ let same : py * r ≡ row * r = ap (λ n. n * r) level in grind (arith, nat_tests, before, here)
-        | inr (inl less) ↦ let apart = rows_apart py row r less in grind (arith, nat_tests, apart, before, here)
-        | inr (inr more) ↦ let apart = rows_apart row py r more in grind (arith, nat_tests, apart, before, here)
-      ];
+      grind (arith, nat_tests, rows_apart py row r, rows_apart row py r, before, here);
   in_bytes = bytes;
   room = λ some. omega (arith, rows_apart (row + 1) (y + h) r some);
 }
 
 -- a run of bits that is added to row i of a page, and whose bits there are p
-pub run_or :
-    (source : List ℕ) (r x w i px py : ℕ) (p d : Bool)
+pub run_or : (source : List ℕ) (r x w i px py : ℕ) (p d : Bool)
     → x + w ≤ 8 * r → px < 8 * r → (py ≡ i → px - x < w → dot_of_row source (px - x) ≡ p)
     → let from = 8 * (i * r) + x in let k = 8 * (py * r) + px in
     (run_dot from (from + w) source k || d) ≡ (if in_run from (from + w) k then p || d else d)
 run_or source r x w i px py p d wide within bits =
-    elim (cases_order py i) [
-      | inl level ↦ let same : py * r ≡ i * r = ap (λ n. n * r) level in grind (arith, nat_tests)
-      | inr (inl above) ↦ grind (arith, nat_tests, rows_apart py i r above)
-      | inr (inr below) ↦ grind (arith, nat_tests, rows_apart i py r below)
-    ]
+    grind (arith, nat_tests, rows_apart py i r, rows_apart i py r)
 
 -- a rectangle that is cut at the page's edges has the same dots on the page
-pub clipped :
-    (width height x y w h wide high px py : ℕ)
+pub clipped : (width height x y w h wide high px py : ℕ)
     → x < width → y < height → w ≡ min wide (width - x) → h ≡ min high (height - y) → px < width → py < height
     → rectangle_dot x y w h px py ≡ rectangle_dot x y wide high px py
 clipped width height x y w h wide high px py start top e_w e_h within on_page = grind (arith, nat_tests)

@@ -27,10 +27,7 @@ first_set_is {mask} {count} fits is =
       | inr none ↦
           let zero : mask ≡ 0 = omega arith in
           let all : count ≡ 32 = is ∙ ap (λ (m : ℕ). min (trailing_zeros w64 m) 32) zero in
-          record {
-            clear = λ k below. rw zero (bit_at-zero k);
-            set = λ below. absurd (omega arith);
-          }
+          record { clear = λ k below. rw zero (bit_at-zero k); set = λ below. absurd (omega arith) }
     ]
 
 -- whether two lanes differ
@@ -68,10 +65,7 @@ pub record AreSameTo (a b : List ℕ) (place : ℕ) : Type 0 where
 
 pub same_more : {a b : List ℕ} {place count : ℕ} → AreSameTo a b place → place + count ≤ length a
     → ((k : ℕ) → k < count → get_or a (place + k) 0 ≡ get_or b (place + k) 0) → AreSameTo a b (place + count)
-same_more {a} {b} {place} to fits more = record {
-  within = fits;
-  same = λ k below. grind (arith, to.same k, more (k - place));
-}
+same_more {a} {b} {place} to fits more = record { within = fits; same = λ k below. grind (arith, to.same k, more (k - place)) }
 
 -- a byte stands again and again from one place up to another
 pub record IsRunTo (row : List ℕ) (from place : ℕ) : Type 0 where
@@ -81,11 +75,8 @@ pub record IsRunTo (row : List ℕ) (from place : ℕ) : Type 0 where
 
 pub run_more : {row : List ℕ} {from place count : ℕ} → IsRunTo row from place → place + count ≤ length row
     → ((k : ℕ) → k < count → get_or row (place + k) 0 ≡ get_or row from 0) → IsRunTo row from (place + count)
-run_more {row} {from} {place} {count} to fits more = record {
-  after = omega (arith, to.after);
-  within = fits;
-  same = λ k low high. grind (arith, to.same k, more (k - place));
-}
+run_more {row} {from} {place} {count} to fits more =
+    record { after = omega (arith, to.after); within = fits; same = λ k low high. grind (arith, to.same k, more (k - place)) }
 
 -- there are only zeros from a place on
 pub record AreZerosFrom (row : List ℕ) (len : ℕ) : Type 0 where
@@ -94,10 +85,8 @@ pub record AreZerosFrom (row : List ℕ) (len : ℕ) : Type 0 where
 
 pub zeros_more : {row : List ℕ} {len count : ℕ} → AreZerosFrom row len → count ≤ len
     → ((k : ℕ) → k < count → get_or row (len - count + k) 0 ≡ 0) → AreZerosFrom row (len - count)
-zeros_more {row} {len} {count} from fits more = record {
-  within = omega (arith, from.within);
-  zeros = λ k low. grind (arith, from.zeros k, more (k - (len - count)));
-}
+zeros_more {row} {len} {count} from fits more =
+    record { within = omega (arith, from.within); zeros = λ k low. grind (arith, from.zeros k, more (k - (len - count))) }
 
 -- a row is all zeros where nothing is left of it without the zeros at its end
 pub zeros_by_len : (row : List ℕ) (len : ℕ) → IsTrimmedLen row len → (len ≡ 0) ↔ All (λ byte. byte ≡ 0) row

@@ -33,8 +33,7 @@ black_stays {size} {dpi} {old} {new} {before} {after} mark inked kept drawn =
     ]
 
 -- a rectangle whose dots have the ink
-pub has_ink :
-    (size : Size) (dpi : Dpi) (bytes : List ℕ) (filled : Filled) (x y w h wide high : ℕ) (ink : Ink)
+pub has_ink : (size : Size) (dpi : Dpi) (bytes : List ℕ) (filled : Filled) (x y w h wide high : ℕ) (ink : Ink)
     → HasInk (picture_of size dpi bytes) filled
     → (filled.ink ≡ ink) × (filled.area.x ≤ x) × (filled.area.y ≤ y)
     × (w ≤ filled.area.width - (x - filled.area.x)) × (h ≤ filled.area.height - (y - filled.area.y))

@@ -25,11 +25,7 @@ dot_past_row zs r {x} h =
 -- a row of zeros is white
 pub white_from_zeros : (zs : List ℕ) → All (λ n. n ≡ 0) zs → (x : ℕ) → dot_of_row zs x ≡ false
 white_from_zeros zs zeros x =
-    let zero : get_or zs (x / 8) 0 ≡ 0 =
-    elim (cases_lt (x / 8) (length zs)) [
-      | inl within ↦ All-get_or (λ n. n ≡ 0) zs (x / 8) 0 within zeros
-      | inr past ↦ get_or_past zs (x / 8) 0 past
-    ] in
+    let zero : get_or zs (x / 8) 0 ≡ 0 = grind (arith, All-get_or (λ n. n ≡ 0) zs (x / 8) 0, get_or_past zs (x / 8) 0) in
     rw zero (bit_of_byte-zero (x % 8))
 
 -- a page of zeros is white
@@ -50,8 +46,7 @@ same_byte {a} {b} p q h =
     grind (arith, nat_tests, place, h (7 - i) (omega arith), bit_at-lt a i, bit_at-lt b i))
 
 -- pages of h rows with the same dots across w dots, and clear pads, have the same bytes
-pub same_pages :
-    (r w h : ℕ) (a b : List ℕ)
+pub same_pages : (r w h : ℕ) (a b : List ℕ)
     → length a ≡ h * r → length b ≡ h * r → All (λ n. n < 256) a → All (λ n. n < 256) b
     → ((x y : ℕ) → w ≤ x → dot_of_row (take r (drop (y * r) a)) x ≡ false)
     → ((x y : ℕ) → w ≤ x → dot_of_row (take r (drop (y * r) b)) x ≡ false)
@@ -65,28 +60,19 @@ same_pages r w h a b la lb fa fb pa pb same =
     let place : i ≡ y * r + j = sym (div-add-mod' i r) in
     let short : j < r = mod_below i r some in
     let on_page : y < h = div_below i r h some (omega arith) in
-    same_byte (All-get_or (λ n. n < 256) a i 0 within fa) (All-get_or (λ n. n < 256) b i 0 (omega arith) fb)
-    (λ k small.
+    same_byte (All-get_or (λ n. n < 256) a i 0 within fa) (All-get_or (λ n. n < 256) b i 0 (omega arith) fb) (λ k small.
     let x : ℕ = 8 * j + k in
     let spot : 8 * (y * r) + x ≡ 8 * i + k = omega arith in
     let in_a = sym (dot_at a i small spot) ∙ sym (dot_in_page a r y (omega arith)) in
     let in_b = dot_in_page b r y (omega arith) ∙ dot_at b i small spot in
-    in_a
-    ∙ (elim (cases_lt x w) [
-      | inl seen ↦ same x y seen on_page
-      | inr pad ↦ pa x y pad ∙ sym (pb x y pad)
-    ])
-    ∙ in_b))
+    grind (arith, in_a, in_b, same x y, pa x y, pb x y)))
 
 -- a row with clear pads is all zeros where its dots across w are white
-pub zeros_from_white :
-    (zs : List ℕ) (w : ℕ)
+pub zeros_from_white : (zs : List ℕ) (w : ℕ)
     → All (λ n. n < 256) zs → ((x : ℕ) → w ≤ x → dot_of_row zs x ≡ false)
     → ((x : ℕ) → x < w → dot_of_row zs x ≡ false)
     → All (λ n. n ≡ 0) zs
 zeros_from_white zs w bytes pads white =
-    All-from_get_or (λ n. n ≡ 0) zs 0 (λ i within.
-    same_byte (All-get_or (λ n. n < 256) zs i 0 within bytes) (lit< tt) (λ k small.
-    sym (dot_at zs i small refl)
-    ∙ (elim (cases_lt (8 * i + k) w) [ inl seen ↦ white (8 * i + k) seen | inr pad ↦ pads (8 * i + k) pad ])
+    All-from_get_or (λ n. n ≡ 0) zs 0 (λ i within. same_byte (All-get_or (λ n. n < 256) zs i 0 within bytes) (lit< tt) (λ k small.
+    sym (dot_at zs i small refl) ∙ (elim (cases_lt (8 * i + k) w) [ inl seen ↦ white (8 * i + k) seen | inr pad ↦ pads (8 * i + k) pad ])
     ∙ sym (bit_of_byte-zero k)))

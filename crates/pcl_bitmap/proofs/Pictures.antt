@@ -15,8 +15,7 @@ abbrev pub picture_of : Size → Dpi → List ℕ → Picture
 picture_of size dpi bytes = record { size = size; dpi = dpi; bytes = bytes }
 
 -- pictures of one size and resolution with the same dots are the same
-pub same_dots :
-    (p q : Picture) → IsPicture p → IsPicture q → p.size ≡ q.size → p.dpi ≡ q.dpi
+pub same_dots : (p q : Picture) → IsPicture p → IsPicture q → p.size ≡ q.size → p.dpi ≡ q.dpi
     → ((x y : ℕ) → x < page_width p.size p.dpi → y < page_height p.size p.dpi → dot p x y ≡ dot q x y)
     → p ≡ q
 same_dots p q is_p is_q s d same =
@@ -45,8 +44,7 @@ pub record HasRoom (width n r : ℕ) (bytes : List ℕ) : Type 0 where
   pub small : length bytes < 2 ^ 32
 
 -- bytes that were lent of a picture have this room
-pub lent_room :
-    (size : Size) (dpi : Dpi) {bytes lent : List ℕ} {r : ℕ}
+pub lent_room : (size : Size) (dpi : Dpi) {bytes lent : List ℕ} {r : ℕ}
     → IsPicture (picture_of size dpi bytes) → lent ≡ bytes → (n : ℕ) → n ≤ page_height size dpi → r ≡ page_row_bytes size dpi
     → HasRoom (page_width size dpi) n r lent
 lent_room size dpi {bytes} {lent} {r} picture e_lent n on_page e_r =
@@ -60,17 +58,14 @@ lent_room size dpi {bytes} {lent} {r} picture e_lent n on_page e_r =
 -- a white page
 pub blank_dots : (size : Size) (dpi : Dpi) (x y : ℕ) → dot (blank_picture size dpi) x y ≡ false
 unfolding blank_bytes
-blank_dots size dpi x y =
-    dot_of_zeros (page_height size dpi * page_row_bytes size dpi) (page_row_bytes size dpi) x y
+blank_dots size dpi x y = dot_of_zeros (page_height size dpi * page_row_bytes size dpi) (page_row_bytes size dpi) x y
 
 -- a page of zeros is the white page
-pub blank_from_zeros :
-    (size : Size) (dpi : Dpi) (bs : List ℕ) (h r : ℕ)
+pub blank_from_zeros : (size : Size) (dpi : Dpi) (bs : List ℕ) (h r : ℕ)
     → h ≡ page_height size dpi → r ≡ page_row_bytes size dpi → bs ≡ replicate (h * r) 0
     → picture_of size dpi bs ≡ blank_picture size dpi
 unfolding blank_bytes
-blank_from_zeros size dpi bs h r e_h e_r e =
-    rw (e, e_h, e_r)
+blank_from_zeros size dpi bs h r e_h e_r e = rw (e, e_h, e_r)
 
 pub blank_is_picture : (size : Size) (dpi : Dpi) → IsPicture (blank_picture size dpi)
 unfolding blank_bytes

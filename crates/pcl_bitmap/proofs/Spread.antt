@@ -22,23 +22,17 @@ square_bit s m j some few fits =
     let back : 8 - (8 - s) ≡ s = omega arith in
     let ones : 255 / 2 ^ (8 - s) ≡ 2 ^ s - 1 = ones_shr 8 (8 - s) (omega arith) ∙ ap (λ n. 2 ^ n - 1) back in
     let small : 2 ^ s - 1 < 2 ^ s = omega (arith, pow_pos s) in
-    rw (ones, shl_whole (2 ^ s - 1) s m 64 small fits, ← add-zero ((2 ^ s - 1) * 2 ^ m)) (elim (cases_lt j m) [
-      | inl below ↦ grind (arith, nat_tests, bit_at_cat_low (2 ^ s - 1) m 0 j below, bit_at-zero j)
-      | inr since ↦
-          let high = bit_at_cat_high (2 ^ s - 1) m 0 j (pow_pos m) since in
-          elim (cases_lt (j - m) s) [
-            | inl inside ↦ grind (arith, nat_tests, high, bit_at_ones s (j - m) inside)
-            | inr past ↦ grind (arith, nat_tests, high, bit_at_ones_above s (j - m) past)
-          ]
-    ])
+    let low = bit_at_cat_low (2 ^ s - 1) m 0 j in
+    let high = bit_at_cat_high (2 ^ s - 1) m 0 j (pow_pos m) in
+    rw (ones, shl_whole (2 ^ s - 1) s m 64 small fits, ← add-zero ((2 ^ s - 1) * 2 ^ m))
+    (grind (arith, nat_tests, low, high, bit_at-zero j, bit_at_ones s (j - m), bit_at_ones_above s (j - m)))
 
 -- the bits of a byte below bit i, each s times
 abbrev pub spread_bit : (byte s i j : ℕ) → ℕ
 spread_bit byte s i j = if nat_lt (j / s) i then bit_at byte (j / s) else 0
 
 -- bit i is set, and the bits below are spread
-pub spread_set :
-    (wide byte s i j : ℕ) → 1 ≤ s → s ≤ 8 → i < 8 → bit_at byte i ≡ 1 → bit_at wide j ≡ spread_bit byte s i j
+pub spread_set : (wide byte s i j : ℕ) → 1 ≤ s → s ≤ 8 → i < 8 → bit_at byte i ≡ 1 → bit_at wide j ≡ spread_bit byte s i j
     → bit_at (bit_or wide (255 / 2 ^ (8 - s) * 2 ^ (s * i) % 2 ^ 64)) j ≡ spread_bit byte s (i + 1) j
 spread_set wide byte s i j some few small is_set above =
     let fits : s + s * i ≤ 64 = omega (arith, mul-le s i 8 7 few (omega arith)) in
@@ -59,8 +53,7 @@ mirror {s} {q} some h =
     rw (place, div-mul-add other s (s - 1 - q % s) (omega arith))
 
 -- byte `part` of the spread bits
-pub part_bits :
-    (wide byte s part : ℕ) → 1 ≤ s → part < s → ((j : ℕ) → bit_at wide j ≡ bit_at byte (j / s))
+pub part_bits : (wide byte s part : ℕ) → 1 ≤ s → part < s → ((j : ℕ) → bit_at wide j ≡ bit_at byte (j / s))
     → (m : ℕ) → m < 8 → bit_of_byte (bit_and (wide / 2 ^ (8 * (s - 1 - part))) 255) m ≡ bit_of_byte byte ((8 * part + m) / s)
 part_bits wide byte s part some within bits m small =
     let e : ℕ = 8 * (s - 1 - part) in
@@ -73,8 +66,7 @@ quotient_moved : {s : ℕ} (b k rest : ℕ) → 1 ≤ s → k ≡ b * s + rest �
 quotient_moved {s} b k rest some parts = rw (parts, mul-add-div_right some b rest)
 
 -- one byte more of a row is spread
-pub spread_more :
-    (row now new : List ℕ) (s first i k : ℕ)
+pub spread_more : (row now new : List ℕ) (s first i k : ℕ)
     → 1 ≤ s
     → (k < 8 * (s * i) → dot_of_row now k ≡ dot_of_row row (8 * first + k / s))
     → dot_of_row new k
@@ -92,8 +84,7 @@ spread_more row now new s first i k some above added within =
     ]
 
 -- the squares of a row of raster data, cut at the page's edges
-pub squares_dot :
-    (wide high x y w h s width px py : ℕ) (row : List ℕ) (d : Bool)
+pub squares_dot : (wide high x y w h s width px py : ℕ) (row : List ℕ) (d : Bool)
     → 1 ≤ s → x < wide → y < high → w ≡ min (width * s) (wide - x) → h ≡ min s (high - y) → px < wide → py < high
     → (if rectangle_dot x y w h px py then dot_of_row row ((px - x) / s) || d else d) ≡ (raster_dot x y s width row px py || d)
 squares_dot wide high x y w h s width px py row d some start top e_w e_h within on_page =
@@ -110,8 +101,7 @@ spread_count {s} {w} {n} some e =
 
 -- a row that is seen from dot u on, where n bytes of dots are needed: it was spread from a byte on, and the dots of that byte
 -- before dot u are skipped
-pub spread_dot :
-    (row spread : List ℕ) (s u n count k : ℕ)
+pub spread_dot : (row spread : List ℕ) (s u n count k : ℕ)
     → 1 ≤ s → count ≡ div_ceil (u % (8 * s) + 8 * n) (8 * s) → k < 8 * n
     → ((m : ℕ) → m < 8 * (s * count) → dot_of_row spread m ≡ dot_of_row row (8 * (u / (8 * s)) + m / s))
     → dot_of_row spread (u % (8 * s) + k) ≡ dot_of_row row ((u + k) / s)

@@ -6,10 +6,7 @@ use Rattle.pcl_bitmap.proofs.Runs.{part_more}
 use Rattle.pcl_bitmap.proofs.bits.or_bytes.Goals as goal
 
 pub loop-i-init : goal.loop-i-init
-loop-i-init c = record {
-  within = omega arith;
-  bits = λ k. grind (arith, nat_tests);
-}
+loop-i-init c = record { within = omega arith; bits = λ k. grind (arith, nat_tests) }
 
 pub loop-i-preserved : goal.loop-i-preserved
 loop-i-preserved c =
@@ -20,11 +17,8 @@ loop-i-preserved c =
     record {
       within = omega arith;
       bits =
-          rw next at
-          (part_more c.args.target.now c.loop-i.target at (at + i) (get_or source i 0) (λ k. dot_of_row source (k - 8 * at))
-          (omega arith) (omega arith)
-          (λ k small.
+          rw next at (part_more c.args.target.now c.loop-i.target at (at + i) (get_or source i 0) (λ k. dot_of_row source (k - 8 * at))
+          (omega arith) (omega arith) (λ k small.
           let place : 8 * (at + i) + k - 8 * at ≡ 8 * i + k = omega arith in
-          rw (place, dot_at source i small refl))
-          c.loop-i.invariant.bits);
+          rw (place, dot_at source i small refl)) c.loop-i.invariant.bits);
     }

@@ -13,8 +13,7 @@ loop-row-init c =
     let w = a.window in
     record {
       rows = none_inked a.row_bytes a.page.now a.area.x a.area.y a.area.width a.area.height
-          (line_or a.rows.now a.area.x a.area.y w.x w.y w.scale w.row_bytes)
-          c.requires.high (λ i. omega (arith, c.type_inv.page i));
+          (line_or a.rows.now a.area.x a.area.y w.x w.y w.scale w.row_bytes) c.requires.high (λ i. omega (arith, c.type_inv.page i));
       held = λ line at_row below. absurd (omega arith);
     }
 

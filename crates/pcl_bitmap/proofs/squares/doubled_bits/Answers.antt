@@ -42,5 +42,4 @@ doubled_is byte j small =
     ]
 
 pub returns : goal.returns
-returns c j =
-    doubled_is c.from-byte.result j (omega arith) ∙ ap (λ n. bit_at n (j / 2)) c.from-byte.ensures
+returns c j = doubled_is c.from-byte.result j (omega arith) ∙ ap (λ n. bit_at n (j / 2)) c.from-byte.ensures

@@ -13,8 +13,7 @@ use Rattle.pcl_bitmap.proofs.bitmap.Bitmap.blit.Goals as goal
 use Rattle.pcl_bitmap.proofs.bitmap.Bitmap.blit.Goals.{then-left-page_width-via-then-left-page_width, then-left-page_width-via-else-left-page_width+then-top-page_height}
 
 -- the page after the pattern
-painted :
-    (c : goal.After-self-2-1)
+painted : (c : goal.After-self-2-1)
     → let a = c.self.inside in
     IsDrawn a.size a.dpi a.bytes.items (with_items a.bytes c.or_pattern.new.page).items
     (λ px py before. pattern_dot c.args.x c.args.y c.args.scale c.args.width c.args.height c.args.rows.now px py || before)
@@ -82,8 +81,7 @@ or_pattern-requires c =
     record {
       scale = omega arith;
       skipped = omega (arith, c.start_and_skip-left.ensures.small, c.start_and_skip-top.ensures.small);
-      bits = λ j seen.
-          seen_row j c.start_and_skip-top.result.1 c.args.scale c.args.height c.div_ceil.result (length c.args.rows.now)
+      bits = λ j seen. seen_row j c.start_and_skip-top.result.1 c.args.scale c.args.height c.div_ceil.result (length c.args.rows.now)
           (omega arith) (omega arith) fits;
       narrow = omega (arith, width_small a.size a.dpi);
       wide = omega (arith, room);

@@ -10,8 +10,7 @@ use Rattle.pcl_bitmap.proofs.OneInk.{has_ink}
 use Rattle.pcl_bitmap.proofs.bitmap.Bitmap.fill.Goals as goal
 
 -- the rectangle that is filled, cut at the page's edges
-same_rectangle :
-    (c : goal.After-self-2-1) (px py : ℕ)
+same_rectangle : (c : goal.After-self-2-1) (px py : ℕ)
     → let a = c.self.inside in px < page_width a.size a.dpi → py < page_height a.size a.dpi
     → rectangle_dot c.args.x c.args.y c.min.result c.min-2.result px py ≡ rectangle_dot c.args.x c.args.y c.args.w c.args.h px py
 same_rectangle c px py in_row on_page =
@@ -20,8 +19,7 @@ same_rectangle c px py in_row on_page =
     (omega arith) (omega arith) (omega arith) (omega arith) in_row on_page
 
 -- the page after the rectangle
-filled :
-    (c : goal.After-self-2-1)
+filled : (c : goal.After-self-2-1)
     → let a = c.self.inside in
     IsDrawn a.size a.dpi a.bytes.items (with_items a.bytes c.fill_rows.new.page).items
     (λ px py before. if rectangle_dot c.args.x c.args.y c.args.w c.args.h px py then is_black_ink c.args.ink else before)
@@ -29,8 +27,7 @@ filled c =
     drawn c.args.x c.args.y c.min.result c.min-2.result c.row_bytes-row_bytes.result (λ _ _ _. is_black_ink c.args.ink) _
     c.self.invariant.picture c.deref_mut.ensures.value (with_items_is c.self.inside.bytes c.fill_rows.new.page (omega arith))
     c.fill_rows.auto.page c.fill_rows.ensures.in_bytes (omega arith) c.row_bytes-row_bytes.ensures c.fill_rows.ensures.dots
-    (λ px py before in_row on_page.
-    ap (λ t. if t then is_black_ink c.args.ink else before) (same_rectangle c px py in_row on_page))
+    (λ px py before in_row on_page. ap (λ t. if t then is_black_ink c.args.ink else before) (same_rectangle c px py in_row on_page))
 
 pub invariant_of-self : goal.invariant_of-self
 invariant_of-self c = record {
@@ -58,7 +55,6 @@ returns-clause-dots c = rw (← c.self.view_is) (filled c).dots
 pub fill_rows-requires : goal.fill_rows-requires
 fill_rows-requires c =
     let a = c.self.inside in
-    let room =
-    lent_room a.size a.dpi c.self.invariant.picture c.deref_mut.ensures.value (c.args.y + c.min-2.result) (omega arith)
+    let room = lent_room a.size a.dpi c.self.invariant.picture c.deref_mut.ensures.value (c.args.y + c.min-2.result) (omega arith)
     c.row_bytes-row_bytes.ensures in
     record { wide = omega (arith, room); high = room.high; small = room.small; rows = omega arith }

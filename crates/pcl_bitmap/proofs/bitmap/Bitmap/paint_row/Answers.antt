@@ -12,8 +12,7 @@ use Rattle.pcl_bitmap.proofs.OneInk.{black_stays}
 use Rattle.pcl_bitmap.proofs.bitmap.Bitmap.paint_row.Goals as goal
 
 -- the page after the row
-painted :
-    (c : goal.After-self-2-1)
+painted : (c : goal.After-self-2-1)
     → let a = c.self.inside in
     IsDrawn a.size a.dpi a.bytes.items (with_items a.bytes c.paint_squares.new.page).items
     (λ px py before. raster_dot c.args.x c.args.y c.args.scale c.args.width c.args.row.now px py || before)
@@ -45,8 +44,7 @@ returns-clause-dots c = rw (← c.self.view_is) (painted c).dots
 pub paint_squares-requires : goal.paint_squares-requires
 paint_squares-requires c =
     let a = c.self.inside in
-    let room =
-    lent_room a.size a.dpi c.self.invariant.picture c.deref_mut.ensures.value (c.args.y + c.min-2.result) (omega arith)
+    let room = lent_room a.size a.dpi c.self.invariant.picture c.deref_mut.ensures.value (c.args.y + c.min-2.result) (omega arith)
     c.row_bytes-row_bytes.ensures in
     record {
       scale = omega arith;
