@@ -51,8 +51,7 @@ module _ {dpi : Dpi} {page page' : Page} {one other : Sheet} (shows : Shows dpi 
       record {
         across = moved.across;
         down = moved.down;
-        differs = λ same. moved.differs
-            (cc (same, shows.dots x y moved.across moved.down, black_as size x y moved.across moved.down));
+        differs = λ same. moved.differs (cc (same, shows.dots x y moved.across moved.down, black_as size x y moved.across moved.down));
         above = λ px py across before.
             let down : py < page_height one.size dpi = omega (arith, moved.down) in
             cc (moved.above px py across before, shows.dots px py across down, black_as size px py across down);
@@ -71,42 +70,28 @@ module _ {dpi : Dpi} {page page' : Page} {one other : Sheet} (shows : Shows dpi 
 module _ (dpi : Dpi) where
   kept_count : (pages : List Sheet) (kept : List KeptPage) → KeepAll dpi pages kept → length pages ≡ length kept
   kept_count [] [] k = refl
-  kept_count [] (one ∷ kept) k = absurd k
-  kept_count (page ∷ pages) [] k = absurd k
   kept_count (page ∷ pages) (one ∷ kept) k = omega (arith, kept_count pages kept k.3)
+  kept_count _ _ k = absurd k
 
   found_count : (kept : List KeptPage) (others : List Sheet) (found : List (Option Difference)) → FindAll dpi kept others found
       → length others ≡ length found
   found_count kept [] [] f = refl
-  found_count kept [] (one ∷ found) f = absurd f
-  found_count kept (other ∷ others) [] f = absurd f
   found_count kept (other ∷ others) (one ∷ found) f = omega (arith, found_count (drop 1 kept) others found f.3)
+  found_count kept _ _ f = absurd f
 
   all_alike : (pages : List Sheet) (kept : List KeptPage) (others : List Sheet) (found : List (Option Difference))
       → KeepAll dpi pages kept → FindAll dpi kept others found → length found ≡ length kept → AllByRecursion IsAlike found
       → AllAlike dpi pages others
   all_alike [] [] [] [] k f count a = tt
-  all_alike [] [] (other ∷ others) (one ∷ found) k f count a = absurd (omega arith)
-  all_alike (page ∷ pages) (one ∷ kept) [] [] k f count a = absurd (omega arith)
-  all_alike (page ∷ pages) (one ∷ kept) (other ∷ others) (next ∷ found) k f count a = (
-    sheets_alike k.1 f.1 (rw a.0 at (f.2 k.0 k.2 (cc (k.1.resolution, f.1.resolution)))),
-    all_alike pages kept others found k.3 f.3 (omega arith) a.1,
-  )
-  all_alike [] (one ∷ kept) others found k f count a = absurd k
-  all_alike (page ∷ pages) [] others found k f count a = absurd k
-  all_alike pages kept [] (one ∷ found) k f count a = absurd f
-  all_alike pages kept (other ∷ others) [] k f count a = absurd f
+  all_alike (page ∷ pages) (one ∷ kept) (other ∷ others) (next ∷ found) k f count a =
+      let alike = sheets_alike k.1 f.1 (rw a.0 at (f.2 k.0 k.2 (cc (k.1.resolution, f.1.resolution)))) in
+      (alike, all_alike pages kept others found k.3 f.3 (omega arith) a.1)
+  all_alike _ _ _ _ k f count a = absurd (grind arith)
 
   first_differ : (pages : List Sheet) (kept : List KeptPage) (others : List Sheet) (before : List (Option Difference))
       {difference : Difference} (after : List (Option Difference)) → KeepAll dpi pages kept
       → FindAll dpi kept others (before ++ Some difference ∷ after) → length (before ++ Some difference ∷ after) ≡ length kept
       → AllByRecursion IsAlike before → DifferFirst dpi pages others (length before + 1) difference
-  first_differ [] (one ∷ kept) others before after k f count a = absurd k
-  first_differ (page ∷ pages) [] others before after k f count a = absurd k
-  first_differ [] [] others [] after k f count a = absurd (omega arith)
-  first_differ [] [] others (b ∷ before) after k f count a = absurd (omega arith)
-  first_differ (page ∷ pages) (one ∷ kept) [] [] after k f count a = absurd f
-  first_differ (page ∷ pages) (one ∷ kept) [] (b ∷ before) after k f count a = absurd f
   first_differ (page ∷ pages) (one ∷ kept) (other ∷ others) [] {difference} after k f count a = record {
     pages_before = [];
     page = page;
@@ -135,6 +120,8 @@ module _ (dpi : Dpi) where
         counted = omega (arith, rest.counted);
         differ = rest.differ;
       }
+  first_differ _ _ _ [] after k f count a = absurd (grind arith)
+  first_differ _ _ _ (b ∷ before) after k f count a = absurd (grind arith)
 
 -- ---- the jobs
 
@@ -145,11 +132,10 @@ compared_so dpi pages kept others found None k f is = all_alike dpi pages kept o
 compared_so dpi pages kept others found (Some (difference.Count count other_count)) k f is =
     (cc (kept_count dpi pages kept k), cc (found_count dpi kept others found f), is.2)
 compared_so dpi pages kept others found (Some (difference.Page number by)) k f is =
-    let first = is.1 in (
-      cc (kept_count dpi pages kept k, found_count dpi kept others found f),
-      rw first.counted (first_differ dpi pages kept others first.before first.after k (rw first.found_are at f)
-          (rw (← first.found_are) is.0) first.alike_before),
-    )
+    let first = is.1 in
+    let differ = first_differ dpi pages kept others first.before first.after k (rw first.found_are at f)
+    (rw (← first.found_are) is.0) first.alike_before in
+    (cc (kept_count dpi pages kept k, found_count dpi kept others found f), rw first.counted differ)
 
 -- a job beside one that is kept
 pub beside_kept : OnePages → {dpi : Dpi} {first second : List ℕ} {kept : KeptJob} {others : List Sheet} {other_asks : Asks}
@@ -172,9 +158,6 @@ beside_kept one {dpi} {first} {second} {kept} {others} {other_asks} k meaning as
       other_asks = other_asks;
       other_asked = asked;
       compare = rw pages compare;
-      compare_asks = asks (λ none. cc (
-        asked_pages one k.meaning k.asked,
-        alike_count dpi k.pages others (rw none at compare),
-        asked_pages one meaning asked,
-      ));
+      compare_asks = asks (λ none.
+          cc (asked_pages one k.meaning k.asked, alike_count dpi k.pages others (rw none at compare), asked_pages one meaning asked));
     }

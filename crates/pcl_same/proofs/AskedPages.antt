@@ -44,12 +44,10 @@ abbrev StaysOf : (Situation → Result Situation Kind) → Type 0
 StaysOf f = (s : Situation) → Each s → EachOf (f s)
 
 one_of_both : {A : Type 0} (P : A → Type 0) (test : Bool) (a b : A) → P a → P b → P (cond test a b)
-one_of_both P true a b p q = p
-one_of_both P false a b p q = q
+one_of_both P test a b p q = elim test as (λ t. P (cond t a b)) [ true ↦ p | false ↦ q ]
 
 unless_each : (why : Option Kind) → StaysOf (unless_refused why)
-unless_each None = λ s e. e
-unless_each (Some kind) = λ s e. tt
+unless_each why = λ s e. grind arith
 
 then_each_of : (o : Result Situation Kind) (next : Situation → Result Situation Kind) → EachOf o → StaysOf next → EachOf (o |> next)
 then_each_of (Err kind) next e f = tt
@@ -74,12 +72,10 @@ module _ (dpi : Dpi) where
   drawn_each ControlFonts command = λ s e.
       elim (control_of command.value) as (λ what. Each (fonts_controlled what s)) [ None ↦ e | Some what ↦ e ]
   drawn_each DownloadFont command = λ s e. elim command.bytes as (λ bytes. Each (with_font bytes s)) [ [] ↦ e | byte ∷ bytes ↦ e ]
-  drawn_each DownloadCharacter command = λ s e.
-      elim command.bytes as (λ bytes. Each (with_character bytes s)) [ [] ↦ e | byte ∷ bytes ↦ e ]
+  drawn_each DownloadCharacter command = λ s e. elim command.bytes as (λ bytes. Each (with_character bytes s)) [ [] ↦ e | byte ∷ bytes ↦ e ]
   drawn_each PrintText command = λ s e.
       drawn_codes (is_proportional (font_now s)) (prints s.fonts (font_in_use s.settings)) command.bytes s e
-  drawn_each FillRectangle command = λ s e.
-      elim (ink_of command.value) as (λ ink. Each (filled_with dpi ink s)) [ None ↦ e | Some ink ↦ e ]
+  drawn_each FillRectangle command = λ s e. elim (ink_of command.value) as (λ ink. Each (filled_with dpi ink s)) [ None ↦ e | Some ink ↦ e ]
   drawn_each other command = λ s e. e
 
   -- ---- a command
@@ -94,8 +90,7 @@ module _ (dpi : Dpi) where
       (elim done as (λ o. EachOf (turned_by o before)) [
         | None ↦ tt
         | Some to ↦ turned_each to.0 to.1 before (one_of_both Each (ends_raster operation) (end_raster dpi s) s e e)
-      ])
-      (λ now each. unless_each (draw_refusal operation command now) (drawn dpi operation command now)
+      ]) (λ now each. unless_each (draw_refusal operation command now) (drawn dpi operation command now)
       (drawn_each operation command now each)))
 
   named_each : (operation : Option Operation) (command : Said) → StaysOf (after_named dpi operation command)
@@ -105,8 +100,7 @@ module _ (dpi : Dpi) where
   tried_each : (command : Said) → StaysOf (tried dpi command)
   tried_each command = λ s e.
       let named = after_named dpi (operation_of command.name) command in
-      then_each_of (counted_in_limit s |> named) within_page_limit
-      (then_each_of (counted_in_limit s) named
+      then_each_of (counted_in_limit s |> named) within_page_limit (then_each_of (counted_in_limit s) named
       (one_of_both EachOf (nat_le command_limit s.performed) (Err TooManyCommands) (Ok (counted s)) tt e)
       (named_each (operation_of command.name) command)) (λ now each. unless_each (page_refusal now) now each)
 
@@ -168,8 +162,7 @@ module _ (dpi : Dpi) where
 
   runs_each : (levels : ℕ) (all : List Said) (command : Said) (run : Run) → EachAfter (runs levels dpi all command run)
   runs_each zero all command run = λ s e. e
-  runs_each (suc levels) all command run = λ s e.
-      then_each (in_order (step dpi (runs levels dpi all)) run.next (commands_left all run) s)
+  runs_each (suc levels) all command run = λ s e. then_each (in_order (step dpi (runs levels dpi all)) run.next (commands_left all run) s)
       (λ later. done (macro_ended dpi run.saved later))
       (order_each (runs levels dpi all) (runs_each levels all) run.next (commands_left all run) s e)
       (λ later each. elim run.saved as (λ saved. Each (macro_ended dpi saved later)) [ None ↦ each | Some saved ↦ each ])

@@ -17,17 +17,13 @@ kept_on : (dpi : Dpi) (sheets : List Sheet) (old new : List KeptPage) → Hands 
 kept_on dpi [] old new h = ([], h ∙ sym (append-nil old), tt)
 kept_on dpi (sheet ∷ sheets) old new h =
     let kept = h.3.0 in
-    let rest = kept_on dpi sheets h.1 new h.4 in (
-      kept ∷ rest.0,
-      cc (rest.1, h.3.1, append_assoc old (kept ∷ []) rest.0),
-      (h.0, h.2, h.3.2, rest.2),
-    )
+    let rest = kept_on dpi sheets h.1 new h.4 in
+    (kept ∷ rest.0, cc (rest.1, h.3.1, append_assoc old (kept ∷ []) rest.0), (h.0, h.2, h.3.2, rest.2))
 
 pub all_kept : (dpi : Dpi) (sheets : List Sheet) {old : List KeptPage} (new : List KeptPage) → old ≡ [] → Hands KeepsMore dpi sheets old new
     → KeepAll dpi sheets new
 all_kept dpi sheets {old} new none h =
-    let k = kept_on dpi sheets old new h in
-    subst (KeepAll dpi sheets) (sym (k.1 ∙ ap (λ (front : List KeptPage). front ++ k.0) none)) k.2
+    let k = kept_on dpi sheets old new h in rw k.1 (simp none k.2)
 
 -- ---- the second job
 
@@ -38,11 +34,7 @@ record FindsMore (dpi : Dpi) (sheets : List Sheet) (old new : Compared) : Type 0
   find : FindAll dpi (drop (length old.found) old.kept) sheets more
 
 finds_on : (dpi : Dpi) (sheets : List Sheet) (old new : Compared) → Hands ComparesNext dpi sheets old new → FindsMore dpi sheets old new
-finds_on dpi [] old new h = record {
-  more = [];
-  found = ap (λ (c : Compared). c.found) h ∙ sym (append-nil old.found);
-  find = tt;
-}
+finds_on dpi [] old new h = record { more = []; found = ap (λ (c : Compared). c.found) h ∙ sym (append-nil old.found); find = tt }
 finds_on dpi (sheet ∷ sheets) old new h =
     let took = h.3 in
     let rest = finds_on dpi sheets h.1 new h.4 in
@@ -51,19 +43,11 @@ finds_on dpi (sheet ∷ sheets) old new h =
     record {
       more = took.next ∷ rest.more;
       found = cc (rest.found, took.found, append_assoc old.found (took.next ∷ []) rest.more);
-      find = (
-        h.0,
-        h.2,
-        took.is,
-        subst (λ (kept : List KeptPage). FindAll dpi kept sheets rest.more) left rest.find,
-      );
+      find = (h.0, h.2, took.is, subst (λ (kept : List KeptPage). FindAll dpi kept sheets rest.more) left rest.find);
     }
 
 pub found_all : (dpi : Dpi) (sheets : List Sheet) {kept : List KeptPage} {old : Compared} (new : Compared) → old.kept ≡ kept
     → old.found ≡ []
     → Hands ComparesNext dpi sheets old new → FindAll dpi kept sheets new.found
 found_all dpi sheets {kept} {old} new k none h =
-    let f = finds_on dpi sheets old new h in
-    let left : drop (length old.found) old.kept ≡ kept = rw (none, k) refl in
-    subst (FindAll dpi kept sheets) (sym (f.found ∙ ap (λ (front : List (Option Difference)). front ++ f.more) none))
-    (subst (λ (kept : List KeptPage). FindAll dpi kept sheets f.more) left f.find)
+    let f = finds_on dpi sheets old new h in rw f.found (simp none (simp (none, k) at f.find))

@@ -14,8 +14,7 @@ more_alike (first ∷ found) all one = (all.0, more_alike found all.1 one)
 
 pub next_alike : (found : List (Option Difference)) {n : ℕ} → n < length found → AllByRecursion IsAlike (take n found)
     → get_or found n None ≡ None → AllByRecursion IsAlike (take (n + 1) found)
-next_alike found {n} lt all none =
-    rw (take_more found n None lt) (more_alike (take n found) all none)
+next_alike found {n} lt all none = rw (take_more found n None lt) (more_alike (take n found) all none)
 
 pub first_found : (found : List (Option Difference)) {n : ℕ} {difference : Difference} → n < length found
     → AllByRecursion IsAlike (take n found) → get_or found n None ≡ Some difference → IsFirstFound found (n + 1) difference

@@ -1,41 +1,32 @@
 -- Rows of bits at which rows differ, painted one by one.
-use Rattle.std.proofs.Common.{◌≡◌, ℕ, zero, suc, ◌+◌, ◌-◌, ◌/◌, ◌%◌, ◌<◌, false, ◌&&◌, ◌||◌, nat_eq, List, length, refl, ◌∙◌, inl, inr, arith}
+use Rattle.std.proofs.Common.{◌≡◌, ℕ, ◌+◌, ◌-◌, ◌/◌, ◌%◌, ◌<◌, false, ◌&&◌, ◌||◌, nat_eq, List, length, ◌∙◌, arith, inl, inr, refl}
 use Rattle.std.specs.Prelude.{slice_index, nat_lt}
 use Rattle.std.specs.Int.{bit_at}
 use Rattle.std.specs.Int.Bits.{bit_xor}
-use Rattle.std.proofs.lemmas.Bool.{cases_lt, le-ltb, lt-ltb}
 use Rattle.std.proofs.lemmas.Bool.Decides.{nat_tests}
 use Rattle.std.proofs.lemmas.List.{get_or_past}
 use Rattle.std.proofs.lemmas.Nat.Bits.{bit_at_xor, bit_at-lt}
-use Rattle.std.proofs.Math.Bool.{or-false}
 use Rattle.pcl_base.specs.Size.{page_width, page_height}
 use Rattle.pcl_bitmap.specs.Bitmap.{Picture, bit_of_byte, dot_of_row, dot}
 use Rattle.pcl_bitmap.specs.Dots.{raster_dot}
 use Rattle.pcl_same.specs.DifferingDots.{differ}
+use Rattle.std.proofs.lemmas.Bool.{lt-ltb, cases_lt, le-ltb}
+use Rattle.std.proofs.Math.Bool.{or-false}
 
 -- ---- the bits of a row
 
 parity : (u v : ℕ) → u < 2 → v < 2 → nat_eq ((u + v) % 2) 1 ≡ differ (nat_eq u 1) (nat_eq v 1)
-parity zero zero p q = refl
-parity zero (suc zero) p q = refl
-parity (suc zero) zero p q = refl
-parity (suc zero) (suc zero) p q = refl
-parity u v p q = absurd (omega arith)
+parity u v p q = grind (arith, nat_tests)
 
 xor_bit : (a b k : ℕ) → bit_of_byte (bit_xor a b) k ≡ differ (bit_of_byte a k) (bit_of_byte b k)
-xor_bit a b k =
-    rw (bit_at_xor a b (7 - k)) (parity (bit_at a (7 - k)) (bit_at b (7 - k)) (bit_at-lt a (7 - k)) (bit_at-lt b (7 - k)))
+xor_bit a b k = rw (bit_at_xor a b (7 - k)) (parity (bit_at a (7 - k)) (bit_at b (7 - k)) (bit_at-lt a (7 - k)) (bit_at-lt b (7 - k)))
 
 -- bytes past the ends of rows are 0
 xor_byte : (one other bits : List ℕ) → length other ≡ length one → length bits ≡ length one
     → ((k : ℕ) → k < length one → slice_index bits k ≡ bit_xor (slice_index one k) (slice_index other k))
     → (k : ℕ) → slice_index bits k ≡ bit_xor (slice_index one k) (slice_index other k)
 xor_byte one other bits p q h k =
-    elim (cases_lt k (length one)) [
-      | inl within ↦ h k within
-      | inr past ↦
-          rw (get_or_past bits k 0 (omega (arith, q)), get_or_past one k 0 past, get_or_past other k 0 (omega (arith, p))) refl
-    ]
+    grind (arith, h k, get_or_past bits k 0, get_or_past one k 0, get_or_past other k 0)
 
 pub row_of_bits : (one other bits : List ℕ) → length other ≡ length one → length bits ≡ length one
     → ((k : ℕ) → k < length one → slice_index bits k ≡ bit_xor (slice_index one k) (slice_index other k))
@@ -82,8 +73,7 @@ more_drawn one other old y {new} {width} bits drawn s r w row painted = record {
               let is : py ≡ y = omega arith in
               let drawn_row : raster_dot 0 y 1 width bits px py ≡ differ (dot one px py) (dot other px py) =
               rw is (row_here y width px bits (omega (arith, w)) ∙ row px) in
-              rw
-              (here, before, le-ltb py y at, or-false (raster_dot 0 y 1 width bits px py), drawn_row, lt-ltb py (y + 1) (omega arith)) refl
+              rw (here, before, le-ltb py y at, or-false, drawn_row, lt-ltb py (y + 1) (omega arith)) refl
         ]
       ];
 }

@@ -44,23 +44,17 @@ first_setting one other None (Some x) c d e p q r s t =
 first_setting one other None None (Some x) d e p q r s t =
     first_here MediaType (elim [ Sides ↦ λ lt. p | OutputBin ↦ λ lt. q | before ↦ λ lt. absurd (omega arith) ]) r
 first_setting one other None None None (Some x) e p q r s t =
-    first_here PaperSource
-    (elim [ Sides ↦ λ lt. p | OutputBin ↦ λ lt. q | MediaType ↦ λ lt. r | before ↦ λ lt. absurd (omega arith) ]) s
+    first_here PaperSource (elim [ Sides ↦ λ lt. p | OutputBin ↦ λ lt. q | MediaType ↦ λ lt. r | before ↦ λ lt. absurd (omega arith) ]) s
 first_setting one other None None None None (Some x) p q r s t =
     first_here SheetSide (elim [
       | Sides ↦ λ lt. p
       | OutputBin ↦ λ lt. q
       | MediaType ↦ λ lt. r
       | PaperSource ↦ λ lt. s
-      | SheetSide ↦ λ lt. absurd (omega arith)
+      | before ↦ λ lt. absurd (omega arith)
     ]) t
-first_setting one other None None None None None p q r s t = λ i. record {
-  sides = p i;
-  output_bin = q i;
-  media_type = r i;
-  paper_source = s i;
-  sheet_side = t i;
-}
+first_setting one other None None None None None p q r s t =
+    λ i. record { sides = p i; output_bin = q i; media_type = r i; paper_source = s i; sheet_side = t i }
 
 -- ---- lists
 

@@ -39,6 +39,5 @@ first_bit_is a b p q differ =
     record {
       within = omega (arith, top.1);
       differs = λ same. grind (arith, nat_tests, here, bit_at_xor a b (7 - k), bit_at-lt a (7 - k), bit_at-lt b (7 - k));
-      same = λ i before.
-          rw (bits_same a b (7 - i) (bit_at_above (bit_xor a b) (suc j) (7 - i) top.3 (omega (arith, top.1)))) refl;
+      same = λ i before. rw (bits_same a b (7 - i) (bit_at_above (bit_xor a b) (suc j) (7 - i) top.3 (omega (arith, top.1)))) refl;
     }

@@ -45,15 +45,12 @@ module _ {p : Picture} {bytes starts : List ℕ} {count : ℕ} (more : List ℕ)
       let first : slice_index (starts ++ end ∷ []) k ≡ slice_index starts k =
       get_or_append_left starts (end ∷ []) 0 k (omega (arith, keeps.starts_are)) in
       let second : slice_index (starts ++ end ∷ []) (k + 1) ≡ slice_index starts (k + 1) =
-      get_or_append_left starts (end ∷ []) 0 (k + 1) (omega (arith, keeps.starts_are)) in (
+      get_or_append_left starts (end ∷ []) 0 (k + 1) (omega (arith, keeps.starts_are)) in
+      let from : ℕ = slice_index starts k in
+      let front = take-append-le (slice_index starts (k + 1) - from) (drop from bytes) more
+      (omega (arith, length-drop from bytes, row.0.order, row.0.within)) in (
         record { order = omega (arith, row.0.order); within = omega (arith, row.0.within, length-append bytes more) },
-        rw (
-          first,
-          second,
-          drop-append-le (slice_index starts k) bytes more (omega (arith, row.0.order, row.0.within)),
-          take-append-le (slice_index starts (k + 1) - slice_index starts k) (drop (slice_index starts k) bytes) more
-              (omega (arith, length-drop (slice_index starts k) bytes, row.0.order, row.0.within)),
-        ) row.1,
+        rw (first, second, drop-append-le from bytes more (omega (arith, row.0.order, row.0.within)), front) row.1,
       )
 
   -- the last row is what came last
@@ -89,14 +86,12 @@ height_is p h s d = rw (← s, ← d) h
 
 -- the front of zeros is the row above the topmost
 pub white_above : (p : Picture) → take (page_row_bytes p.size p.dpi) (replicate 600 0) ≡ row_above p 0
-white_above p =
-    take-replicate (page_row_bytes p.size p.dpi) 600 0 (row_small p.size p.dpi)
+white_above p = take-replicate (page_row_bytes p.size p.dpi) 600 0 (row_small p.size p.dpi)
 
 -- a row that was copied to the front of a buffer is the row above the next
 pub next_above : (p : Picture) (y : ℕ) {n : ℕ} {row copied : List ℕ} (rest : List ℕ) → row ≡ row_of p y → copied ≡ row → length row ≡ n
     → take n (copied ++ rest) ≡ row_above p (y + 1)
-next_above p y {n} {row} {copied} rest is same long =
-    rw (← long, ← same, add-one) (take-append_seam copied rest ∙ same ∙ is)
+next_above p y {n} {row} {copied} rest is same long = rw (← long, ← same, add-one) (take-append_seam copied rest ∙ same ∙ is)
 
 -- what row data makes over the front of a buffer
 pub made_over : (p : Picture) (y : ℕ) {n : ℕ} (buffer row : List ℕ) {bytes made : List ℕ} → take n buffer ≡ row_above p y
@@ -111,9 +106,7 @@ pub makes_more : (p : Picture) (held : KeptBitmap) {y : ℕ} {made : List ℕ} �
 makes_more p held {y} before d is k lt =
     elim (cases_lt k y) [
       | inl less ↦ before k less
-      | inr at ↦
-          let here : y ≡ k = omega arith in
-          rw (← here, ← is) d
+      | inr at ↦ let here : y ≡ k = omega arith in rw (← here, ← is) d
     ]
 
 -- two bitmaps of one size and resolution, and row data that makes the rows of the one, and the first rows of the other
@@ -127,7 +120,7 @@ module _ {kept : Picture} (other : Picture) {held : KeptBitmap} {count : ℕ} (i
   resolutions = sym keeps.resolution ∙ dpi
 
   heights : page_height kept.size kept.dpi ≡ page_height other.size other.dpi
-  heights = rw (sizes, resolutions) refl
+  heights = cc (sizes, resolutions)
 
   -- the rows are the same up to the first one that isn't compared yet
   above_same : (k : ℕ) → k ≤ count → row_above kept k ≡ row_above other k
@@ -148,8 +141,7 @@ module _ {kept : Picture} (other : Picture) {held : KeptBitmap} {count : ℕ} (i
       → ((px : ℕ) → page_width other.size other.dpi ≤ px → dot_of_row row px ≡ false) → IsFirstDotOfRow made row x
       → IsFirstDot (page_width kept.size kept.dpi) (page_height kept.size kept.dpi) (dot kept) (dot other) x count
   row_differs {x} {made} {row} down decoded row_is pads first =
-      let made_is : row_of kept count ≡ made =
-      one_row Delta (data_of held count) (row_above other count) (row_of kept count) made
+      let made_is : row_of kept count ≡ made = one_row Delta (data_of held count) (row_above other count) (row_of kept count) made
       (rw (above_same count (omega arith)) at (keeps.rows count (omega (arith, heights)))) decoded in
       let found = rw (← made_is, row_is) at first in
       let width : page_width kept.size kept.dpi ≡ page_width other.size other.dpi = rw (sizes, resolutions) refl in

@@ -7,7 +7,7 @@ use Rattle.pcl_page.specs.Jobs.{HasPages}
 use Rattle.pcl_page.specs.Delivering.{IsRefusal}
 use Rattle.pcl_page.specs.Situation.{Sheet}
 use Rattle.pcl_same.specs.declared.comparison.Comparison.{Comparison}
-use Rattle.pcl_same.specs.declared.comparison.Comparison.TheVariants.{Same, PageCount, Page}
+use Rattle.pcl_same.specs.declared.comparison.Comparison.TheVariants.{Same, Page}
 use Rattle.pcl_same.specs.declared.comparison.Difference.{Difference}
 use Rattle.pcl_same.specs.declared.comparison.Difference.TheVariants.{Size, Copies, Dot}
 use Rattle.pcl_same.specs.declared.fault.Job.TheVariants.{First, Second}
@@ -32,20 +32,13 @@ neither_below a b p q = omega arith
 one_dot : {width height : ℕ} {one other : ℕ → ℕ → Bool} {x y px py : ℕ} → IsFirstDot width height one other x y
     → IsFirstDot width height one other px py → Dot x y ≡ Dot px py
 one_dot {x = x} {y} {px} {py} f g =
-    let row : y ≡ py =
-    neither_below y py (λ lt. f.differs (g.above x y f.across lt)) (λ lt. g.differs (f.above px py g.across lt)) in
-    let column : x ≡ px =
-    neither_below x px (λ lt. f.differs (rw row (g.left x lt))) (λ lt. g.differs (rw (← row) (f.left px lt))) in
+    let row : y ≡ py = neither_below y py (λ lt. f.differs (g.above x y f.across lt)) (λ lt. g.differs (f.above px py g.across lt)) in
+    let column : x ≡ px = neither_below x px (λ lt. f.differs (rw row (g.left x lt))) (λ lt. g.differs (rw (← row) (f.left px lt))) in
     cc
 
 one_difference : (dpi : Dpi) (one other : Sheet) (d e : Difference) → DifferBy dpi one other d → DifferBy dpi one other e → d ≡ e
-one_difference dpi one other (Size a b) (Size a' b') p q = cc
-one_difference dpi one other (Size a b) e p q = absurd (p.2 cc)
-one_difference dpi one other d (Size a b) p q = absurd (q.2 cc)
-one_difference dpi one other (Copies a b) (Copies a' b') p q = cc
-one_difference dpi one other (Copies a b) (Dot x y) p q = absurd (p.3 cc)
-one_difference dpi one other (Dot x y) (Copies a b) p q = absurd (q.3 cc)
 one_difference dpi one other (Dot x y) (Dot px py) p q = one_dot p.2 q.2
+one_difference dpi one other _ _ p q = grind arith
 
 -- ---- lists
 
@@ -60,13 +53,12 @@ module _ {A D : Type 0} (alike : A → A → Type 0) (by : A → A → D → Typ
   -- two lists differ at one place, where nothing that is alike differs
   pub one_place : ((x y : A) (d : D) → alike x y → by x y d → ⊥) → ((x y : A) (d e : D) → by x y d → by x y e → d ≡ e)
       → (xs ys : List A) (n m : ℕ) (d e : D) → IsAt xs ys n d → IsAt xs ys m e → (n ≡ m) × (d ≡ e)
-  one_place strict unique [] ys n m d e p q = absurd p
-  one_place strict unique (x ∷ xs) [] n m d e p q = absurd p
   one_place strict unique (x ∷ xs) (y ∷ ys) zero zero d e p q = (refl, unique x y d e p q)
   one_place strict unique (x ∷ xs) (y ∷ ys) zero (suc m) d e p q = absurd (strict x y d q.0 p)
   one_place strict unique (x ∷ xs) (y ∷ ys) (suc n) zero d e p q = absurd (strict x y e p.0 q)
   one_place strict unique (x ∷ xs) (y ∷ ys) (suc n) (suc m) d e p q =
       let rest = one_place strict unique xs ys n m d e p.1 q.1 in (cc, rest.1)
+  one_place strict unique _ _ n m d e p q = absurd p
 
 -- ---- the pages in order
 
@@ -79,9 +71,8 @@ module _ (dpi : Dpi) where
       (d : Difference) → AllAlike dpi before before' → DifferBy dpi page other d
       → DifferAt (before ++ page ∷ after) (before' ++ other ∷ after') (length before) d
   differ_at [] page after [] other after' d a by = by
-  differ_at [] page after (o ∷ before') other after' d a by = absurd a
-  differ_at (p ∷ before) page after [] other after' d a by = absurd a
   differ_at (p ∷ before) page after (o ∷ before') other after' d a by = (a.0, differ_at before page after before' other after' d a.1 by)
+  differ_at _ page after _ other after' d a by = absurd a
 
   first_at : {pages others : List Sheet} {number : ℕ} {d : Difference} → (f : DifferFirst dpi pages others number d)
       → DifferAt pages others (length f.pages_before) d
@@ -90,31 +81,24 @@ module _ (dpi : Dpi) where
       (differ_at f.pages_before f.page f.pages_after f.others_before f.other f.others_after d f.alike_before f.differ)
 
   none_differs : (pages others : List Sheet) (n : ℕ) (d : Difference) → AllAlike dpi pages others → DifferAt pages others n d → ⊥
-  none_differs [] others n d a p = p
-  none_differs (page ∷ pages) [] n d a p = p
   none_differs (page ∷ pages) (other ∷ others) zero d a p = alike_differs page other d a.0 p
   none_differs (page ∷ pages) (other ∷ others) (suc n) d a p = none_differs pages others n d a.1 p.1
+  none_differs _ _ n d a p = p
 
   pub alike_count : (pages others : List Sheet) → AllAlike dpi pages others → length pages ≡ length others
   alike_count [] [] a = refl
-  alike_count [] (other ∷ others) a = absurd a
-  alike_count (page ∷ pages) [] a = absurd a
-  alike_count (page ∷ pages) (other ∷ others) a = let rest = alike_count pages others a.1 in omega arith
+  alike_count (page ∷ pages) (other ∷ others) a = omega (arith, alike_count pages others a.1)
+  alike_count _ _ a = absurd a
 
   pub one_comparison : (pages others : List Sheet) (a b : Comparison) → Compare dpi pages others a → Compare dpi pages others b → a ≡ b
-  one_comparison pages others Same Same p q = refl
-  one_comparison pages others Same (PageCount n m) p q = absurd (q.2 (cc (alike_count pages others p)))
   one_comparison pages others Same (Page n d) p q = absurd (none_differs pages others (length q.1.pages_before) d p (first_at q.1))
-  one_comparison pages others (PageCount n m) Same p q = absurd (p.2 (cc (alike_count pages others q)))
-  one_comparison pages others (PageCount n m) (PageCount n' m') p q = cc
-  one_comparison pages others (PageCount n m) (Page n' d) p q = absurd (p.2 cc)
   one_comparison pages others (Page n d) Same p q = absurd (none_differs pages others (length p.1.pages_before) d q (first_at p.1))
-  one_comparison pages others (Page n d) (PageCount n' m') p q = absurd (q.2 cc)
   one_comparison pages others (Page n d) (Page m e) p q =
       let one = one_place (AreAlike dpi) (DifferBy dpi) alike_differs (one_difference dpi) pages others (length p.1.pages_before)
       (length q.1.pages_before) d e (first_at p.1) (first_at q.1) in
       let number : n ≡ m = omega (arith, p.1.counted, q.1.counted, one.0) in
       cc
+  one_comparison pages others _ _ p q = grind (arith, alike_count pages others)
 
 -- ---- the jobs
 
@@ -134,38 +118,31 @@ module _ (one : HasOneMeaning) (dpi : Dpi) (first second : List ℕ) where
   abbrev SecondRefused : Refusal → Type 0
   SecondRefused refusal = (pages : List Sheet) × HasPages dpi first pages × IsRefusal dpi second refusal
 
-  -- two answers are one, where two comparisons are
-  pub one_result : {C : Type 0} (Is : Result C SameFault → Type 0) → ((c : C) → Is (Ok c) → BothAccepted)
-      → ((r : Refusal) → Is (Err (Refused First r)) → IsRefusal dpi first r)
-      → ((r : Refusal) → Is (Err (Refused Second r)) → SecondRefused r)
-      → ((a b : C) → Is (Ok a) → Is (Ok b) → a ≡ b)
-      → (a b : Result C SameFault) → Is a → Is b → a ≢ Err Memory → b ≢ Err Memory → a ≡ b
-  one_result Is both refused later same (Err Memory) b p q m n = absurd (m refl)
-  one_result Is both refused later same a (Err Memory) p q m n = absurd (n refl)
-  one_result Is both refused later same (Ok a) (Ok b) p q m n = cc (same a b p q)
-  one_result Is both refused later same (Ok a) (Err (Refused First r)) p q m n =
-      absurd (one.apart dpi first (both a p).0 r (both a p).1 (refused r q))
-  one_result Is both refused later same (Ok a) (Err (Refused Second r)) p q m n =
-      absurd (one.apart dpi second (both a p).2 r (both a p).3 (later r q).2)
-  one_result Is both refused later same (Err (Refused First r)) (Ok b) p q m n =
-      absurd (one.apart dpi first (both b q).0 r (both b q).1 (refused r p))
-  one_result Is both refused later same (Err (Refused Second r)) (Ok b) p q m n =
-      absurd (one.apart dpi second (both b q).2 r (both b q).3 (later r p).2)
-  one_result Is both refused later same (Err (Refused First r)) (Err (Refused First s)) p q m n =
-      cc (one.refusal dpi first r s (refused r p) (refused s q))
-  one_result Is both refused later same (Err (Refused First r)) (Err (Refused Second s)) p q m n =
-      absurd (one.apart dpi first (later s q).0 r (later s q).1 (refused r p))
-  one_result Is both refused later same (Err (Refused Second r)) (Err (Refused First s)) p q m n =
-      absurd (one.apart dpi first (later r p).0 s (later r p).1 (refused s q))
-  one_result Is both refused later same (Err (Refused Second r)) (Err (Refused Second s)) p q m n =
-      cc (one.refusal dpi second r s (later r p).2 (later s q).2)
+  module _ {C : Type 0} (Is : Result C SameFault → Type 0) (both : (c : C) → Is (Ok c) → BothAccepted)
+      (refused : (r : Refusal) → Is (Err (Refused First r)) → IsRefusal dpi first r)
+      (later : (r : Refusal) → Is (Err (Refused Second r)) → SecondRefused r)
+      (same : (a b : C) → Is (Ok a) → Is (Ok b) → a ≡ b) where
+    -- two answers are one, where two comparisons are
+    pub one_result : (a b : Result C SameFault) → Is a → Is b → a ≢ Err Memory → b ≢ Err Memory → a ≡ b
+    one_result (Err Memory) b p q m n = absurd (m refl)
+    one_result a (Err Memory) p q m n = absurd (n refl)
+    one_result (Ok a) (Ok b) p q m n = cc (same a b p q)
+    one_result (Ok a) (Err (Refused First r)) p q m n = absurd (one.apart dpi first (both a p).0 r (both a p).1 (refused r q))
+    one_result (Ok a) (Err (Refused Second r)) p q m n = absurd (one.apart dpi second (both a p).2 r (both a p).3 (later r q).2)
+    one_result (Err (Refused First r)) (Ok b) p q m n = absurd (one.apart dpi first (both b q).0 r (both b q).1 (refused r p))
+    one_result (Err (Refused Second r)) (Ok b) p q m n = absurd (one.apart dpi second (both b q).2 r (both b q).3 (later r p).2)
+    one_result (Err (Refused First r)) (Err (Refused First s)) p q m n = cc (one.refusal dpi first r s (refused r p) (refused s q))
+    one_result (Err (Refused First r)) (Err (Refused Second s)) p q m n =
+        absurd (one.apart dpi first (later s q).0 r (later s q).1 (refused r p))
+    one_result (Err (Refused Second r)) (Err (Refused First s)) p q m n =
+        absurd (one.apart dpi first (later r p).0 s (later r p).1 (refused s q))
+    one_result (Err (Refused Second r)) (Err (Refused Second s)) p q m n =
+        cc (one.refusal dpi second r s (later r p).2 (later s q).2)
 
 pub same_answer : HasOneMeaning → (dpi : Dpi) (first second : List ℕ) (a b : Result Comparison SameFault)
     → IsCompared dpi first second a → IsCompared dpi first second b → a ≢ Err Memory → b ≢ Err Memory → a ≡ b
 same_answer one dpi first second =
     one_result one dpi first second (IsCompared dpi first second) (λ c p. (p.pages, p.meaning, p.others, p.other_meaning)) (λ r p. p)
     (λ r p. p) (λ a b p q. one_comparison dpi p.pages p.others a b p.compare
-    (rw (
-      one.pages dpi first p.pages q.pages p.meaning q.meaning,
-      one.pages dpi second p.others q.others p.other_meaning q.other_meaning,
-    ) q.compare))
+    (rw (one.pages dpi first p.pages q.pages p.meaning q.meaning)
+    (rw (one.pages dpi second p.others q.others p.other_meaning q.other_meaning) q.compare)))

@@ -3,7 +3,6 @@ use Rattle.std.proofs.Common.{◌≡◌, ◌≢◌, ℕ, List, [], ◌∷◌, �
 use Rattle.std.proofs.lemmas.List.{append_cancel_left}
 use Rattle.pcl_base.specs.declared.dpi.Dpi.{Dpi}
 use Rattle.pcl_base.specs.declared.operation.Asking.{Asking}
-use Rattle.pcl_base.specs.declared.operation.Asking.TheVariants.{Sides, OutputBin, MediaType, PaperSource, SheetSide}
 use Rattle.pcl_env.specs.declared.asked.Asked.{Asked}
 use Rattle.pcl_page.specs.Asks.{Asks, Exit as UniversalExit}
 use Rattle.pcl_page.specs.Jobs.{HasAsks}
@@ -12,7 +11,6 @@ use Rattle.pcl_same.specs.declared.comparison.AskedComparison.TheVariants as ask
 use Rattle.pcl_same.specs.declared.comparison.AsksDifference.{AsksDifference}
 use Rattle.pcl_same.specs.declared.comparison.AsksDifference.TheVariants.{Page, ExitCount, Exit}
 use Rattle.pcl_same.specs.declared.comparison.ExitDifference.{ExitDifference}
-use Rattle.pcl_same.specs.declared.comparison.ExitDifference.TheVariants.{Place, Lines}
 use Rattle.pcl_same.specs.declared.comparison.PagesDifference.TheVariants as pages
 use Rattle.pcl_same.specs.declared.comparison.SettingDifference.{SettingDifference}
 use Rattle.pcl_same.specs.declared.fault.SameFault.{SameFault}
@@ -46,12 +44,7 @@ module _ {A D : Type 0} (by : A → A → D → Type 0) (strict : (x y : A) (d :
 -- ---- a page
 
 same_order : (one other : Asking) → order_of one ≡ order_of other → one ≡ other
-same_order Sides Sides e = refl
-same_order OutputBin OutputBin e = refl
-same_order MediaType MediaType e = refl
-same_order PaperSource PaperSource e = refl
-same_order SheetSide SheetSide e = refl
-same_order one other e = absurd (omega arith)
+same_order one other e = grind arith
 
 one_setting : (one other : Asked) (d e : SettingDifference) → IsFirstSetting one other d → IsFirstSetting one other e → d ≡ e
 one_setting one other d e p q =
@@ -68,14 +61,10 @@ settings_differ one other d same p = p.differ (p.first ∙ ap (setting_of d.sett
 -- ---- a universal exit
 
 one_exit : (one other : UniversalExit) (d e : ExitDifference) → ExitsDifferBy one other d → ExitsDifferBy one other e → d ≡ e
-one_exit one other (Place a b) (Place a' b') p q = cc
-one_exit one other (Place a b) Lines p q = absurd (p.2 cc)
-one_exit one other Lines (Place a b) p q = absurd (q.2 cc)
-one_exit one other Lines Lines p q = refl
+one_exit one other d e p q = grind arith
 
 exits_differ : (one other : UniversalExit) (d : ExitDifference) → one ≡ other → ExitsDifferBy one other d → ⊥
-exits_differ one other (Place a b) same p = p.2 cc
-exits_differ one other Lines same p = p.1 cc
+exits_differ one other d same p = grind arith
 
 -- ---- what is asked
 
@@ -88,11 +77,9 @@ module _ (asks others : Asks) where
       let one = one_number IsFirstSetting settings_differ one_setting asks.pages others.pages n m d e p q in cc
   one_difference (Page n d) e p q = absurd (pages_unlike n d p q.0)
   one_difference d (Page m e) p q = absurd (pages_unlike m e q p.0)
-  one_difference (ExitCount a b) (ExitCount a' b') p q = cc
-  one_difference (ExitCount a b) (Exit m e) p q = absurd (p.3 cc)
-  one_difference (Exit n d) (ExitCount a b) p q = absurd (q.3 cc)
   one_difference (Exit n d) (Exit m e) p q =
       let one = one_number ExitsDifferBy exits_differ one_exit asks.exits others.exits n m d e p.2 q.2 in cc
+  one_difference _ _ p q = grind arith
 
   asks_unlike : (d : AsksDifference) → AsksDifferBy asks others d → asks ≢ others
   asks_unlike (Page n d) p = λ same. pages_unlike n d p cc
@@ -100,16 +87,10 @@ module _ (asks others : Asks) where
   asks_unlike (Exit n d) p = λ same. lists_differ ExitsDifferBy exits_differ asks.exits others.exits n d p.2 cc
 
   one_asked : (a b : AskedComparison) → of_pages a ≡ of_pages b → CompareAsks asks others a → CompareAsks asks others b → a ≡ b
-  one_asked asked.Same asked.Same e p q = refl
   one_asked asked.Same (asked.Asks d) e p q = absurd (asks_unlike d q p)
   one_asked (asked.Asks d) asked.Same e p q = absurd (asks_unlike d p q)
   one_asked (asked.Asks d) (asked.Asks d') e p q = cc (one_difference d d' p q)
-  one_asked (asked.Pages (pages.Count a b)) (asked.Pages (pages.Count a' b')) e p q = cc
-  one_asked (asked.Pages (pages.Page n d)) (asked.Pages (pages.Page m d')) e p q = cc
-  one_asked (asked.Pages (pages.Count a b)) other e p q = absurd cc
-  one_asked (asked.Pages (pages.Page n d)) other e p q = absurd cc
-  one_asked other (asked.Pages (pages.Count a b)) e p q = absurd cc
-  one_asked other (asked.Pages (pages.Page n d)) e p q = absurd cc
+  one_asked _ _ e p q = grind arith
 
 -- ---- the answer
 
@@ -120,14 +101,12 @@ OneAsks = (dpi : Dpi) (job : List ℕ) (asks others : Asks) → HasAsks dpi job 
 same_asked : HasOneMeaning → OneAsks → {dpi : Dpi} {first second : List ℕ} (a b : AskedComparison)
     → IsAskedComparison dpi first second a → IsAskedComparison dpi first second b → a ≡ b
 same_asked one one_asks {dpi} {first} {second} a b p q =
-    let compare : Compare dpi p.pages p.others (of_pages b) = rw (
-      one.pages dpi first p.pages q.pages p.meaning q.meaning,
-      one.pages dpi second p.others q.others p.other_meaning q.other_meaning,
-    ) q.compare in
-    let compare_asks : CompareAsks p.asks p.other_asks b = rw (
-      one_asks dpi first p.asks q.asks p.asked q.asked,
-      one_asks dpi second p.other_asks q.other_asks p.other_asked q.other_asked,
-    ) q.compare_asks in
+    let same = one.pages dpi second p.others q.others p.other_meaning q.other_meaning in
+    let compare : Compare dpi p.pages p.others (of_pages b) =
+    rw (one.pages dpi first p.pages q.pages p.meaning q.meaning, same) q.compare in
+    let alike = one_asks dpi second p.other_asks q.other_asks p.other_asked q.other_asked in
+    let compare_asks : CompareAsks p.asks p.other_asks b =
+    rw (one_asks dpi first p.asks q.asks p.asked q.asked, alike) q.compare_asks in
     one_asked p.asks p.other_asks a b (one_comparison dpi p.pages p.others (of_pages a) (of_pages b) p.compare compare) p.compare_asks
     compare_asks
 

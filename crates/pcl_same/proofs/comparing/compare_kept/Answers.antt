@@ -13,5 +13,4 @@ returns c = λ first kept.
     beside_kept c.one_meaning.ensures.pages kept (has_pages h) c.in_ok-asks.ensures.1 c.pages_difference-pages.result
     c.perform_asked.new.sink.found all
     (rw (count, c.deref-2.ensures.value ∙ ap (λ (s : Compared). s.found) c.comparer.view_is) at c.pages_difference-pages.ensures)
-    c.conclude.result
-    c.conclude.ensures.pages c.conclude.ensures.asks
+    c.conclude.result c.conclude.ensures.pages c.conclude.ensures.asks

@@ -7,8 +7,7 @@ pub loop-before-init : goal.loop-before-init
 loop-before-init c = tt
 
 pub returns-in-Some : goal.returns-in-Some
-returns-in-Some c =
-    (c.if-found-count.false, first_found c.args.found.now c.loop-before-test.true c.loop-before.invariant c.in-Some.is)
+returns-in-Some c = (c.if-found-count.false, first_found c.args.found.now c.loop-before-test.true c.loop-before.invariant c.in-Some.is)
 
 pub loop-before-preserved : goal.loop-before-preserved
 loop-before-preserved c = next_alike c.args.found.now c.loop-before-test.true c.loop-before.invariant c.in_default.is

@@ -14,8 +14,7 @@ returns-in-Some c = λ kept is_kept keeps.
     let down : y < page_height other.size other.dpi = omega (arith, c.loop-y-test.true, height) in
     row_differs other is_kept keeps c.requires.size c.requires.dpi (omega (arith, down)) c.loop-y.invariant.makes down
     (made_over other y c.loop-y.above c.row-row.result.now c.loop-y.invariant.above c.row-row.ensures.len
-    (rw c.row_data.ensures at c.decode.ensures))
-    c.row-row.ensures.bytes c.row-row.ensures.clear_pads c.in-Some.ensures
+    (rw c.row_data.ensures at c.decode.ensures)) c.row-row.ensures.bytes c.row-row.ensures.clear_pads c.in-Some.ensures
 
 pub loop-y-preserved : goal.loop-y-preserved
 loop-y-preserved c =
@@ -26,8 +25,7 @@ loop-y-preserved c =
           c.copy_from_slice.ensures.after c.row-row.ensures.len;
       makes = makes_more other c.args.self.now c.loop-y.invariant.makes
           (made_over other y c.loop-y.above c.row-row.result.now c.loop-y.invariant.above c.row-row.ensures.len
-          (rw c.row_data.ensures at c.decode.ensures))
-          (c.in_default.ensures ∙ c.row-row.ensures.bytes);
+          (rw c.row_data.ensures at c.decode.ensures)) (c.in_default.ensures ∙ c.row-row.ensures.bytes);
     }
 
 pub returns : goal.returns
