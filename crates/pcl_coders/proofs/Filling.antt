@@ -104,11 +104,7 @@ table_is_least {method} {seed} {row} {table} same size right = record {
   table_is = record {
     size = size;
     feasible = record {
-      steps = λ place e next l.
-          elim (cases_lt (length row) place) [
-            | inl past ↦ omega (arith, get_or_past table place 0 (omega arith))
-            | inr within ↦ rw l.next_is ((right place (omega arith) within).steps e l.element l.agrees)
-          ];
+      steps = λ place e next l. grind (arith, get_or_past, right place, l);
       ends = λ place end. grind (arith, get_or_past, right place);
     };
   };

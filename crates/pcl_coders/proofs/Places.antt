@@ -1,7 +1,7 @@
 -- The numbers of places, one after the other from the row's end.
 use Rattle.std.proofs.Common.{◌≡◌, ◌≢◌, ℕ, zero, suc, ◌+◌, ◌-◌, ◌*◌, ◌<◌, ◌≤◌, min, List, length, set, take, drop, replicate, refl, sym, ap, ◌∙◌, subst, inl, inr, arith}
 use Rattle.std.specs.Prelude.{slice_index}
-use Rattle.std.proofs.lemmas.Bool.{cases_lt, cases_eq}
+use Rattle.std.proofs.lemmas.Bool.{cases_lt}
 use Rattle.std.proofs.lemmas.Bool.Decides.{nat_tests}
 use Rattle.std.proofs.lemmas.List.{drop-drop, length-drop, length-replicate, get_or-drop, get_or-set_same}
 use Rattle.pcl_base.proofs.Lists.{run_behind}
@@ -179,10 +179,7 @@ run_next {row} {first} {end} {place} {run_end} begun inside next starts goes_on 
       | inr le ↦ let at : place + 1 ≡ end = omega arith in rw (last le, next.first at) (run_last begun at)
       | inl more ↦
           let is = next.run more in
-          elim (cases_eq (slice_index row place) (slice_index row (place + 1))) [
-            | inl same ↦ rw (goes_on more same) (grind (arith, is.same))
-            | inr differs ↦ rw (starts more differs) (grind (arith, begun.first_end.within))
-          ]
+          grind (arith, is.same, starts, goes_on, begun.first_end.within)
     ]
 
 -- ---- method 3: between two bytes that differ only the command grows
@@ -198,12 +195,7 @@ command_joins o k l some order = grind (arith, nat_tests)
 pub same_to_start : {old row : List ℕ} {place start : ℕ} → length old ≡ length row → IsLatestStart old row place start
     → IsSameLen (drop place old) (drop place row) (start - place)
 same_to_start {old} {row} {place} {start} size is =
-    same_len_of (omega (arith, length-drop place old, length-drop place row))
-    (record {
-      within = omega (arith, length-drop place old, is.within);
-      same = λ k below. grind (arith, get_or-drop, is.same (place + k));
-      differs = λ _ same. is.differs (grind (arith, get_or-drop, is.order));
-    })
+    same_len_of (omega (arith, length-drop place old, length-drop place row)) (grind (arith, get_or-drop, length-drop, is))
 
 -- the least of the replaced bytes and the number after them, where a replacement starts at a place
 pub record IsLeastBehind (table : List ℕ) (start most best : ℕ) : Type 0 where

@@ -63,12 +63,7 @@ latest_is_as_good old row (e ∷ es) place start size is walk =
           latest_step (walk.0 - start) es size is (omega arith) (omega (arith, d.few, d.next_is, d.early)) (omega arith) d.within walk.2
           (omega (arith, d.cost_is, d.next_is, d.early, command_grows (offset_of e.head) last d.early))
       | inr near ↦
-          let later : IsLatestStart old row walk.0 start = record {
-            order = near;
-            within = is.within;
-            same = λ k low high. is.same k (omega (arith, d.next_is)) high;
-            differs = is.differs;
-          } in
+          let later : IsLatestStart old row walk.0 start = grind (arith, is, d.next_is) in
           let r = latest_is_as_good old row es walk.0 start size later walk.2 in
           let f = delta_step size later r.walk.1 in
           let left : offset_of r.first.head ≡ last - (offset_of e.head + d.len) = omega (arith, r.offset_is, d.next_is) in

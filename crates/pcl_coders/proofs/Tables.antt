@@ -1,5 +1,5 @@
 -- Tables that are known without being filled, and what a table of least numbers says of its places.
-use Rattle.std.proofs.Common.{◌≡◌, ℕ, ◌+◌, ◌-◌, ◌⊎◌, List, [], ◌∷◌, ◌++◌, length, take, drop, refl, ap, ◌∙◌, subst, inl, inr, arith}
+use Rattle.std.proofs.Common.{◌≡◌, ℕ, ◌+◌, ◌-◌, ◌⊎◌, List, [], ◌∷◌, ◌++◌, length, take, drop, refl, ap, ◌∙◌, subst, inl, inr, arith, zero-add}
 use Rattle.std.specs.Prelude.{slice_index}
 use Rattle.std.proofs.lemmas.Bool.{cases_lt}
 use Rattle.std.proofs.lemmas.List.{length-take-le, drop_at, take-append-drop}
@@ -60,9 +60,8 @@ plain_least {seed} {row} {end} codable first =
             | inr fits ↦
                 let laid = one_row Plain bytes old row (overlaid old 0 bytes) has.decodes (row_of_plain bytes old)
                 ∙ overlaid_within old 0 bytes (omega arith) in
-                let begin : 0 + length bytes ≡ length bytes = omega arith in
                 first.first (length bytes)
-                (ap (drop (length bytes)) (rw begin at laid) ∙ drop_at bytes (drop (length bytes) old) (length bytes) refl)
+                (ap (drop (length bytes)) (rw zero-add at laid) ∙ drop_at bytes (drop (length bytes) old) (length bytes) refl)
           ];
     }
 
