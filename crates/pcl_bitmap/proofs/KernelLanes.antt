@@ -92,8 +92,5 @@ zeros_more {row} {len} {count} from fits more =
 pub zeros_by_len : (row : List ℕ) (len : ℕ) → IsTrimmedLen row len → (len ≡ 0) ↔ All (λ byte. byte ≡ 0) row
 zeros_by_len row len trimmed = (
   λ none. All-from_get_or (λ n. n ≡ 0) row 0 (λ i _. trimmed.zeros i (omega arith)),
-  λ zeros. elim (cases_lt 0 len) [
-    | inl some ↦ absurd (trimmed.last some (All-get_or (λ n. n ≡ 0) row (len - 1) 0 (omega (arith, trimmed.within)) zeros))
-    | inr none ↦ omega arith
-  ],
+  λ zeros. grind (arith, trimmed.last, trimmed.within, All-get_or (λ n. n ≡ 0) row (len - 1) 0),
 )

@@ -74,5 +74,4 @@ pub zeros_from_white : (zs : List ℕ) (w : ℕ)
     → All (λ n. n ≡ 0) zs
 zeros_from_white zs w bytes pads white =
     All-from_get_or (λ n. n ≡ 0) zs 0 (λ i within. same_byte (All-get_or (λ n. n < 256) zs i 0 within bytes) (lit< tt) (λ k small.
-    sym (dot_at zs i small refl) ∙ (elim (cases_lt (8 * i + k) w) [ inl seen ↦ white (8 * i + k) seen | inr pad ↦ pads (8 * i + k) pad ])
-    ∙ sym (bit_of_byte-zero k)))
+    grind (arith, dot_at zs i small refl, white (8 * i + k), pads (8 * i + k), bit_of_byte-zero k)))
