@@ -6,7 +6,7 @@ use Rattle.pcl_base.proofs.Lists.{once_each}
 use Rattle.pcl_base.specs.declared.method.Method.{Method}
 use Rattle.pcl_rows.specs.Heads.{Head, Itself, Count, Literal, Skipped, Repeat, Near, Far, method_of, IsInRange, head_bytes, new_count, offset_of}
 use Rattle.pcl_rows.specs.Elements.{Element, IsElement, element_bytes, given_by}
-use Rattle.pcl_rows.specs.Decoding.{Front, repeated, literal, further, front_of}
+use Rattle.pcl_rows.specs.Decoding.{Front, literal, further, front_of}
 
 -- the element there; no data gives nothing
 abbrev pub first_of : Method → List ℕ → Front
@@ -24,10 +24,8 @@ further_at (suc full) offset count {last} behind lt =
 -- data that begins with a whole head: its new bytes follow, as many as there are
 pub front_at : (head : Head) (tail : List ℕ) → IsInRange head → first_of (method_of head) (head_bytes head ++ tail)
     ≡ record { offset = offset_of head; given = given_by head (take (new_count head) tail); rest = drop (new_count head) tail }
-front_at Itself [] r = refl
-front_at Itself (byte ∷ tail) r = refl
-front_at (Count count) [] r = refl
-front_at (Count count) (byte ∷ tail) r = rw append-nil
+front_at Itself tail r = grind arith
+front_at (Count count) tail r = grind (arith, append-nil)
 front_at (Literal control) tail r =
     let low : nat_lt control 128 ≡ true = grind (arith, nat_tests) in
     rw (low, once_each (take (control + 1) tail))
@@ -35,12 +33,7 @@ front_at Skipped tail r = refl
 front_at (Repeat control) tail r =
     let high : nat_lt control 128 ≡ false = grind (arith, nat_tests) in
     let other : (control == 128) ≡ false = grind (arith, nat_tests) in
-    rw (high, other) (repeated_at tail)
-  where
-    repeated_at : (tail : List ℕ) → repeated (257 - control) tail
-        ≡ record { offset = 0; given = given_by (Repeat control) (take 1 tail); rest = drop 1 tail }
-    repeated_at [] = refl
-    repeated_at (byte ∷ tail) = rw append-nil
+    rw (high, other) (grind (arith, append-nil))
 front_at (Near count offset) tail r =
     let low : (32 * count + offset) % 32 ≡ offset = omega arith in
     let high : (32 * count + offset) / 32 ≡ count = omega arith in
