@@ -7,14 +7,12 @@ use Rattle.pcl_escape.specs.declared.step.Prefix.{Prefix}
 use Rattle.pcl_escape.specs.Letter.{prefix_bytes}
 use Rattle.pcl_escape.specs.Exit.{joined}
 use Rattle.pcl_escape.specs.Said.{Said}
-use Rattle.pcl_base.specs.Operation.{operation_of}
-use Rattle.pcl_base.specs.declared.name.Name.TheVariants.{One}
-use Rattle.pcl_escape.specs.inner.Scan.{Reads, step_at, start_at, sequence_at, prefix_at, parameter_at, commands_said, with_front, and_then, outcome, outcome_of}
+use Rattle.pcl_escape.specs.inner.Scan.{Reads, step_at, start_at, sequence_at, prefix_at, parameter_at, commands_said, with_front, and_then, outcome, outcome_of, named_at}
 use Rattle.pcl_escape.specs.Pieces.{Parameter, Piece, silent, control, text, two_character, combined, exit, IsPrefix, IsPiece, ArePieces, IsMiddle, IsEnd, IsReading, parameter_bytes, spelling, command_of, parameter_commands, first_place, commands_from, commands_of}
-use Rattle.pcl_escape.specs.Faults.{Fails, unknown_control, lone_escape, no_sequence, unknown_two, no_group, bad_group, in_parameter, in_line, IsUngrouped, FailsParameter, place_behind, IsFault}
+use Rattle.pcl_escape.specs.Faults.{Fails, in_parameter, in_line, IsUngrouped, FailsParameter, place_behind, IsFault, unknown_control, lone_escape, no_sequence, unknown_two, no_group, bad_group}
 use Rattle.pcl_escape.proofs.Lines.{foreign}
 use Rattle.pcl_escape.proofs.Steps.{Inside, is_inside, found_shorter, is_middle, is_end, is_wrong, parameter_shorter, parameter_joined, inside_reads}
-use Rattle.pcl_escape.proofs.Starts.{piece_reads, named_again, unknown_again, at_control, at_two, at_prefix, text_again, inside_again, exit_first, exit_again, parts_apart}
+use Rattle.pcl_escape.proofs.Starts.{piece_reads, text_again, inside_again, exit_first, exit_again, parts_apart, named_control, named_two}
 use Rattle.pcl_escape.proofs.Runs.{Last, no_more, first_fault, sequence_bytes, place_from, place_from_more, place_in_sequence, place_prefixed, grouped_any, middle_grouped, place_of, place_further, place_in, with_fronts, no_front, step_shorter, GoesOn}
 
 -- ---- any number of steps that is enough
@@ -139,15 +137,14 @@ piece_on piece {n} at {rest} long e h gives =
 piece_again : (piece : Piece) (n at : ℕ) (bytes : List ℕ) {read : Result (List Said) Refusal} → IsPiece piece bytes
     → length (spelling piece ++ bytes) < n → Gives (at + length (spelling piece)) bytes read
     → outcome n None at (spelling piece ++ bytes) ≡ with_front (commands_from at piece) read
-unfolding start_at
+unfolding start_at sequence_at named_at
 piece_again piece zero at bytes is h gives = absurd (omega arith)
 piece_again (silent byte) (suc n) at bytes is h gives = piece_on (silent byte) at {said = None} (omega arith) (rw is refl) h gives
-piece_again (control code) (suc n) at bytes is h gives =
-    piece_on (control code) at (omega arith) (at_control at code bytes is.0 is.1 ∙ named_again (operation_of (One code)) is.2) h gives
+piece_again (control code) (suc n) at bytes is h gives = piece_on (control code) at (omega arith) (named_control at bytes is) h gives
 piece_again (text []) (suc n) at bytes is h gives = absurd is
 piece_again (text (byte ∷ more)) (suc n) at bytes is h gives = piece_on (text (byte ∷ more)) at (omega arith) (text_again is) h gives
 piece_again (two_character byte) (suc n) at bytes is h gives =
-    piece_on (two_character byte) at (omega arith) (at_two at byte bytes is.0 ∙ named_again (operation_of (One byte)) is.1) h gives
+    piece_on (two_character byte) at (omega arith) (named_two at bytes is) h gives
 piece_again (combined prefix middle end sent) (suc n) at bytes is h gives =
     let long = simp length-append at h in
     let field = end.field in
@@ -163,15 +160,7 @@ piece_again (exit field lines) (suc n) at bytes is h gives = piece_on (exit fiel
 -- the fault at a place outside sequences is found
 fault_found : {n at : ℕ} {bytes : List ℕ} {refusal : Refusal} → Fails at bytes refusal → length bytes < suc n
     → outcome (suc n) None at bytes ≡ Err refusal
-unfolding outcome start_at sequence_at prefix_at
-fault_found {at} (unknown_control {code = code} {bytes = rest} c s o) h =
-    rw (at_control at code rest c s, unknown_again rest (operation_of (One code)) o) refl
-fault_found lone_escape h = refl
-fault_found (no_sequence t p) h = rw (t, p) refl
-fault_found {at} (unknown_two {byte = byte} {bytes = rest} t o) h =
-    rw (at_two at byte rest t, unknown_again rest (operation_of (One byte)) o) refl
-fault_found {at} (no_group {byte = byte} p u) h = rw (at_prefix at byte [] p) refl
-fault_found {at} (bad_group {byte = byte} {group = group} {bytes = rest} p u g) h = rw (at_prefix at byte (group ∷ rest) p, g, u) refl
+unfolding outcome start_at sequence_at prefix_at named_at
 fault_found {n} {at} (in_parameter prefix middle is apart each f) h =
     let long = simp length-append at h in
     rw (sequence_on n at middle is apart each (is_wrong f)) (broken_again middle n at (first_place at prefix) each
@@ -179,6 +168,12 @@ fault_found {n} {at} (in_parameter prefix middle is apart each f) h =
 fault_found {at} (in_line {bytes = rest} field lines line f x e each ends l p) h =
     let bytes = joined lines ++ (line ++ rest) in
     rw (← parameter_joined field 88 bytes, exit_first at field bytes f x e (foreign lines line rest each ends l p)) refl
+fault_found (unknown_control c s o) h = grind (arith, nat_tests)
+fault_found lone_escape h = refl
+fault_found (no_sequence t p) h = rw (t, p) refl
+fault_found (unknown_two t o) h = grind (arith, nat_tests)
+fault_found (no_group p u) h = grind (arith, nat_tests)
+fault_found (bad_group p u g) h = grind (arith, nat_tests)
 
 -- what stands after the last piece is read so
 last_again : (n : ℕ) {at : ℕ} {behind : List ℕ} {last : Result (List Said) Refusal} → Last at behind last → length behind < n

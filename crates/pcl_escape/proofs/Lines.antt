@@ -1,7 +1,6 @@
 -- The lines after a universal exit: what is skipped is what they are, both ways.
 use Rattle.std.proofs.Common.{◌≡◌, ℕ, zero, suc, ◌+◌, ◌-◌, ◌<◌, ◌≤◌, Bool, true, false, ◌==◌, not, nat_eq, if◌then◌else◌, IsTrue, List, [], ◌∷◌, ◌++◌, length, take, drop, ◌⊎◌, inl, inr, Result, Ok, Err, refl, sym, ap, subst, ◌∙◌, append_assoc, append-nil, length-append, length-drop, length-take-le, take-append-drop, take_at, drop_at, add-zero, eqb-true, arith}
 use Rattle.std.specs.Prelude.{codes}
-use Rattle.std.proofs.lemmas.Bool.{cases_Bool}
 use Rattle.std.proofs.lemmas.Grind.{flat_map-append}
 use Rattle.std.specs.Str.{bytes_eq}
 use Rattle.pcl_escape.specs.Exit.{is_job_line, names_language, names_pcl, HasNoFeed, IsLine, joined, AreOtherLines, AreLines, to_other_bytes, to_pcl}
@@ -36,20 +35,19 @@ line_ends (byte ∷ bytes) = by_test (λ (n : ℕ). Ends (take n (byte ∷ bytes
 -- a word without LF at the front is in the line at the front
 word_in_line : (word bytes : List ℕ) → HasNoFeed word → bytes_eq word (take (length word) bytes) ≡ true
     → bytes_eq word (take (length word) (take (line_len bytes) bytes)) ≡ true
-word_in_line [] bytes none e = refl
-word_in_line (c ∷ word) [] none e = absurd cc
 word_in_line (c ∷ word) (byte ∷ bytes) none e =
     let same : nat_eq c byte ≡ true = grind arith in
     let other = rw (eqb-true c byte same) at none.0 in
     rw (other, same) (word_in_line word bytes none.1 (grind arith))
+word_in_line [] bytes none e = refl
+word_in_line _ _ none e = absurd cc
 
 -- a word at the front of a line is at the front of what it begins
 word_before : (word line behind : List ℕ) → bytes_eq word (take (length word) line) ≡ true
     → bytes_eq word (take (length word) (line ++ behind)) ≡ true
 word_before [] line behind e = refl
 word_before (c ∷ word) [] behind e = absurd cc
-word_before (c ∷ word) (byte ∷ line) behind e =
-    let same : nat_eq c byte ≡ true = grind arith in rw same (word_before word line behind (grind arith))
+word_before (c ∷ word) (byte ∷ line) behind e = grind (arith, word_before word line behind)
 
 -- the line at the front is a line
 line_is : (bytes : List ℕ) → is_job_line bytes ≡ true → IsLine (take (line_len bytes) bytes) (drop (line_len bytes) bytes)
@@ -85,12 +83,8 @@ pub lines_enough : (n m place : ℕ) (bytes : List ℕ) → length bytes < n →
 unfolding lines_from
 lines_enough zero m place bytes h k = absurd (omega arith)
 lines_enough (suc n) zero place bytes h k = absurd (omega arith)
-lines_enough (suc n) (suc m) place bytes h k = elim (cases_Bool (is_job_line bytes)) [
-  | inl e ↦
-      let shorter = behind_shorter bytes e in
-      rw (lines_enough n m (place + line_len bytes) (drop (line_len bytes) bytes) (omega arith) (omega arith)) refl
-  | inr e ↦ rw e refl
-]
+lines_enough (suc n) (suc m) place bytes h k =
+    grind (arith, behind_shorter bytes, lines_enough n m (place + line_len bytes) (drop (line_len bytes) bytes))
 
 -- ---- from the steps to the lines
 

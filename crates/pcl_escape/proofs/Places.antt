@@ -52,10 +52,8 @@ further more bytes (Err fault) s = tt
 
 code_stands : (at code : ℕ) (rest : List ℕ) → Stands (code ∷ rest) (named_at at code rest)
 unfolding named_at
-code_stands at code rest = elim (operation_of (One code)) as (λ operation. Stands (code ∷ rest) (named_by operation at code rest)) [
-  | None ↦ tt
-  | Some operation ↦ record { front = code ∷ []; joined = refl; told = refl }
-]
+code_stands at code rest = elim (operation_of (One code)) as (λ operation. Stands (code ∷ rest) (named_by operation at code rest))
+    [ None ↦ tt | Some operation ↦ record { front = code ∷ []; joined = refl; told = refl } ]
 
 -- ---- parameters
 

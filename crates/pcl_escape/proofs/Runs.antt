@@ -211,12 +211,9 @@ is_read (suc n) (Some prefix) at bytes h = λ g. rest_after (grouped_step g)
 -- what a reading without fault says of the job
 all_read : {job : List ℕ} {read : Result (List Said) Refusal} {commands : List Said} → Reading 0 job read → read ≡ Ok commands
     → IsReading job commands
-all_read (reading pieces behind last each no_more) e = record {
-  pieces = pieces;
-  each = each;
-  spelled = append-nil (flat_map spelling pieces);
-  said = let whole = append-nil (commands_of 0 pieces) in cc;
-}
+all_read (reading pieces behind last each no_more) e =
+    let said = append-nil (commands_of 0 pieces) in
+    record { pieces = pieces; each = each; spelled = append-nil (flat_map spelling pieces); said = cc }
 all_read (reading pieces behind last each (first_fault f)) e = absurd cc
 
 -- what a reading with a fault says of the job

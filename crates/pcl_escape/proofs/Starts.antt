@@ -182,25 +182,17 @@ start_step {at} {byte} {rest} =
 
 -- ---- from the parts to the step
 
--- a step at a control code looks at its name
-pub at_control : (at code : ℕ) (rest : List ℕ) → is_control code ≡ true → is_silent code ≡ false
-    → start_at at (code ∷ rest) ≡ named_by (operation_of (One code)) at code rest
+-- a step reads a control code that is performed
+pub named_control : {code : ℕ} (at : ℕ) (rest : List ℕ) → IsPiece (control code) rest
+    → start_at at (code ∷ rest) ≡ piece_reads (Some (bare_command at code)) rest
 unfolding start_at named_at
-at_control at code rest c s = grind (arith, nat_tests)
+named_control at rest is = grind (arith, nat_tests, named_again)
 
--- a step at text reads its run
-at_text : {at : ℕ} (byte : ℕ) (rest : List ℕ) → is_text byte ≡ true
-    → start_at at (byte ∷ rest)
-    ≡ piece_reads (Some (text_command at (take (prefix_len is_text (byte ∷ rest)) (byte ∷ rest))))
-    (drop (prefix_len is_text (byte ∷ rest)) (byte ∷ rest))
-unfolding start_at text_at
-at_text byte rest t = grind (arith, nat_tests)
-
--- a step at a two-character sequence looks at its name
-pub at_two : (at byte : ℕ) (rest : List ℕ) → is_two_character byte ≡ true
-    → start_at at (27 ∷ byte ∷ rest) ≡ named_by (operation_of (One byte)) at byte rest
+-- a step reads a two-character sequence that is performed
+pub named_two : {byte : ℕ} (at : ℕ) (rest : List ℕ) → IsPiece (two_character byte) rest
+    → start_at at (27 ∷ byte ∷ rest) ≡ piece_reads (Some (bare_command at byte)) rest
 unfolding start_at sequence_at named_at
-at_two at byte rest t = rw t refl
+named_two at rest is = grind (arith, nat_tests, named_again)
 
 -- a step at a parameterized character looks at the group character
 pub at_prefix : (at byte : ℕ) (rest : List ℕ) → is_parameterized byte ≡ true → start_at at (27 ∷ byte ∷ rest) ≡ prefix_at at byte rest
@@ -210,9 +202,11 @@ at_prefix at byte rest p = grind (arith, nat_tests)
 -- a step reads a run of text
 pub text_again : {at byte : ℕ} {more rest : List ℕ} → IsRun (byte ∷ more) rest
     → start_at at ((byte ∷ more) ++ rest) ≡ piece_reads (Some (text_command at (byte ∷ more))) rest
+unfolding start_at text_at
 text_again {at} {byte} {more} {rest} is =
-    let reads : List ℕ × List ℕ → Result Reads Refusal = λ parts. piece_reads (Some (text_command at parts.0)) parts.1 in
-    at_text byte (more ++ rest) is.0.0 ∙ ap reads (front_again is_text (byte ∷ more) rest is.0 ((no_text rest).1 is.1))
+    let front = front_again is_text (byte ∷ more) rest is.0 ((no_text rest).1 is.1) in
+    let text : is_text byte ≡ true = is.0.0 in
+    grind (arith, nat_tests, ap (λ (p : List ℕ × List ℕ). p.0) front, ap (λ (p : List ℕ × List ℕ). p.1) front)
 
 -- ---- the first parameter of a sequence
 
