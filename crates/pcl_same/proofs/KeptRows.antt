@@ -146,10 +146,7 @@ module _ {kept : Picture} (other : Picture) {held : KeptBitmap} {count : ℕ} (i
       let found = rw (← made_is, row_is) at first in
       let width : page_width kept.size kept.dpi ≡ page_width other.size other.dpi = rw (sizes, resolutions) refl in
       record {
-        across = elim (cases_lt x (page_width kept.size kept.dpi)) [
-          | inl inside ↦ inside
-          | inr past ↦ absurd (found.differs (is_kept.clear_pads x count past ∙ sym (rw row_is at (pads x (omega (arith, width))))))
-        ];
+        across = grind (arith, found.differs, is_kept.clear_pads x count, rw row_is at (pads x), width);
         down = omega (arith, heights);
         differs = found.differs;
         above = λ px py across before. ap (λ (row : List ℕ). dot_of_row row px) (above_same (suc py) (omega arith));
