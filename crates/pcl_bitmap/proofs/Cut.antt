@@ -1,6 +1,5 @@
 -- What is seen of a pattern.
-use Rattle.std.proofs.Common.{◌≡◌, ℕ, ℤ, ◌+◌, ◌-◌, ◌*◌, ◌/◌, ◌%◌, ◌<◌, ◌≤◌, min, nat_le, nat_lt, Bool, false, ◌&&◌, ◌||◌, if◌then◌else◌, Some, None, List, drop, inl, inr, ◌⊎◌, arith}
-use Rattle.std.proofs.lemmas.Bool.{cases_lt}
+use Rattle.std.proofs.Common.{◌≡◌, ℕ, ℤ, ◌+◌, ◌-◌, ◌*◌, ◌/◌, ◌%◌, ◌<◌, ◌≤◌, min, nat_le, nat_lt, Bool, false, ◌&&◌, ◌||◌, if◌then◌else◌, Some, None, List, drop, ◌⊎◌, arith}
 use Rattle.std.proofs.lemmas.Bool.Decides.{nat_tests}
 use Rattle.std.proofs.lemmas.Nat.{mul-le, div_below, mod_below, div-add-mod', div-mul-add}
 use Rattle.pcl_bitmap.specs.Bitmap.{dot_of_row}
@@ -41,16 +40,9 @@ pub seen_pattern : (x y : ℤ) (left top skip_x skip_y wide high w h s n width h
 seen_pattern x y left top skip_x skip_y wide high w h s n width height px py rows d some e_n e_w e_h e_x e_y within on_page =
     let across : ℕ = px + skip_x - left in
     let down : ℕ = py + skip_y - top in
-    rw (e_x, e_y, seen_bit, quotient_test across s width some, quotient_test down s height some, e_n) (elim (cases_lt px left) [
-      | inl before ↦ grind (arith, nat_tests)
-      | inr right ↦ elim (cases_lt py top) [
-        | inl above ↦ grind (arith, nat_tests)
-        | inr below ↦
-            let in_x : skip_x + (px - left) ≡ px + skip_x - left = omega arith in
-            let in_y : py - top + skip_y ≡ py + skip_y - top = omega arith in
-            rw (in_x, in_y) (grind (arith, nat_tests))
-      ]
-    ])
+    let in_x : left ≤ px → skip_x + (px - left) ≡ px + skip_x - left = λ h. omega arith in
+    let in_y : top ≤ py → py - top + skip_y ≡ py + skip_y - top = λ h. omega arith in
+    rw (e_x, e_y, seen_bit, quotient_test across s width some, quotient_test down s height some, e_n) (grind (arith, nat_tests, in_x, in_y))
 
 -- a row that is seen is one of the pattern's
 pub seen_row : (j skip s height n size : ℕ) → 1 ≤ s → j + skip < height * s → height * n ≤ size → (j + skip) / s * n ≤ size

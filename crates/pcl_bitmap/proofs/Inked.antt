@@ -1,6 +1,5 @@
 -- Rectangles of dots that take ink, row by row, and the pages that they are on.
-use Rattle.std.proofs.Common.{◌≡◌, ℕ, ◌+◌, ◌-◌, ◌*◌, ◌<◌, ◌≤◌, Bool, ◌||◌, if◌then◌else◌, min, List, length, get_or, drop, All, inl, inr, arith}
-use Rattle.std.proofs.lemmas.Bool.{cases_lt}
+use Rattle.std.proofs.Common.{◌≡◌, ℕ, ◌+◌, ◌-◌, ◌*◌, ◌<◌, ◌≤◌, Bool, ◌||◌, if◌then◌else◌, min, List, length, get_or, drop, All, arith}
 use Rattle.std.proofs.lemmas.Bool.Decides.{nat_tests}
 use Rattle.std.proofs.lemmas.List.Elements.{All-from_get_or}
 use Rattle.pcl_base.specs.declared.dpi.Dpi.{Dpi}
@@ -81,13 +80,15 @@ drawn {size} {dpi} {old} {new} {lent} {page} x y w h r ink after is_picture e_ol
       picture = record {
         whole = rw (len, e_old) is_picture.whole;
         in_bytes = bytes;
-        clear_pads = λ px py off.
-            elim (cases_lt px (8 * page_row_bytes size dpi)) [
-              | inl pad ↦
-                  let white = is_picture.clear_pads px py off in
-                  rw (dot_in_page page n py pad, bits px py pad) (grind (arith, nat_tests, white, dot_in_page old n py pad))
-              | inr past ↦ dot_past_row (drop (py * n) page) n past
-            ];
+        clear_pads = λ px py off. grind (
+          arith,
+          nat_tests,
+          is_picture.clear_pads px py off,
+          bits px py,
+          dot_in_page page n {x = px} py,
+          dot_in_page old n {x = px} py,
+          dot_past_row (drop (py * n) page) n {x = px},
+        );
       };
       dots = λ px py in_row on_page.
           let room : px < 8 * page_row_bytes size dpi = omega (arith, wide_rows size dpi) in

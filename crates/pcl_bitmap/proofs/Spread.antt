@@ -1,9 +1,8 @@
 -- Bits that are spread to squares of dots.
-use Rattle.std.proofs.Common.{◌≡◌, ℕ, ◌+◌, ◌-◌, ◌*◌, ◌/◌, ◌%◌, ◌^◌, ◌<◌, ◌≤◌, min, nat_lt, Bool, ◌||◌, if◌then◌else◌, List, get_or, bit_and, bit_or, add-zero, ap, ◌∙◌, inl, inr, arith}
+use Rattle.std.proofs.Common.{◌≡◌, ℕ, ◌+◌, ◌-◌, ◌*◌, ◌/◌, ◌%◌, ◌^◌, ◌<◌, ◌≤◌, min, nat_lt, Bool, ◌||◌, if◌then◌else◌, List, get_or, bit_and, bit_or, add-zero, ap, ◌∙◌, arith}
 use Rattle.std.specs.Int.{bit_at, div_ceil}
 use Rattle.std.proofs.Math.Nat.{mul-add-div_right}
 use Rattle.std.proofs.lemmas.Grind.{div_ceil_times}
-use Rattle.std.proofs.lemmas.Bool.{cases_lt}
 use Rattle.std.proofs.lemmas.Bool.Decides.{nat_tests}
 use Rattle.std.proofs.lemmas.Nat.{pow_pos, shr-shr, shl_whole, mul-le, div_below, le-div, mod_below, div-add-mod', div-mul-add}
 use Rattle.std.proofs.lemmas.Nat.Bits.{bit_at-zero, bit_at_or, bit_at_ones, bit_at_ones_above, ones_shr, bit_at_cat_low, bit_at_cat_high}
@@ -74,14 +73,9 @@ pub spread_more : (row now new : List ℕ) (s first i k : ℕ)
     else dot_of_row now k)
     → k < 8 * (s * (i + 1)) → dot_of_row new k ≡ dot_of_row row (8 * first + k / s)
 spread_more row now new s first i k some above added within =
-    elim (cases_lt k (8 * (s * i))) [
-      | inl before ↦ grind (arith, nat_tests)
-      | inr since ↦
-          let small : (k - 8 * (s * i)) / s < 8 = div_below (k - 8 * (s * i)) s 8 some (omega arith) in
-          let moved : k / s ≡ 8 * i + (k - 8 * (s * i)) / s = quotient_moved (8 * i) k (k - 8 * (s * i)) some (omega arith) in
-          let here = dot_at row {x = 8 * first + k / s} (first + i) small (omega (arith, moved)) in
-          grind (arith, nat_tests, here)
-    ]
+    let small = div_below (k - 8 * (s * i)) s 8 some in
+    let moved = quotient_moved (8 * i) k (k - 8 * (s * i)) some in
+    grind (arith, nat_tests, small, moved, dot_at row {x = 8 * first + k / s} (first + i) {m = (k - 8 * (s * i)) / s})
 
 -- the squares of a row of raster data, cut at the page's edges
 pub squares_dot : (wide high x y w h s width px py : ℕ) (row : List ℕ) (d : Bool)
