@@ -1,4 +1,4 @@
-use Rattle.std.proofs.Common.{◌≡◌, Bool, true, if◌then◌else◌, ◌≤◌, ◌+◌, ◌-◌, length, take, drop, Ok, Err, sym, ap, ◌∙◌, arith}
+use Rattle.std.proofs.Common.{◌≡◌, Bool, true, if◌then◌else◌, ◌≤◌, ◌+◌, ◌-◌, length, Ok, Err, sym, ap, ◌∙◌, arith}
 use Rattle.pcl_escape.specs.Exit.{names_language, names_pcl}
 use Rattle.pcl_escape.specs.inner.Lines.{lines_at}
 use Rattle.pcl_escape.proofs.Lines.{IsCut, at_other_bytes, at_other_line, at_asking_line}
@@ -8,11 +8,7 @@ use Rattle.pcl_escape.proofs.exit.skip_lines.Goals.{After-front-1}
 
 -- the line at the front is cut off
 cut_off : (c : After-front-1) → IsCut c.loop-line.rest.now c.split_at.result.0.now c.split_at.result.1.now
-cut_off c = record {
-  job = c.loop-line-test.ensures.value;
-  line_is = c.split_at.ensures.front ∙ ap (λ n. take n c.loop-line.rest.now) c.line_len.ensures.count;
-  behind_is = c.split_at.ensures.back ∙ ap (λ n. drop n c.loop-line.rest.now) c.line_len.ensures.count;
-}
+cut_off c = record { job = c.loop-line-test.ensures.value; line_is = cc; behind_is = cc }
 
 -- where it asks for a language, nothing more is skipped
 asking : (c : After-front-1) {pcl : Bool} → true ≡ names_language c.split_at.result.0.now → pcl ≡ names_pcl c.split_at.result.0.now
