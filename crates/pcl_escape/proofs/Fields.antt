@@ -1,6 +1,5 @@
 -- A value field that is read from the left is the field that was spelled there.
 use Rattle.std.proofs.Common.{◌≡◌, ℕ, Bool, true, false, ◌||◌, eqb, if◌then◌else◌, List, [], ◌∷◌, ◌++◌, Option, Some, None, refl, ap, subst, append_assoc, arith}
-use Rattle.std.proofs.lemmas.Bool.{eqb-true}
 use Rattle.std.proofs.lemmas.Bool.Decides.{nat_tests}
 use Rattle.std.specs.Prelude.{IfSome, is_none}
 use Rattle.pcl_base.specs.declared.value.Sign.{Sign}
@@ -66,10 +65,7 @@ fraction_split : (bytes : List ℕ) → IsFractionFront bytes (fraction_at bytes
 fraction_split [] = record { joined = refl; digits = tt; no_point = λ e. tt; no_digit = λ n. n; same = λ e. refl }
 fraction_split (byte ∷ bytes) =
     let d = front_split is_digit bytes in
-    by_test (IsFractionFront (byte ∷ bytes)) (eqb byte 46) (λ p.
-    let joined : byte ∷ bytes ≡ 46 ∷ ((digits_at bytes).0 ++ (digits_at bytes).1) = cc (eqb-true byte 46 p, d.joined) in
-    record { joined = joined; digits = d.pass; no_point = λ e. absurd cc; no_digit = λ n. d.stops; same = λ e. absurd cc })
-    (λ p. record { joined = refl; digits = tt; no_point = λ e. p; no_digit = λ n. n; same = λ e. refl })
+    grind (arith, nat_tests, d.joined, d.pass, d.stops)
 
 -- a fraction is read as it is spelled
 fraction_again : (fraction : Option (List ℕ)) (rest : List ℕ) → IfSome fraction AreDigits → (is_none fraction ≡ true → NoPoint rest)
