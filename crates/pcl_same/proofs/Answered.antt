@@ -146,8 +146,7 @@ pub beside_kept : OnePages → {dpi : Dpi} {first second : List ℕ} {kept : Kep
     → ((difference ≡ None → length kept.asks.pages.items ≡ length other_asks.pages) → CompareAsks (asks_of kept.asks) other_asks result)
     → IsAskedComparison dpi first second result
 beside_kept one {dpi} {first} {second} {kept} {others} {other_asks} k meaning asked difference found f is result pages asks =
-    let compare : Compare dpi k.pages others (comparison_of difference) =
-    compared_so dpi k.pages kept.pages.items others found difference k.keeps f is in
+    let compare = compared_so dpi k.pages kept.pages.items others found difference k.keeps f is in
     record {
       pages = k.pages;
       meaning = k.meaning;

@@ -39,20 +39,10 @@ pub first_setting : (one other : Asked) (a b c d e : Option SettingDifference) �
     → SaysOfSetting SheetSide one other e
     → MatchOption (option_or (option_or (option_or (option_or a b) c) d) e) (one ≡ other) (IsFirstSetting one other)
 first_setting one other (Some x) b c d e p q r s t = first_here Sides (λ before lt. absurd (omega arith)) p
-first_setting one other None (Some x) c d e p q r s t =
-    first_here OutputBin (elim [ Sides ↦ λ lt. p | before ↦ λ lt. absurd (omega arith) ]) q
-first_setting one other None None (Some x) d e p q r s t =
-    first_here MediaType (elim [ Sides ↦ λ lt. p | OutputBin ↦ λ lt. q | before ↦ λ lt. absurd (omega arith) ]) r
-first_setting one other None None None (Some x) e p q r s t =
-    first_here PaperSource (elim [ Sides ↦ λ lt. p | OutputBin ↦ λ lt. q | MediaType ↦ λ lt. r | before ↦ λ lt. absurd (omega arith) ]) s
-first_setting one other None None None None (Some x) p q r s t =
-    first_here SheetSide (elim [
-      | Sides ↦ λ lt. p
-      | OutputBin ↦ λ lt. q
-      | MediaType ↦ λ lt. r
-      | PaperSource ↦ λ lt. s
-      | before ↦ λ lt. absurd (omega arith)
-    ]) t
+first_setting one other None (Some x) c d e p q r s t = first_here OutputBin (λ before lt. grind arith) q
+first_setting one other None None (Some x) d e p q r s t = first_here MediaType (λ before lt. grind arith) r
+first_setting one other None None None (Some x) e p q r s t = first_here PaperSource (λ before lt. grind arith) s
+first_setting one other None None None None (Some x) p q r s t = first_here SheetSide (λ before lt. grind arith) t
 first_setting one other None None None None None p q r s t =
     λ i. record { sides = p i; output_bin = q i; media_type = r i; paper_source = s i; sheet_side = t i }
 
