@@ -6,7 +6,7 @@ use Rattle.pcl_base.proofs.Lists.{once_each, run_part, first_byte}
 use Rattle.pcl_base.specs.declared.method.Method.{Method}
 use Rattle.pcl_base.specs.declared.method.Method.TheVariants.{Plain, Runs, Packed, Delta}
 use Rattle.pcl_rows.specs.Heads.{head_bytes, offset_of}
-use Rattle.pcl_rows.specs.Elements.{Element, IsElement, given, given_by, stop}
+use Rattle.pcl_rows.specs.Elements.{Element, IsElement, given, stop}
 use Rattle.pcl_coders.specs.RowWalks.{Agrees, cost}
 use Rattle.pcl_coders.specs.inner.Choosing.{IsLeastLen}
 use Rattle.pcl_coders.proofs.Prefixes.{IsRunLen, IsSameLen}
@@ -25,10 +25,8 @@ pub agrees_by : (old : List ℕ) {wanted : List ℕ} (e : Element) (k : ℕ) →
     → Agrees old wanted e × (stop e ≡ offset_of e.head + k)
 agrees_by old {wanted} e k left gives fits =
     let offset : ℕ = offset_of e.head in
-    let size : length (given e) ≡ k = omega (arith, ap length gives, length-take k (drop offset wanted), length-drop offset wanted) in (
-      cc (take-append-drop offset wanted, take-append-drop k (drop offset wanted), drop-drop k offset wanted),
-      omega (arith, size),
-    )
+    let size : length (given e) ≡ k = omega (arith, ap length gives, length-take k (drop offset wanted), length-drop offset wanted) in
+    (cc (take-append-drop offset wanted, take-append-drop k (drop offset wanted), drop-drop k offset wanted), omega (arith, size))
 
 -- what an element that agrees leaves and gives
 pub agrees_gives : {method : Method} (old : List ℕ) {wanted : List ℕ} {e : Element} → length old ≡ length wanted → IsElement method e
@@ -115,8 +113,7 @@ replace_step old wanted offset len some few within same =
     let is = replacement_is some few in
     let new : List ℕ = take len (drop offset wanted) in
     let size : length new ≡ len = length-take-le len (drop offset wanted) (omega (arith, length-drop offset wanted)) in
-    let once : given_by (replacement offset len) new ≡ new =
-    ap (λ (k : ℕ). flat_map (λ byte. replicate k byte) new) is.copies_is ∙ once_each new in
+    let once = ap (λ (k : ℕ). flat_map (λ byte. replicate k byte) new) is.copies_is ∙ once_each new in
     let a = agrees_by old (element_of (Replace offset len) wanted) len (rw is.offset_is same) (rw is.offset_is once)
     (omega (arith, is.offset_is)) in
     record {

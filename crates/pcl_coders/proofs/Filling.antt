@@ -138,13 +138,12 @@ pub least_along : {method : Method} {seed row table : List ℕ} (es : List Eleme
 least_along {method} {seed} {row} {table} es codable is walk total-is =
     let small = row_table_small (length row) 0 codable.same_size is (omega arith) in
     let has = data_of_walk es codable.same_size (omega (arith, total-is, small, codable.small)) walk in
-    let bytes : length (flat_map element_bytes es) ≡ slice_index table 0 = sym (total_is es) ∙ total-is in (
-      has,
-      record {
-        attained = (flat_map element_bytes es, has, refl);
-        shortest = λ other whole. omega (arith, first_bounds method seed row table other codable.same_size is whole, bytes);
-      },
-    )
+    let bytes : length (flat_map element_bytes es) ≡ slice_index table 0 = sym (total_is es) ∙ total-is in
+    let least : IsLeastLength method seed row (length (flat_map element_bytes es)) = record {
+      attained = (flat_map element_bytes es, has, refl);
+      shortest = λ other whole. omega (arith, first_bounds method seed row table other codable.same_size is whole, bytes);
+    } in
+    (has, least)
 
 pub first_is_least : (method : Method) (seed row table : List ℕ) → IsCodable seed row → IsLeastTable method seed row table
     → IsLeastLength method seed row (slice_index table 0)

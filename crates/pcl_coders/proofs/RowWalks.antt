@@ -8,7 +8,7 @@ use Rattle.pcl_base.specs.declared.method.Method.{Method}
 use Rattle.pcl_base.specs.declared.method.Method.TheVariants.{Delta}
 use Rattle.pcl_rows.specs.Heads.{Head, Near, Far, head_bytes, new_count, offset_of}
 use Rattle.pcl_rows.specs.Elements.{Element, IsElement, AreElements, element_bytes, given, given_by, stop, reach}
-use Rattle.pcl_rows.specs.Rows.{base, after_element, after_elements, RowFrom, IsRowData}
+use Rattle.pcl_rows.specs.Rows.{base, after_element, after_elements, RowFrom, IsRowData, IsCutIntoElements}
 use Rattle.pcl_rows.proofs.Readings.{after_none, some_element}
 use Rattle.pcl_rows.proofs.Spellings.{spelling_has_byte}
 use Rattle.pcl_rows.proofs.OneReading.{one_row}
@@ -80,18 +80,14 @@ after_elements_cut (d ∷ es) h old e =
 pub elements_decode : {method : Method} (old : List ℕ) (es : List Element) → AreElements method es
     → RowFrom method (flat_map element_bytes es) old (take (length old) (after_elements es kept old))
 elements_decode {method} old es are =
-    let e = some_element method in (
-      es,
-      e.0,
-      [],
-      record {
-        elements = are;
-        joined = sym (append-nil (flat_map element_bytes es));
-        element = e.1;
-        lacking = (element_bytes e.0, refl, spelling_has_byte method e.0 e.1);
-      },
-      ap (take (length old)) (sym (after_elements_cut es e.0.head old (drop-nil (length (head_bytes e.0.head))))),
-    )
+    let e = some_element method in
+    let parts : IsCutIntoElements method (flat_map element_bytes es) es e.0 [] = record {
+      elements = are;
+      joined = sym (append-nil (flat_map element_bytes es));
+      element = e.1;
+      lacking = (element_bytes e.0, refl, spelling_has_byte method e.0 e.1);
+    } in
+    (es, e.0, [], parts, cc (after_elements_cut es e.0.head old (drop-nil (length (head_bytes e.0.head)))))
 
 -- how many bytes there are after elements that stop within the row
 length-after : (es : List Element) (old : List ℕ) → reach es ≤ length old → length (after_elements es kept old) ≡ length old
