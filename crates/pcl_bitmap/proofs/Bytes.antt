@@ -1,6 +1,5 @@
 -- One bit of a byte that `|`, `&` and shifts make, and the bits of a byte within its list.
-use Rattle.std.proofs.Common.{◌≡◌, ℕ, ◌+◌, ◌-◌, ◌*◌, ◌/◌, ◌%◌, ◌^◌, ◌<◌, ◌≤◌, nat_le, nat_lt, nat_eq, Bool, true, false, ◌&&◌, ◌||◌, if◌then◌else◌, List, length, get_or, set, bit_and, bit_or, w8, get_or-set_same, get_or-set_other, inl, inr, arith}
-use Rattle.std.proofs.lemmas.Bool.{cases_lt}
+use Rattle.std.proofs.Common.{◌≡◌, ℕ, ◌+◌, ◌-◌, ◌*◌, ◌/◌, ◌%◌, ◌^◌, ◌<◌, ◌≤◌, nat_le, nat_lt, nat_eq, Bool, true, false, ◌&&◌, ◌||◌, if◌then◌else◌, List, length, get_or, set, bit_and, bit_or, w8, get_or-set_same, get_or-set_other, arith}
 use Rattle.std.proofs.lemmas.Bool.Decides.{nat_tests}
 use Rattle.std.proofs.lemmas.Nat.{pow_pos, shr-shr}
 use Rattle.std.proofs.lemmas.Nat.Bits.{bit_at-zero, bit_at_and, bit_at_or, bit_at_not, bit_at_ones, bit_at-lt, ones_shr, bit_at_cat_low, bit_at_cat_high, bit_at_mask_inside, bit_at_mask_below}
@@ -58,18 +57,20 @@ pub shifted_bits : (row : List ℕ) (p q j s k : ℕ)
 shifted_bits row p q j s k few byte at_j before none small =
     let bit : ℕ = s + (7 - k) in
     let moved : (p * 256 + q) / 2 ^ s / 2 ^ (7 - k) ≡ (p * 256 + q) / 2 ^ (s + (7 - k)) = shr-shr (p * 256 + q) s (7 - k) in
-    rw (bit_of_byte-low ((p * 256 + q) / 2 ^ s) small, moved) (elim (cases_lt k s) [
-      | inr second ↦
-          let place : s + (7 - k) ≡ 7 - (k - s) = omega arith in
-          let here = dot_at row {x = 8 * j + k - s} j {m = k - s} (omega arith) (omega arith) in
-          grind (arith, nat_tests, place, bit_at_cat_low p 8 q bit (omega arith), here)
-      | inl first ↦
-          let place : s + (7 - k) - 8 ≡ 7 - (8 + k - s) = omega arith in
-          let high = bit_at_cat_high p 8 q bit byte (omega arith) in
-          elim (cases_lt 0 j) [
-            | inl some ↦
-                let here = dot_at row {x = 8 * j + k - s} (j - 1) {m = 8 + k - s} (omega arith) (omega arith) in
-                grind (arith, nat_tests, place, high, before some, here)
-            | inr start ↦ grind (arith, nat_tests, place, high, none (omega arith), bit_of_byte-zero (8 + k - s))
-          ]
-    ])
+    let second : s ≤ k → s + (7 - k) ≡ 7 - (k - s) = λ h. omega arith in
+    let first : k < s → s + (7 - k) - 8 ≡ 7 - (8 + k - s) = λ h. omega arith in
+    let here = dot_at row {x = 8 * j + k - s} j {m = k - s} in
+    let left = dot_at row {x = 8 * j + k - s} (j - 1) {m = 8 + k - s} in
+    rw (bit_of_byte-low ((p * 256 + q) / 2 ^ s) small, moved) (grind (
+      arith,
+      nat_tests,
+      second,
+      first,
+      bit_at_cat_low p 8 q bit,
+      bit_at_cat_high p 8 q bit byte,
+      here,
+      left,
+      before,
+      none,
+      bit_of_byte-zero (8 + k - s),
+    ))

@@ -19,8 +19,7 @@ painted : (c : goal.After-self-2-1)
 painted c =
     let a = c.self.inside in
     let args = c.args in
-    let product : c.from.result * c.from-2.result ≡ args.width * args.scale =
-    ap (λ n. n * c.from-2.result) c.from.ensures ∙ ap (λ n. args.width * n) c.from-2.ensures in
+    let product = ap (λ n. n * c.from-2.result) c.from.ensures ∙ ap (λ n. args.width * n) c.from-2.ensures in
     drawn args.x args.y c.min.result c.min-2.result c.row_bytes-row_bytes.result
     (λ px _ before. dot_of_row args.row.now ((px - args.x) / args.scale) || before) _
     c.self.invariant.picture c.deref_mut.ensures.value (with_items_is a.bytes c.paint_squares.new.page (omega arith))
