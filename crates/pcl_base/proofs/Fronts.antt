@@ -1,7 +1,8 @@
 -- The bytes at the front that pass a test, as far as they go.
-use Rattle.std.proofs.Common.{◌≡◌, ℕ, Bool, true, false, IsTrue, List, [], ◌∷◌, ◌++◌, take, drop, refl, ap, ◌∙◌}
+use Rattle.std.proofs.Common.{◌≡◌, ℕ, Bool, true, false, IsTrue, List, [], ◌∷◌, ◌++◌, take, drop, refl, ap, ◌∙◌, inl, inr}
 use Rattle.std.proofs.Math.Numerals.{one-add}
 use Rattle.std.specs.List.{prefix_len, AllByRecursion}
+use Rattle.std.proofs.lemmas.Bool.{cases_Bool}
 
 -- each byte passes the test
 abbrev pub Pass : (ℕ → Bool) → List ℕ → Type 0
@@ -30,17 +31,14 @@ front_yes test bytes e = rw (e, one-add) refl
 pub front_no : (test : ℕ → Bool) {byte : ℕ} {bytes : List ℕ} → test byte ≡ false → front_at test (byte ∷ bytes) ≡ ([], byte ∷ bytes)
 front_no test e = rw e refl
 
--- the front, by the test of the first byte
-front_by : (test : ℕ → Bool) (byte : ℕ) (bytes : List ℕ) (passes : Bool) → test byte ≡ passes → IsFront test bytes (front_at test bytes)
-    → IsFront test (byte ∷ bytes) (front_at test (byte ∷ bytes))
-front_by test byte bytes true e h =
-    rw (front_yes test bytes e) (record { joined = ap (λ bs. byte ∷ bs) h.joined; pass = (e, h.pass); stops = h.stops })
-front_by test byte bytes false e h = rw e (record { joined = refl; pass = tt; stops = e })
-
 -- the front that is taken has all bytes that pass
 pub front_split : (test : ℕ → Bool) (bytes : List ℕ) → IsFront test bytes (front_at test bytes)
 front_split test [] = record { joined = refl; pass = tt; stops = tt }
-front_split test (byte ∷ bytes) = front_by test byte bytes (test byte) refl (front_split test bytes)
+front_split test (byte ∷ bytes) =
+    let h = front_split test bytes in elim (cases_Bool (test byte)) [
+      | inl e ↦ rw (front_yes test bytes e) (record { joined = ap (λ bs. byte ∷ bs) h.joined; pass = (e, h.pass); stops = h.stops })
+      | inr e ↦ rw e (record { joined = refl; pass = tt; stops = e })
+    ]
 
 -- bytes are taken up to where they stop
 pub front_again : (test : ℕ → Bool) (front rest : List ℕ) → Pass test front → StopsAt test rest
