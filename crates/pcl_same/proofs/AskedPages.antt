@@ -69,8 +69,7 @@ module _ (dpi : Dpi) where
       (elim (characters code) as (λ c. Each (code_printed dpi proportional c code s)) [ None ↦ e | Some c ↦ e ])
 
   drawn_each : (operation : Operation) (command : Said) → Stays (drawn dpi operation command)
-  drawn_each ControlFonts command = λ s e.
-      elim (control_of command.value) as (λ what. Each (fonts_controlled what s)) [ None ↦ e | Some what ↦ e ]
+  drawn_each ControlFonts command = λ s e. grind arith
   drawn_each DownloadFont command = λ s e. elim command.bytes as (λ bytes. Each (with_font bytes s)) [ [] ↦ e | byte ∷ bytes ↦ e ]
   drawn_each DownloadCharacter command = λ s e. elim command.bytes as (λ bytes. Each (with_character bytes s)) [ [] ↦ e | byte ∷ bytes ↦ e ]
   drawn_each PrintText command = λ s e.

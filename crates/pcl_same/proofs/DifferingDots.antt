@@ -25,8 +25,7 @@ xor_bit a b k = rw (bit_at_xor a b (7 - k)) (parity (bit_at a (7 - k)) (bit_at b
 xor_byte : (one other bits : List ℕ) → length other ≡ length one → length bits ≡ length one
     → ((k : ℕ) → k < length one → slice_index bits k ≡ bit_xor (slice_index one k) (slice_index other k))
     → (k : ℕ) → slice_index bits k ≡ bit_xor (slice_index one k) (slice_index other k)
-xor_byte one other bits p q h k =
-    grind (arith, h k, get_or_past bits k 0, get_or_past one k 0, get_or_past other k 0)
+xor_byte one other bits p q h k = grind (arith, h k, get_or_past bits k 0, get_or_past one k 0, get_or_past other k 0)
 
 pub row_of_bits : (one other bits : List ℕ) → length other ≡ length one → length bits ≡ length one
     → ((k : ℕ) → k < length one → slice_index bits k ≡ bit_xor (slice_index one k) (slice_index other k))

@@ -136,13 +136,11 @@ module _ (one : HasOneMeaning) (dpi : Dpi) (first second : List ℕ) where
         absurd (one.apart dpi first (later s q).0 r (later s q).1 (refused r p))
     one_result (Err (Refused Second r)) (Err (Refused First s)) p q m n =
         absurd (one.apart dpi first (later r p).0 s (later r p).1 (refused s q))
-    one_result (Err (Refused Second r)) (Err (Refused Second s)) p q m n =
-        cc (one.refusal dpi second r s (later r p).2 (later s q).2)
+    one_result (Err (Refused Second r)) (Err (Refused Second s)) p q m n = cc (one.refusal dpi second r s (later r p).2 (later s q).2)
 
 pub same_answer : HasOneMeaning → (dpi : Dpi) (first second : List ℕ) (a b : Result Comparison SameFault)
     → IsCompared dpi first second a → IsCompared dpi first second b → a ≢ Err Memory → b ≢ Err Memory → a ≡ b
 same_answer one dpi first second =
     one_result one dpi first second (IsCompared dpi first second) (λ c p. (p.pages, p.meaning, p.others, p.other_meaning)) (λ r p. p)
-    (λ r p. p) (λ a b p q. one_comparison dpi p.pages p.others a b p.compare
-    (rw (one.pages dpi first p.pages q.pages p.meaning q.meaning)
+    (λ r p. p) (λ a b p q. one_comparison dpi p.pages p.others a b p.compare (rw (one.pages dpi first p.pages q.pages p.meaning q.meaning)
     (rw (one.pages dpi second p.others q.others p.other_meaning q.other_meaning) q.compare)))

@@ -105,8 +105,7 @@ same_asked one one_asks {dpi} {first} {second} a b p q =
     let compare : Compare dpi p.pages p.others (of_pages b) =
     rw (one.pages dpi first p.pages q.pages p.meaning q.meaning, same) q.compare in
     let alike = one_asks dpi second p.other_asks q.other_asks p.other_asked q.other_asked in
-    let compare_asks : CompareAsks p.asks p.other_asks b =
-    rw (one_asks dpi first p.asks q.asks p.asked q.asked, alike) q.compare_asks in
+    let compare_asks : CompareAsks p.asks p.other_asks b = rw (one_asks dpi first p.asks q.asks p.asked q.asked, alike) q.compare_asks in
     one_asked p.asks p.other_asks a b (one_comparison dpi p.pages p.others (of_pages a) (of_pages b) p.compare compare) p.compare_asks
     compare_asks
 
