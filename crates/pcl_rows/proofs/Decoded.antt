@@ -83,8 +83,7 @@ treated_cut (suc n) {cut} shown missing old is e some fits =
       | inr long ↦
           let t = with_head cut missing e long in
           let whole = simp length-append at (ap length e) in
-          treated_tail n h t.0 old is.head_is.in_range t.1
-          (omega (arith, is.complete, ap length t.1, length-append (head_bytes h) t.0))
+          treated_tail n h t.0 old is.head_is.in_range t.1 (omega (arith, is.complete, ap length t.1, length-append (head_bytes h) t.0))
     ]
 
 pub treated_is : (n : ℕ) (whole : List Element) {method : Method} {bytes : List ℕ} {cut : Element} {shown : List ℕ} (old : List ℕ)

@@ -249,9 +249,7 @@ whole_more front stop-is fits so_far =
 pub whole_past : {method : Method} {bytes : List ℕ} {room offset copies : ℕ} {stopped : ℕ} {new rest : List ℕ}
     → IsFront method bytes offset copies new rest true → stopped ≡ offset + copies * length new → room < stopped
     → IsWhole method bytes room → ⊥
-whole_past front stop-is past w =
-    let stop = stop_of_front front stop-is in
-    omega (arith, (whole_uncons front.head_is front.parts w).0)
+whole_past front stop-is past w = omega (arith, stop_of_front front stop-is, (whole_uncons front.head_is front.parts w).0)
 
 -- a cut one
 pub whole_cut : {method : Method} {bytes : List ℕ} {room offset copies : ℕ} {new rest : List ℕ} → 0 < length bytes

@@ -6,9 +6,7 @@ use Rattle.pcl_rows.proofs.whole.are_elements_whole.Goals as goal
 use Rattle.pcl_rows.proofs.whole.are_elements_whole.Goals.{then-not-front-via-then-not-front, then-not-front-via-else-not-front+then-room-stop}
 
 pub loop-rest-preserved : goal.loop-rest-preserved
-loop-rest-preserved c =
-    let front = rw c.if-not-front.false at c.read-front.ensures.front in
-    whole_more front refl c.if-room-stop.false c.loop-rest.invariant
+loop-rest-preserved c = whole_more (rw c.if-not-front.false at c.read-front.ensures.front) refl c.if-room-stop.false c.loop-rest.invariant
 
 pub returns-then-not-front : goal.returns-then-not-front
 returns-then-not-front c =
