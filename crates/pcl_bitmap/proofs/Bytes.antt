@@ -42,8 +42,7 @@ dot_at row {x} j {m} small place =
 -- dot k of a row after its byte i was written
 pub dot_of_set : (row : List ℕ) (i v k : ℕ) → i < length row
     → dot_of_row (set row i v) k ≡ (if nat_eq (k / 8) i then bit_of_byte v (k % 8) else dot_of_row row k)
-dot_of_set row i v k within =
-    grind (arith, nat_tests, get_or-set_same row i v 0 within, get_or-set_other row i (k / 8) v 0)
+dot_of_set row i v k within = grind (arith, nat_tests, get_or-set_same row i v 0 within, get_or-set_other row i (k / 8) v 0)
 
 -- the same where the byte's bits are given by their places in the row
 pub dot_of_bits : (row : List ℕ) (i v k : ℕ) (bits : ℕ → Bool) → i < length row → ((m : ℕ) → m < 8 → bit_of_byte v m ≡ bits (8 * i + m))

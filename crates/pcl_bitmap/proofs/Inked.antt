@@ -47,8 +47,7 @@ pub run_or : (source : List ℕ) (r x w i px py : ℕ) (p d : Bool)
     → x + w ≤ 8 * r → px < 8 * r → (py ≡ i → px - x < w → dot_of_row source (px - x) ≡ p)
     → let from = 8 * (i * r) + x in let k = 8 * (py * r) + px in
     (run_dot from (from + w) source k || d) ≡ (if in_run from (from + w) k then p || d else d)
-run_or source r x w i px py p d wide within bits =
-    grind (arith, nat_tests, rows_apart py i r, rows_apart i py r)
+run_or source r x w i px py p d wide within bits = grind (arith, nat_tests, rows_apart py i r, rows_apart i py r)
 
 -- a rectangle that is cut at the page's edges has the same dots on the page
 pub clipped : (width height x y w h wide high px py : ℕ)
