@@ -29,8 +29,8 @@ pub full_step : {front : List ℕ} (line : List ℕ) (byte : ℕ) → front ≡ 
     → true ≡ (length front == 22)
     → front ≡ take 22 (squeezed (line ++ byte ∷ []))
 full_step line byte so_far e full =
-    let long = rw so_far at (eqb-true _ 22 (sym full)) in
-    rw (so_far, squeezed_other line byte e) (full_front 22 (squeezed line) (to_ascii_uppercase byte) long)
+    rw (so_far, squeezed_other line byte e)
+    (full_front 22 (squeezed line) (to_ascii_uppercase byte) (rw so_far at (eqb-true _ 22 (sym full))))
 
 pub push_step : {front : List ℕ} (line : List ℕ) (byte : ℕ) → front ≡ take 22 (squeezed line) → false ≡ is_white_space byte
     → false ≡ (length front == 22)

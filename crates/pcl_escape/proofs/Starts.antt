@@ -45,15 +45,13 @@ pub data Outside (at : ℕ) : List ℕ → Result Reads Refusal → Type 0 where
 
 -- ---- names
 
--- a name that is performed gives its command
-pub named_again : {at code : ℕ} {rest : List ℕ} (operation : Option Operation) → is_some operation ≡ true
-    → named_by operation at code rest ≡ piece_reads (Some (bare_command at code)) rest
-named_again operation s = grind arith
-
--- a name that isn't performed is refused
-pub unknown_again : {at code : ℕ} (rest : List ℕ) (operation : Option Operation) → is_some operation ≡ false
-    → named_by operation at code rest ≡ refuse UnsupportedCommand at (One code)
-unknown_again rest operation s = grind arith
+-- a name that is performed makes a piece, and any other a fault
+named_step : {at code : ℕ} {bytes rest : List ℕ} (operation : Option Operation)
+    → (is_some operation ≡ true → Outside at bytes (piece_reads (Some (bare_command at code)) rest))
+    → (is_some operation ≡ false → Outside at bytes (refuse UnsupportedCommand at (One code)))
+    → Outside at bytes (named_by operation at code rest)
+named_step None piece fault = fault refl
+named_step (Some operation) piece fault = piece refl
 
 -- ---- text
 
@@ -145,9 +143,8 @@ ungrouped_found u n (is_leave parameter sent rest is x) = leave_step rest is x
 prefix_step : {at byte : ℕ} (rest : List ℕ) → IsTrue (is_parameterized byte) → Outside at (27 ∷ byte ∷ rest) (prefix_at at byte rest)
 unfolding prefix_at ungrouped_at
 prefix_step {at} {byte} [] p = elim (cases_Bool (is_ungrouped byte)) [
-  | inl u ↦
-      let nothing : Spelled = record { sign = Absent; whole = []; fraction = None } in
-      sequence (ungrouped byte) [] (refuse Truncated at (One byte)) u tt (is_wrong (cut nothing (tt, tt)))
+  | inl u ↦ sequence (ungrouped byte) [] (refuse Truncated at (One byte)) u tt
+      (is_wrong (cut (record { sign = Absent; whole = []; fraction = None }) (tt, tt)))
   | inr u ↦ wrong (no_group p u)
 ]
 prefix_step {at} {byte} (group ∷ rest) p =
@@ -162,11 +159,9 @@ sequence_step : {at : ℕ} (rest : List ℕ) → Outside at (27 ∷ rest) (seque
 unfolding sequence_at named_at
 sequence_step [] = wrong lone_escape
 sequence_step {at} (byte ∷ rest) =
-    by_test (Outside at (27 ∷ byte ∷ rest)) (is_two_character byte) (λ t. elim (cases_Bool (is_some (operation_of (One byte)))) [
-      | inl n ↦ rw (named_again (operation_of (One byte)) n)
-          (whole_piece (two_character byte) rest (Some (bare_command at byte)) (t, n) (omega arith) refl)
-      | inr n ↦ rw (unknown_again rest (operation_of (One byte)) n) (wrong (unknown_two t n))
-    ]) (λ t. by_test (Outside at (27 ∷ byte ∷ rest)) (is_parameterized byte) (λ p. prefix_step rest p) (λ p. wrong (no_sequence t p)))
+    by_test (Outside at (27 ∷ byte ∷ rest)) (is_two_character byte) (λ t. named_step (operation_of (One byte))
+    (λ n. whole_piece (two_character byte) rest (Some (bare_command at byte)) (t, n) (omega arith) refl) (λ n. wrong (unknown_two t n)))
+    (λ t. by_test (Outside at (27 ∷ byte ∷ rest)) (is_parameterized byte) (λ p. prefix_step rest p) (λ p. wrong (no_sequence t p)))
 
 -- a step outside sequences reads what the bytes begin with
 pub start_step : {at byte : ℕ} {rest : List ℕ} → Outside at (byte ∷ rest) (start_at at (byte ∷ rest))
@@ -174,11 +169,9 @@ unfolding start_at named_at
 start_step {at} {byte} {rest} =
     by_test (Outside at (byte ∷ rest)) (is_silent byte) (λ s. whole_piece (silent byte) rest None s (omega arith) refl)
     (λ s. by_test (Outside at (byte ∷ rest)) (byte == 27) (λ e. rw (eqb-true byte 27 e) (sequence_step rest))
-    (λ e. by_test (Outside at (byte ∷ rest)) (is_control byte) (λ c. elim (cases_Bool (is_some (operation_of (One byte)))) [
-      | inl n ↦ rw (named_again (operation_of (One byte)) n)
-          (whole_piece (control byte) rest (Some (bare_command at byte)) (c, s, n) (omega arith) refl)
-      | inr n ↦ rw (unknown_again rest (operation_of (One byte)) n) (wrong (unknown_control c s n))
-    ]) (λ c. text_run (rw (s, c, e) refl))))
+    (λ e. by_test (Outside at (byte ∷ rest)) (is_control byte) (λ c. named_step (operation_of (One byte))
+    (λ n. whole_piece (control byte) rest (Some (bare_command at byte)) (c, s, n) (omega arith) refl) (λ n. wrong (unknown_control c s n)))
+    (λ c. text_run (rw (s, c, e) refl))))
 
 -- ---- from the parts to the step
 
@@ -186,13 +179,13 @@ start_step {at} {byte} {rest} =
 pub named_control : {code : ℕ} (at : ℕ) (rest : List ℕ) → IsPiece (control code) rest
     → start_at at (code ∷ rest) ≡ piece_reads (Some (bare_command at code)) rest
 unfolding start_at named_at
-named_control at rest is = grind (arith, nat_tests, named_again)
+named_control at rest is = grind (arith, nat_tests)
 
 -- a step reads a two-character sequence that is performed
 pub named_two : {byte : ℕ} (at : ℕ) (rest : List ℕ) → IsPiece (two_character byte) rest
     → start_at at (27 ∷ byte ∷ rest) ≡ piece_reads (Some (bare_command at byte)) rest
 unfolding start_at sequence_at named_at
-named_two at rest is = grind (arith, nat_tests, named_again)
+named_two at rest is = grind (arith, nat_tests)
 
 -- a step at a parameterized character looks at the group character
 pub at_prefix : (at byte : ℕ) (rest : List ℕ) → is_parameterized byte ≡ true → start_at at (27 ∷ byte ∷ rest) ≡ prefix_at at byte rest

@@ -19,18 +19,16 @@ asking c asks says = sym c.loop-line.invariant.same ∙ at_asking_line _ (cut_of
 pub returns-then-eq : goal.returns-then-eq
 returns-then-eq c =
     let line = c.split_at.result.0.now in
-    let front = c.squeezed_front-front.ensures in
     asking (goal.at.returns-then-eq c).After-front-1
-    (slice_names_language line c.if-starts_with.ensures.value c.as_slice.ensures.value front)
-    (slice_names_pcl line c.if-eq.ensures c.as_slice-then-starts_with.ensures.value front)
+    (slice_names_language line c.if-starts_with.ensures.value c.as_slice.ensures.value c.squeezed_front-front.ensures)
+    (slice_names_pcl line c.if-eq.ensures c.as_slice-then-starts_with.ensures.value c.squeezed_front-front.ensures)
 
 pub returns-else-eq : goal.returns-else-eq
 returns-else-eq c =
     let line = c.split_at.result.0.now in
-    let front = c.squeezed_front-front.ensures in
     asking (goal.at.returns-else-eq c).After-front-1
-    (slice_names_language line c.if-starts_with.ensures.value c.as_slice.ensures.value front)
-    (slice_names_pcl line c.if-eq.ensures c.as_slice-then-starts_with.ensures.value front)
+    (slice_names_language line c.if-starts_with.ensures.value c.as_slice.ensures.value c.squeezed_front-front.ensures)
+    (slice_names_pcl line c.if-eq.ensures c.as_slice-then-starts_with.ensures.value c.squeezed_front-front.ensures)
 
 pub loop-line-preserved : goal.loop-line-preserved
 loop-line-preserved c =
