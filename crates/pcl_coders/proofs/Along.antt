@@ -111,8 +111,7 @@ along_run {old} {wanted} {numbers} {end} {len} size right is len-is =
 pub along_start : {old wanted numbers : List ℕ} {start : ℕ} → length old ≡ length wanted → AreRightFrom Delta old wanted numbers 0
     → 0 < slice_index numbers 0 → IsFirstDifference old wanted start → start < length wanted
 along_start {old} {wanted} {start} size right needed is =
-    let none = (right 0 (omega arith) (omega arith)).ends in
-    grind (arith, ends_by old wanted 0 size, is.same)
+    grind (arith, (right 0 (omega arith) (omega arith)).ends, ends_by old wanted 0 size, is.same)
 
 -- the best replacement at the latest start is a best element
 pub along_replacement : {old wanted numbers : List ℕ} {start : ℕ} {shape : Shape} {sum : ℕ} → length old ≡ length wanted

@@ -136,9 +136,7 @@ within_run {wanted} {d} is none r fits gives =
     (is.longest r.count r.byte (omega arith) front, omega arith)
 
 pub plain_below : (old : List ℕ) {wanted : List ℕ} (numbers : List ℕ) → IsBelow Plain old wanted numbers (1 + slice_index numbers 1)
-plain_below old numbers d is agrees some =
-    let s = plain_shape d.head is.head_is.method_is is.complete in
-    grind (arith, s)
+plain_below old numbers d is agrees some = grind (arith, plain_shape d.head is.head_is.method_is is.complete)
 
 pub runs_below : (old : List ℕ) {wanted : List ℕ} (numbers : List ℕ) {run sum : ℕ} → length old ≡ length wanted → IsRunLen wanted run
     → ((k : ℕ) → 1 ≤ k → k ≤ min run 256 → sum ≤ 2 + 0 * k + slice_index numbers k) → IsBelow Runs old wanted numbers sum

@@ -70,8 +70,7 @@ packed_shorten old wanted e size element agrees more =
     let g = agrees_gives old size element agrees in
     let s = packed_shape e.head e.bytes element.head_is.method_is element.head_is.in_range element.complete (omega arith) in
     let size' = length-drop 1 wanted in
-    let literal : stop e ≤ 129 → stop e ≤ cost e → HasShapeElement Packed (drop 1 old) (drop 1 wanted) (stop e - 1) (cost e) =
-    λ few cheap.
+    let literal : stop e ≤ 129 → stop e ≤ cost e → HasShapeElement Packed (drop 1 old) (drop 1 wanted) (stop e - 1) (cost e) = λ few cheap.
     let step = literal_step (drop 1 old) (drop 1 wanted) (stop e - 1) (omega arith) (omega arith) (omega (arith, g.0)) in
     (LiteralRun (stop e - 1), 1 + (stop e - 1), step, refl, omega arith) in
     elim s.1 [

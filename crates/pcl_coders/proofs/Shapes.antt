@@ -34,14 +34,8 @@ repeats : (h : Head) {bytes : List ℕ} {least most : ℕ} → length (head_byte
     → copies_of h ≤ most → IsRepeat h bytes least most
 repeats h {bytes} one alone low high =
     let b = single_byte bytes alone in
-    let size = length-append (head_bytes h) bytes in record {
-      count = copies_of h;
-      byte = b.0;
-      above = low;
-      below = high;
-      given_is = given_copies (copies_of h) b.1;
-      bytes_are = omega arith;
-    }
+    let size = length-append (head_bytes h) bytes in
+    record { count = copies_of h; byte = b.0; above = low; below = high; given_is = given_copies _ b.1; bytes_are = omega arith }
 
 pub plain_shape : (h : Head) {bytes : List ℕ} → method_of h ≡ Plain → length bytes ≡ new_count h → (offset_of h ≡ 0) × IsLiteral h bytes 1 0
 plain_shape Itself {bytes} m c = let l = ap length (once_each bytes) in (refl, grind arith)
@@ -68,11 +62,9 @@ far_bytes offset above = grind (arith, nat_tests)
 
 pub delta_shape : (h : Head) {bytes : List ℕ} → method_of h ≡ Delta → IsInRange h → length bytes ≡ new_count h
     → IsLiteral h bytes 8 (replacement_bytes (offset_of h))
-delta_shape (Near more offset) {bytes} m r c =
-    let l = ap length (once_each bytes) in grind (arith, near_bytes)
+delta_shape (Near more offset) {bytes} m r c = grind (arith, near_bytes, ap length (once_each bytes))
 delta_shape (Far more full last) {bytes} m r c =
-    let l = ap length (once_each bytes) in
-    grind (arith, far_bytes (31 + 255 * full + last), length-append, length-replicate)
+    grind (arith, ap length (once_each bytes), far_bytes (31 + 255 * full + last), length-append, length-replicate)
 delta_shape h m r c = absurd cc
 
 -- the head of a replacement

@@ -42,12 +42,10 @@ placed c =
     (next, done.0, done.1)
 
 pub overflow_add-out : goal.overflow_add-out
-overflow_add-out c =
-    let p = placed c in omega (arith, p.2, c.command_bytes.ensures, c.requires.small)
+overflow_add-out c = omega (arith, (placed c).2, c.command_bytes.ensures, c.requires.small)
 
 pub overflow_cast-out : goal.overflow_cast-out
-overflow_cast-out c =
-    let p = placed c in omega (arith, p.2, c.command_bytes.ensures, c.requires.small)
+overflow_cast-out c = omega (arith, (placed c).2, c.command_bytes.ensures, c.requires.small)
 
 pub loop-place-preserved : goal.loop-place-preserved
 loop-place-preserved c =
