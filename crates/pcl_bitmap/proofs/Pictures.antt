@@ -34,7 +34,8 @@ wide_rows size dpi = omega arith
 
 pub page_bytes_limit : (size : Size) (dpi : Dpi) → page_height size dpi * page_row_bytes size dpi < 2 ^ 32
 page_bytes_limit size dpi =
-    omega (arith, mul-le (page_height size dpi) (page_row_bytes size dpi) 8400 600 (height_small size dpi) (omega (arith, width_small size dpi)))
+    let rows = mul-le (page_height size dpi) (page_row_bytes size dpi) 8400 600 (height_small size dpi) in
+    omega (arith, rows (omega (arith, width_small size dpi)))
 
 -- the bytes of the first n rows of a page, r bytes each, are bytes of it, and a row has room for the page's width
 pub record HasRoom (width n r : ℕ) (bytes : List ℕ) : Type 0 where
