@@ -1,6 +1,6 @@
-use Rattle.std.proofs.Common.{◌-◌, length, arith, refl, sym, ap, ◌∙◌}
+use Rattle.std.proofs.Common.{◌-◌, length, arith, refl, sym, ◌∙◌}
 use Rattle.pcl_escape.specs.inner.Scan.{step_view}
-use Rattle.pcl_escape.proofs.Loop.{so_far, one_more, stops_at, is_done}
+use Rattle.pcl_escape.proofs.Loop.{one_more, stops_at, is_done}
 use Rattle.pcl_escape.proofs.Places.{step_placed}
 use Rattle.pcl_escape.proofs.job.scan.Given.{Over}
 use Rattle.pcl_escape.proofs.job.scan.Goals as goal
