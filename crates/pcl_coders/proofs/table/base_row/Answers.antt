@@ -1,4 +1,4 @@
-use Rattle.std.proofs.Common.{◌≡◌, length, take, replicate, ap, ◌∙◌, inl, inr}
+use Rattle.std.proofs.Common.{length, take, ap, ◌∙◌, inl, inr}
 use Rattle.std.proofs.lemmas.List.{take-replicate}
 use Rattle.pcl_coders.proofs.table.base_row.Goals as goal
 
