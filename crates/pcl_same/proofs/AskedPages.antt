@@ -24,8 +24,8 @@ use Rattle.pcl_page.specs.Jobs.{HasPages, HasAsks, performance_of}
 use Rattle.pcl_page.specs.Macros.{Run, action_of, keeping_of, definition_ended, acted, managed, counting, defining, after_command, run_of, macro_ended}
 use Rattle.pcl_page.specs.Performing.{Performance, done, unless, then_on, in_order, concluded, and_run, step, commands_left, runs, after_all, end_refusal, ended, after_end, performance, pages_of}
 use Rattle.pcl_page.specs.Raster.{ends_raster}
-use Rattle.pcl_page.specs.Situation.{Sheet, Situation, at_begin, ink_of, filled_with, fonts_controlled, with_font, with_character, font_now, code_printed, codes_printed, drawn, draw_refusal, unless_refused, ◌|>◌, end_raster, is_marked, ejects, turned_page, turned, turned_by, drawn_on, counted, counted_in_limit, prepared, is_ignored, after, after_named, page_refusal, within_page_limit, tried}
-use Rattle.pcl_page.specs.Text.{control_of, is_proportional, prints}
+use Rattle.pcl_page.specs.Situation.{Sheet, Situation, at_begin, ink_of, filled_with, with_font, with_character, font_now, code_printed, codes_printed, drawn, draw_refusal, unless_refused, ◌|>◌, end_raster, is_marked, ejects, turned_page, turned, turned_by, drawn_on, counted, counted_in_limit, prepared, is_ignored, after, after_named, page_refusal, within_page_limit, tried}
+use Rattle.pcl_page.specs.Text.{is_proportional, prints}
 
 -- as many pages were ejected as what they were asked with is known
 abbrev pub Each : Situation → Type 0

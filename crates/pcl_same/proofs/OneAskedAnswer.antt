@@ -11,7 +11,6 @@ use Rattle.pcl_same.specs.declared.comparison.AskedComparison.TheVariants as ask
 use Rattle.pcl_same.specs.declared.comparison.AsksDifference.{AsksDifference}
 use Rattle.pcl_same.specs.declared.comparison.AsksDifference.TheVariants.{Page, ExitCount, Exit}
 use Rattle.pcl_same.specs.declared.comparison.ExitDifference.{ExitDifference}
-use Rattle.pcl_same.specs.declared.comparison.PagesDifference.TheVariants as pages
 use Rattle.pcl_same.specs.declared.comparison.SettingDifference.{SettingDifference}
 use Rattle.pcl_same.specs.declared.fault.SameFault.{SameFault}
 use Rattle.pcl_same.specs.declared.fault.SameFault.TheVariants.{Memory}
