@@ -29,9 +29,8 @@ use Rattle.pcl_plan.proofs.LeastWalks.{step_is_least, sent_is_least}
 use Rattle.pcl_writer.specs.inner.Steps.{width_of, above, IsBitmapPlan, IsWritable, HasRowData, AppendsRow, AppendsStep, AppendsBody}
 
 pub page_joined : (old : List ℕ) {one two three : List ℕ} (start body tail : List ℕ) → one ≡ old ++ start → two ≡ one ++ body
-    → three ≡ two ++ tail → three
-    ≡ old ++ (start ++ body ++ tail)
-page_joined old start body tail a b c = c ∙ rw (b, a) (simp append_assoc)
+    → three ≡ two ++ tail → three ≡ old ++ (start ++ body ++ tail)
+page_joined old start body tail a b c = simp (c, b, a, append_assoc)
 
 -- the tokens are a walk from the node
 abbrev pub IsWalk : Picture → Node → List Token → Type 0
@@ -40,10 +39,8 @@ IsWalk picture = Walk (Leads (width_of picture) (bitmap_rows picture)) (Ends (bi
 -- ---- the token of a step
 
 skip_token : {count : ℕ} {ends : Bool} (token : Token) → IsTokenOf (Skip count) ends token → token ≡ skip (least_spelling count) count ends
-skip_token opening t = absurd t
-skip_token (method digits next capital) t = absurd t
 skip_token (skip digits rows capital) t = let a = t.0 in let b = t.1 in let e = t.2 in cc
-skip_token (send digits bytes) t = absurd t
+skip_token token t = absurd t
 
 switch_token : {next : Method} {ends : Bool} (token : Token) → IsTokenOf (Switch next) ends token → token
     ≡ method (least_spelling (method_code next)) next ends
@@ -69,20 +66,12 @@ leads_too : {picture : Picture} {place behind : Node} (step : Step) (ends : Bool
     → LeadsToo picture place behind token written b
 leads_too (Skip count) ends {token} {written} before t w d p l =
     let led = rw (skip_token token t) at l in
-    record {
-      within = omega (arith, ap (λ (n : Node). n.row) p, led.3);
-      there = led.5 ∙ sym p;
-      leads = rw (skip_token written w) led;
-      costs = rw (skip_token token t, skip_token written w);
-    }
+    let same : written ≡ token = skip_token written w ∙ sym (skip_token token t) in
+    record { within = omega (arith, ap (λ (n : Node). n.row) p, led.3); there = led.5 ∙ sym p; leads = rw same l; costs = ap cost same }
 leads_too (Switch next) ends {token} {written} before t w d p l =
     let led = rw (switch_token token t) at l in
-    record {
-      within = omega (arith, ap (λ (n : Node). n.row) p, before);
-      there = led.2 ∙ sym p;
-      leads = rw (switch_token written w) led;
-      costs = rw (switch_token token t, switch_token written w);
-    }
+    let same : written ≡ token = switch_token written w ∙ sym (switch_token token t) in
+    record { within = omega (arith, ap (λ (n : Node). n.row) p, before); there = led.2 ∙ sym p; leads = rw same l; costs = ap cost same }
 leads_too (Row count) ends {token} {written} before t w d p l =
     let one = row_token ends token t in
     let other = row_token ends written w in
@@ -99,27 +88,28 @@ leads_too (Row count) ends {token} {written} before t w d p l =
 
 -- ---- a walk from inside a sequence
 
+-- a walk that costs what a node's number is
+abbrev pub IsLeastWalk : Picture → (Node → ℕ) → Node → List Token → Type 0
+IsLeastWalk picture number place tokens = IsWalk picture place tokens × (total cost tokens ≡ number place)
+
 pub record IsOpened (picture : Picture) (number : Node → ℕ) (row : ℕ) (current : Method) (is_open : Bool) (tokens : List Token) : Type 0
   where
     pub walk : IsWalk picture (node row current true) tokens
     pub total_is : total cost tokens ≡ number (node row current true)
-    pub back : (other : List Token) → IsWalk picture
-        (node row current true) other → total cost other ≡ number (node row current true)
-        → IsWalk picture (node row current is_open)
-        (opened is_open other) × (total cost (opened is_open other) ≡ number (node row current is_open))
+    pub back : (other : List Token) → IsLeastWalk picture number (node row current true) other
+        → IsLeastWalk picture number (node row current is_open) (opened is_open other)
 
 opened_is : {picture : Picture} {number : Node → ℕ} → IsFeasible (Leads (width_of picture) (bitmap_rows picture))
     (Ends (bitmap_rows picture)) cost number → {row : ℕ} {current : Method} (is_open : Bool) {tokens : List Token}
-    → IsWalk picture (node row current is_open)
-    (opened is_open tokens) → total cost (opened is_open tokens) ≡ number (node row current is_open)
-    → IsOpened picture number row current is_open tokens
-opened_is feasible true w t = record { walk = w; total_is = t; back = λ other v u. (v, u) }
+    → IsWalk picture (node row current is_open) (opened is_open tokens)
+    → total cost (opened is_open tokens) ≡ number (node row current is_open) → IsOpened picture number row current is_open tokens
+opened_is feasible true w t = record { walk = w; total_is = t; back = λ other v. v }
 opened_is {picture} {number} feasible {row} {current} false {tokens} w t =
     let s = step_is_least (width_of picture) feasible (node row current false) opening tokens w.1 w.1.1 w.2 t in
     record {
       walk = s.1;
       total_is = s.2;
-      back = λ other v u. ((node row current true, (refl, refl), v), omega (arith, u, s.0, cost_opening));
+      back = λ other v. ((node row current true, (refl, refl), v.0), omega (arith, v.1, s.0, cost_opening));
     }
 
 -- ---- what is written
@@ -133,10 +123,8 @@ pub record IsWrittenTo (picture : Picture) (table : StepsAndTable) (old now : Li
   pub spells : Spells place.inside todo left
   pub walk : IsWalk picture place left
   pub total_is : total cost left ≡ node_number table.table place
-  pub goes_on : (rest : List Token) → IsWalk picture place
-      rest → total cost rest ≡ node_number table.table place
-      → IsWalk picture start (done ++ rest)
-      × (total cost (done ++ rest) ≡ node_number table.table start)
+  pub goes_on : (rest : List Token) → IsLeastWalk picture (node_number table.table) place rest
+      → IsLeastWalk picture (node_number table.table) start (done ++ rest)
 
 pub begin : {picture : Picture} {plan : StepsAndTable} (old : List ℕ) → IsBitmapPlan picture plan
     → IsWrittenTo picture plan old old plan.steps start
@@ -148,7 +136,7 @@ begin old is = record {
   spells = is.spelled;
   walk = is.walk;
   total_is = is.total_is;
-  goes_on = λ rest w t. (w, t);
+  goes_on = λ rest w. w;
 }
 
 -- the token that comes next
@@ -213,11 +201,10 @@ written_more {picture} {plan} {old} {step} {more} {place} {behind} is w a p =
       spells = spells_any more n.rest (λ others. goes_on_open step others ∙ sym (ap (λ (n : Node). n.inside) p)) n.spells;
       walk = s.1;
       total_is = s.2;
-      goes_on = λ rest v t.
-          let b = n.from.back (a.0 ∷ rest) (walk.0, too.leads, subst (λ (x : Node). IsWalk picture x rest) (sym too.there) v)
-          (omega (arith, t, s.0, too.costs)) in
+      goes_on = λ rest v.
+          let there = subst (λ (x : Node). IsWalk picture x rest) (sym too.there) v.0 in
           rw (append_assoc w.done token rest, ← opened_more place.inside a.0 rest)
-          (w.goes_on (opened place.inside (a.0 ∷ rest)) b.0 b.1);
+          (w.goes_on _ (n.from.back (a.0 ∷ rest) ((walk.0, too.leads, there), omega (arith, v.1, s.0, too.costs))));
     }
 
 pub written_all : {picture : Picture} {plan : StepsAndTable} {old now : List ℕ} {place : Node}
@@ -225,7 +212,7 @@ pub written_all : {picture : Picture} {plan : StepsAndTable} {old now : List ℕ
 unfolding Spells
 written_all w =
     let none : w.left ≡ [] = w.spells in
-    let g = rw (none, append-nil w.done) at (w.goes_on w.left w.walk w.total_is) in
+    let g = rw (none, append-nil w.done) at (w.goes_on w.left (w.walk, w.total_is)) in
     (w.done, w.spelled, g.0, g.1)
 
 -- a token after the opening of its sequence

@@ -1,4 +1,4 @@
-use Rattle.std.proofs.Common.{◌≡◌, ◌+◌, ◌++◌, ◌∙◌, ℕ, false, length, refl, sym, ap, subst, arith}
+use Rattle.std.proofs.Common.{◌≡◌, ◌+◌, ◌++◌, ◌∙◌, ℕ, false, length, refl, sym, subst, arith}
 use Rattle.std.specs.List.{flat_map, AllByRecursion}
 use Rattle.pcl_base.specs.declared.dpi.Dpi.{Dpi}
 use Rattle.pcl_base.specs.declared.size.Size.{Size}
@@ -39,34 +39,33 @@ returns-clause-ok c =
     let rows = bitmap_rows page.bitmap in
     let width : ℕ = page_row_bytes page.size page.dpi in
     let body = c.in_ok-append_body.ensures.ok in
-    let count : length rows ≡ page_height page.size page.dpi =
-    as_page page (λ (z : Size) (d : Dpi). length rows ≡ page_height z d)
-    (length_rows (page_height page.bitmap.size page.bitmap.dpi) (page_row_bytes page.bitmap.size page.bitmap.dpi) page.bitmap.bytes) in
-    let rows_are = as_page page (λ (z : Size) (d : Dpi). AllByRecursion (IsRowOf z d) rows)
-    (bitmap_rows_are c.size.ensures.picture) in
-    let walk : Walk (Leads width rows) (Ends rows) start body.0 = as_page page
-    (λ (z : Size) (d : Dpi). Walk (Leads (page_row_bytes z d) rows) (Ends rows) start body.0) body.2 in
+    let of = as_page page
+    (λ (z : Size) (d : Dpi). (length rows ≡ page_height z d) × AllByRecursion (IsRowOf z d) rows
+    × Walk (Leads (page_row_bytes z d) rows) (Ends rows) start body.0)
+    (length_rows _ (page_row_bytes page.bitmap.size page.bitmap.dpi) page.bitmap.bytes, bitmap_rows_are c.size.ensures.picture, body.2) in
     let high = height_small page.size page.dpi in
-    let some = height_some page.size page.dpi in
     let started : c.append_start.new.out.items ≡ old ++ start_bytes page.dpi page.copies page.size =
     c.in_ok-append_start.ensures.ok ∙ rw (c.dpi.ensures.value, page.dpi_is, c.size.ensures.value, page.size_is) in
-    let few = few_commands width c.requires.feasible (omega (arith, count, high)) body.0 {row = 0} {current = Plain} false walk body.3 in
+    let few = few_commands width c.requires.feasible (omega (arith, of.0, high)) body.0 {row = 0} {current = Plain} false of.2 body.3 in
     let text = start_bytes page.dpi page.copies page.size ++ flat_map token_bytes body.0 ++ end_bytes in
     let printed : PrintsPage page text = record {
       some_copies = page.copies_in_range.0;
       few_copies = omega (arith, page.copies_in_range.1);
-      count = count;
-      rows_are = rows_are;
+      count = of.0;
+      rows_are = of.1;
       tokens = body.0;
       spelled = refl;
-      prints = prints_of_walk width rows body.0 (widths page.size page.dpi rows rows_are) walk;
+      prints = prints_of_walk width rows body.0 (widths page.size page.dpi rows of.1) of.2;
     } in
     let least = text_of_least page.dpi page.size page.copies rows (node_number plan.table start) page.copies_in_range.0
-    (omega (arith, page.copies_in_range.1)) count rows_are (c.requires.least start (omega arith)) in
+    (omega (arith, page.copies_in_range.1)) of.0 of.1 (c.requires.least start (omega arith)) in
     let text_is : fixed_bytes page.dpi page.size page.copies + node_number plan.table start ≡ length text =
-    sym (text_length page.dpi page.size page.copies body.0 ∙ ap (λ (n : ℕ). fixed_bytes page.dpi page.size page.copies + n) body.3) in (
+    omega (arith, text_length page.dpi page.size page.copies body.0, body.3) in (
       text,
-      page_joined old _ _ _ started body.1
-          c.in_ok-extend_from_slice.ensures.items,
-      (printed, omega (arith, count, few.bound, some), subst (IsLeastText page.dpi page.size page.copies rows) text_is least),
+      page_joined old _ _ _ started body.1 c.in_ok-extend_from_slice.ensures.items,
+      (
+        printed,
+        omega (arith, of.0, few.bound, height_some page.size page.dpi),
+        subst (IsLeastText page.dpi page.size page.copies rows) text_is least,
+      ),
     )
