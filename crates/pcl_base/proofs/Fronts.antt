@@ -1,8 +1,6 @@
 -- The bytes at the front that pass a test, as far as they go.
 use Rattle.std.proofs.Common.{◌≡◌, ℕ, Bool, true, false, IsTrue, List, [], ◌∷◌, ◌++◌, take, drop, refl, ap, ◌∙◌, inl, inr}
-use Rattle.std.proofs.Math.Numerals.{one-add}
-use Rattle.std.specs.List.{prefix_len, AllByRecursion}
-use Rattle.std.proofs.lemmas.Bool.{cases_Bool}
+use Rattle.pcl_base.proofs.Names.{one-add, prefix_len, AllByRecursion, cases_Bool}
 
 -- each byte passes the test
 abbrev pub Pass : (ℕ → Bool) → List ℕ → Type 0

@@ -1,10 +1,6 @@
 -- Facts of lists that the crates share: fronts and what is after them, copies, and bytes that are given more than once.
 use Rattle.std.proofs.Common.{◌≡◌, ◌≢◌, ℕ, zero, suc, ◌+◌, ◌-◌, ◌*◌, ◌<◌, ◌≤◌, List, [], ◌∷◌, ◌++◌, length, take, drop, replicate, get_or, refl, sym, ap, ◌∙◌, arith, add-one}
-use Rattle.std.specs.Prelude.{slice_index, flat_map, All}
-use Rattle.std.proofs.lemmas.List.{ext_get_or, get_or-take, get_or-drop, get_or-replicate, take_at, take_more, take-take, take-replicate, drop-drop, drop-take, length-append, length-take, length-replicate, append-nil, get_or_past, take-append-le, take_all, drop_at, replicate-append-replicate}
-use Rattle.std.proofs.lemmas.Grind.{flat_map-append}
-use Rattle.std.proofs.Math.Seq.{take-add}
-use Rattle.std.proofs.Math.Numerals.{one-add}
+use Rattle.pcl_base.proofs.Names.{slice_index, flat_map, All, ext_get_or, get_or-take, get_or-drop, get_or-replicate, take_at, take_more, take-take, take-replicate, drop-drop, drop-take, length-append, length-take, length-replicate, append-nil, get_or_past, take-append-le, take_all, drop_at, replicate-append-replicate, flat_map-append, take-add, one-add}
 
 -- ---- fronts
 

@@ -1,8 +1,6 @@
 -- How large pages are at most: Legal is the highest, Letter and Legal are the widest, at 600 dots per inch.
 use Rattle.std.proofs.Common.{◌<◌, ◌≤◌, arith}
-use Rattle.pcl_base.specs.declared.dpi.Dpi.{Dpi}
-use Rattle.pcl_base.specs.declared.size.Size.{Size}
-use Rattle.pcl_base.specs.Size.{page_width, page_height, page_row_bytes}
+use Rattle.pcl_base.proofs.Names.{Dpi, Size, page_width, page_height, page_row_bytes}
 
 pub width_small : (size : Size) (dpi : Dpi) → page_width size dpi ≤ 4800
 width_small size dpi = grind arith

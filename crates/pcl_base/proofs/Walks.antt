@@ -1,6 +1,6 @@
 -- A feasible number is at most the cost of every walk, so one that a walk attains is the least.
 use Rattle.std.proofs.Common.{ℕ, ◌≤◌, List, [], ◌∷◌, arith}
-use Rattle.pcl_base.specs.Walks.{Walk, total, IsFeasible, IsAttained, IsLeastCost}
+use Rattle.pcl_base.proofs.Names.{Walk, total, IsFeasible, IsAttained, IsLeastCost}
 
 pub feasible_bounds : {N E : Type 0} {Leads : N → E → N → Type 0} {Ends : N → Type 0} {cost : E → ℕ} {number : N → ℕ}
     → IsFeasible Leads Ends cost number

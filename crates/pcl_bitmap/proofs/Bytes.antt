@@ -1,9 +1,6 @@
 -- One bit of a byte that `|`, `&` and shifts make, and the bits of a byte within its list.
 use Rattle.std.proofs.Common.{◌≡◌, ℕ, ◌+◌, ◌-◌, ◌*◌, ◌/◌, ◌%◌, ◌^◌, ◌<◌, ◌≤◌, nat_le, nat_lt, nat_eq, Bool, true, false, ◌&&◌, ◌||◌, if◌then◌else◌, List, length, get_or, set, bit_and, bit_or, w8, get_or-set_same, get_or-set_other, arith}
-use Rattle.std.proofs.lemmas.Bool.Decides.{nat_tests}
-use Rattle.std.proofs.lemmas.Nat.{pow_pos, shr-shr}
-use Rattle.std.proofs.lemmas.Nat.Bits.{bit_at-zero, bit_at_and, bit_at_or, bit_at_not, bit_at_ones, bit_at-lt, ones_shr, bit_at_cat_low, bit_at_cat_high, bit_at_mask_inside, bit_at_mask_below}
-use Rattle.pcl_bitmap.specs.Bitmap.{bit_of_byte, dot_of_row}
+use Rattle.pcl_bitmap.proofs.Names.{nat_tests, pow_pos, shr-shr, bit_at-zero, bit_at_and, bit_at_or, bit_at_not, bit_at_ones, bit_at-lt, ones_shr, bit_at_cat_low, bit_at_cat_high, bit_at_mask_inside, bit_at_mask_below, bit_of_byte, dot_of_row}
 
 pub bit_of_byte-or : (a b k : ℕ) → bit_of_byte (bit_or a b) k ≡ (bit_of_byte a k || bit_of_byte b k)
 bit_of_byte-or a b k = grind (arith, nat_tests, bit_at_or a b (7 - k), bit_at-lt a (7 - k), bit_at-lt b (7 - k))

@@ -1,9 +1,6 @@
 -- What is seen of a pattern.
 use Rattle.std.proofs.Common.{◌≡◌, ℕ, ℤ, ◌+◌, ◌-◌, ◌*◌, ◌/◌, ◌%◌, ◌<◌, ◌≤◌, min, nat_le, nat_lt, Bool, false, ◌&&◌, ◌||◌, if◌then◌else◌, Some, None, List, drop, ◌⊎◌, arith}
-use Rattle.std.proofs.lemmas.Bool.Decides.{nat_tests}
-use Rattle.std.proofs.lemmas.Nat.{mul-le, div_below, mod_below, div-add-mod', div-mul-add}
-use Rattle.pcl_bitmap.specs.Bitmap.{dot_of_row}
-use Rattle.pcl_bitmap.specs.Dots.{rectangle_dot, dots_past, pattern_bit, pattern_dot}
+use Rattle.pcl_bitmap.proofs.Names.{nat_tests, mul-le, div_below, mod_below, div-add-mod', div-mul-add, dot_of_row, rectangle_dot, dots_past, pattern_bit, pattern_dot}
 use Rattle.pcl_bitmap.proofs.Spread.{quotient_test}
 
 -- a line whose bits are those of the line above

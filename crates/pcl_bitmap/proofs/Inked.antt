@@ -1,12 +1,6 @@
 -- Rectangles of dots that take ink, row by row, and the pages that they are on.
 use Rattle.std.proofs.Common.{◌≡◌, ℕ, ◌+◌, ◌-◌, ◌*◌, ◌<◌, ◌≤◌, Bool, ◌||◌, if◌then◌else◌, min, List, length, get_or, drop, All, arith}
-use Rattle.std.proofs.lemmas.Bool.Decides.{nat_tests}
-use Rattle.std.proofs.lemmas.List.Elements.{All-from_get_or}
-use Rattle.pcl_base.specs.declared.dpi.Dpi.{Dpi}
-use Rattle.pcl_base.specs.declared.size.Size.{Size}
-use Rattle.pcl_base.specs.Size.{page_width, page_height, page_row_bytes}
-use Rattle.pcl_bitmap.specs.Bitmap.{IsPicture, dot_of_row, dot}
-use Rattle.pcl_bitmap.specs.Dots.{in_run, run_dot, rectangle_dot}
+use Rattle.pcl_bitmap.proofs.Names.{nat_tests, All-from_get_or, Dpi, Size, page_width, page_height, page_row_bytes, IsPicture, dot_of_row, dot, in_run, run_dot, rectangle_dot}
 use Rattle.pcl_bitmap.proofs.Pages.{rows_apart, dot_in_page, dot_past_row}
 use Rattle.pcl_bitmap.proofs.Pictures.{picture_of, wide_rows}
 

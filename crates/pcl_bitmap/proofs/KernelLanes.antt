@@ -1,13 +1,6 @@
 -- Lanes of bytes, and places where rows change.
 use Rattle.std.proofs.Common.{◌↔◌, All, ◌≡◌, ◌≢◌, ℕ, ◌+◌, ◌-◌, ◌<◌, ◌≤◌, ◌^◌, ◌%◌, min, Bool, false, not, cond, eqb, map, List, length, get_or, sym, ap, ◌∙◌, inl, inr, arith, w8, w64}
-use Rattle.std.specs.Int.{bit_at, trailing_zeros}
-use Rattle.std.specs.Simd.Lanes.{zip2, mask_l, top}
-use Rattle.std.proofs.lemmas.Simd.{length-zip2, get_or-zip2, bit_mask_l, tops_compared, mask_l-mod}
-use Rattle.std.proofs.lemmas.Bool.{cases_lt}
-use Rattle.std.proofs.lemmas.Bool.Decides.{nat_tests}
-use Rattle.std.proofs.lemmas.List.Elements.{All-get_or, All-from_get_or}
-use Rattle.pcl_bitmap.specs.Kernels.{IsTrimmedLen}
-use Rattle.std.proofs.lemmas.Nat.Bits.{bit_at-zero, bit_at-trailing_zeros}
+use Rattle.pcl_bitmap.proofs.Names.{bit_at, trailing_zeros, zip2, mask_l, top, length-zip2, get_or-zip2, bit_mask_l, tops_compared, mask_l-mod, cases_lt, nat_tests, All-get_or, All-from_get_or, IsTrimmedLen, bit_at-zero, bit_at-trailing_zeros}
 
 -- the place of the lowest bit that is set, or 32
 pub record IsFirstSet (mask count : ℕ) : Type 0 where

@@ -1,15 +1,6 @@
 -- Areas whose dots have one ink.
 use Rattle.std.proofs.Common.{◌≡◌, ℕ, ◌-◌, ◌<◌, ◌≤◌, min, Bool, ◌||◌, if◌then◌else◌, List, ap, inl, inr, ◌⊎◌, arith}
-use Rattle.std.proofs.lemmas.Bool.Decides.{nat_tests}
-use Rattle.pcl_base.specs.declared.dpi.Dpi.{Dpi}
-use Rattle.pcl_base.specs.declared.size.Size.{Size}
-use Rattle.pcl_base.specs.Size.{page_width, page_height}
-use Rattle.pcl_bitmap.specs.Bitmap.{Picture, dot}
-use Rattle.pcl_bitmap.specs.Dots.{is_black_ink, rectangle_dot}
-use Rattle.pcl_bitmap.specs.Filled.{HasInk}
-use Rattle.pcl_bitmap.specs.declared.filled.Filled.{Filled}
-use Rattle.pcl_bitmap.specs.declared.ink.Ink.{Ink}
-use Rattle.pcl_bitmap.specs.declared.ink.Ink.TheVariants.{Black}
+use Rattle.pcl_bitmap.proofs.Names.{nat_tests, Dpi, Size, page_width, page_height, Picture, dot, is_black_ink, rectangle_dot, HasInk, Filled, Ink, Black}
 use Rattle.pcl_bitmap.proofs.Pictures.{picture_of}
 use Rattle.pcl_bitmap.proofs.Inked.{IsDrawn, clipped}
 

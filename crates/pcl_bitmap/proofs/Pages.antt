@@ -1,12 +1,6 @@
 -- Rows within the bytes of a page: r bytes a row.
 use Rattle.std.proofs.Common.{◌≡◌, ℕ, ◌+◌, ◌-◌, ◌*◌, ◌/◌, ◌%◌, ◌<◌, ◌≤◌, false, List, length, get_or, take, drop, replicate, All, refl, sym, ap, ◌∙◌, inl, inr, lit<, arith, length-take}
-use Rattle.std.proofs.lemmas.Bool.{cases_lt}
-use Rattle.std.proofs.lemmas.Bool.Decides.{nat_tests}
-use Rattle.std.proofs.lemmas.List.{get_or-take, get_or-drop, get_or_past, ext_get_or}
-use Rattle.std.proofs.lemmas.List.Elements.{All-get_or, All-from_get_or, All-take, All-drop, All-replicate}
-use Rattle.std.proofs.lemmas.Nat.{row_fits, mul-le, div_below, div-add-mod', mod_below}
-use Rattle.std.proofs.lemmas.Nat.Bits.{bit_at-lt, same_from_bits_below}
-use Rattle.pcl_bitmap.specs.Bitmap.{bit_of_byte, dot_of_row}
+use Rattle.pcl_bitmap.proofs.Names.{cases_lt, nat_tests, get_or-take, get_or-drop, get_or_past, ext_get_or, All-get_or, All-from_get_or, All-take, All-drop, All-replicate, row_fits, mul-le, div_below, div-add-mod', mod_below, bit_at-lt, same_from_bits_below, bit_of_byte, dot_of_row}
 use Rattle.pcl_bitmap.proofs.Bytes.{bit_of_byte-zero, dot_at}
 
 -- a dot of a row is a bit of the page's bytes

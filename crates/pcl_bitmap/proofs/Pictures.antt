@@ -1,13 +1,7 @@
 -- Pictures.
 use Rattle.std.proofs.Common.{◌≡◌, ℕ, ◌*◌, ◌^◌, ◌<◌, ◌≤◌, false, List, length, replicate, sym, ap, ◌∙◌, lit<, arith}
-use Rattle.std.proofs.lemmas.List.{length-replicate}
-use Rattle.std.proofs.lemmas.List.Elements.{All-replicate}
-use Rattle.std.proofs.lemmas.Nat.{mul-le}
-use Rattle.pcl_base.specs.declared.dpi.Dpi.{Dpi}
-use Rattle.pcl_base.specs.declared.size.Size.{Size}
-use Rattle.pcl_base.specs.Size.{page_width, page_height, page_row_bytes}
-use Rattle.pcl_base.proofs.PageBounds.{width_small, height_small}
-use Rattle.pcl_bitmap.specs.Bitmap.{Picture, IsPicture, dot, blank_bytes, blank_picture}
+use Rattle.pcl_bitmap.proofs.Names.{length-replicate, All-replicate, mul-le, Dpi, Size, page_width, page_height, page_row_bytes, width_small, height_small, Picture, IsPicture, dot, blank_picture}
+use Rattle.pcl_bitmap.specs.Bitmap.{blank_bytes}
 use Rattle.pcl_bitmap.proofs.Pages.{same_pages, dot_of_zeros}
 
 -- a picture by its parts

@@ -1,9 +1,6 @@
 -- Runs of bits, byte by byte and part by part.
 use Rattle.std.proofs.Common.{◌≡◌, ℕ, ◌+◌, ◌-◌, ◌*◌, ◌/◌, ◌%◌, ◌<◌, ◌≤◌, nat_le, nat_lt, Bool, ◌&&◌, ◌||◌, List, ◌++◌, length, get_or, set, take, drop, bit_and, bit_or, refl, ap, ◌∙◌, arith}
-use Rattle.std.proofs.lemmas.Bool.Decides.{nat_tests}
-use Rattle.std.proofs.lemmas.List.{get_or-take, get_or-drop, get_or_append_left, length-take-le}
-use Rattle.pcl_bitmap.specs.Bitmap.{bit_of_byte, dot_of_row}
-use Rattle.pcl_bitmap.specs.Dots.{in_run, run_dot}
+use Rattle.pcl_bitmap.proofs.Names.{nat_tests, get_or-take, get_or-drop, get_or_append_left, length-take-le, bit_of_byte, dot_of_row, in_run, run_dot}
 use Rattle.pcl_bitmap.proofs.Bytes.{bit_of_byte-or, bit_of_byte-and, bit_of_byte-not, dot_at, dot_of_bits}
 
 -- some bits are in place from byte `first` up to byte i, and then up to the next

@@ -1,13 +1,6 @@
 -- Bits that are spread to squares of dots.
 use Rattle.std.proofs.Common.{◌≡◌, ℕ, ◌+◌, ◌-◌, ◌*◌, ◌/◌, ◌%◌, ◌^◌, ◌<◌, ◌≤◌, min, nat_lt, Bool, ◌||◌, if◌then◌else◌, List, get_or, bit_and, bit_or, add-zero, ap, ◌∙◌, arith}
-use Rattle.std.specs.Int.{bit_at, div_ceil}
-use Rattle.std.proofs.Math.Nat.{mul-add-div_right}
-use Rattle.std.proofs.lemmas.Grind.{div_ceil_times}
-use Rattle.std.proofs.lemmas.Bool.Decides.{nat_tests}
-use Rattle.std.proofs.lemmas.Nat.{pow_pos, shr-shr, shl_whole, mul-le, div_below, le-div, mod_below, div-add-mod', div-mul-add}
-use Rattle.std.proofs.lemmas.Nat.Bits.{bit_at-zero, bit_at_or, bit_at_ones, bit_at_ones_above, ones_shr, bit_at_cat_low, bit_at_cat_high}
-use Rattle.pcl_bitmap.specs.Bitmap.{bit_of_byte, dot_of_row}
-use Rattle.pcl_bitmap.specs.Dots.{in_run, rectangle_dot, raster_dot}
+use Rattle.pcl_bitmap.proofs.Names.{bit_at, div_ceil, mul-add-div_right, div_ceil_times, nat_tests, pow_pos, shr-shr, shl_whole, mul-le, div_below, le-div, mod_below, div-add-mod', div-mul-add, bit_at-zero, bit_at_or, bit_at_ones, bit_at_ones_above, ones_shr, bit_at_cat_low, bit_at_cat_high, bit_of_byte, dot_of_row, in_run, rectangle_dot, raster_dot}
 use Rattle.pcl_bitmap.proofs.Bytes.{bit_of_byte-low, dot_at}
 
 -- a quotient is below a number where the dividend is below its product

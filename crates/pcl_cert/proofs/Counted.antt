@@ -1,7 +1,6 @@
 -- The count of a certificate's pages, in four bytes after eight.
 use Rattle.std.proofs.Common.{◌≡◌, ℕ, ◌+◌, List, ◌++◌, length, take, drop, refl, sym, append_assoc}
-use Rattle.std.specs.Int.{w32, to_be_bytes}
-use Rattle.std.proofs.lemmas.List.{take_at, drop_at}
+use Rattle.pcl_cert.proofs.Names.{w32, to_be_bytes, take_at, drop_at}
 use borrow.Rule.Slice.PartMut.{put_mid}
 
 -- the four bytes of the count

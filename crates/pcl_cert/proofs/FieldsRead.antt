@@ -1,9 +1,6 @@
 -- Numbers at the front of bytes: what is read is what is spelled, and the other way round.
 use Rattle.std.proofs.Common.{◌≡◌, ℕ, ◌+◌, ◌^◌, ◌<◌, ◌≤◌, Bool, false, cond, List, ◌++◌, length, get_or, take, drop, Result, Ok, Err, refl, append_assoc, arith}
-use Rattle.std.specs.Int.{Width, w16, w32, byte_len, from_be_bytes, to_be_bytes}
-use Rattle.std.proofs.lemmas.List.{length-take, get_or-drop, get_or-take, get_or_past}
-use Rattle.std.proofs.lemmas.Nat.{be_bytes_2, be_bytes_4, from_be_bytes-to_be_bytes_2, from_be_bytes-to_be_bytes_4}
-use Rattle.pcl_cert.specs.declared.fault.CertFault.{CertFault}
+use Rattle.pcl_cert.proofs.Names.{Width, w16, w32, byte_len, from_be_bytes, to_be_bytes, length-take, get_or-drop, get_or-take, get_or_past, be_bytes_2, be_bytes_4, from_be_bytes-to_be_bytes_2, from_be_bytes-to_be_bytes_4, CertFault}
 use Rattle.pcl_cert.specs.ReadingCertificates.{◌>>=◌}
 
 -- ---- bytes

@@ -1,18 +1,7 @@
 -- The length of the fixed part of a page text.
 use Rattle.std.proofs.Common.{◌≡◌, refl, ◌++◌, ℕ, ◌+◌, ◌/◌, ◌%◌, ◌<◌, ◌≤◌, [], ◌∷◌, length, ap, ◌∙◌, arith}
-use Rattle.std.specs.Prelude.{decimal}
+use Rattle.pcl_cert.proofs.Names.{decimal, decimal_digit, decimal_step, length-append, Dpi, Size, code_of, fixed_bytes, raster_start, start_is, start_bytes, Dpi300, Dpi600, Executive, Letter, Legal, A4}
 use Rattle.std.specs.Fmt.{digits}
-use Rattle.std.proofs.lemmas.Fmt.{decimal_digit, decimal_step}
-use Rattle.std.proofs.lemmas.List.{length-append}
-use Rattle.pcl_base.specs.declared.dpi.Dpi.{Dpi}
-use Rattle.pcl_base.specs.declared.size.Size.{Size}
-use Rattle.pcl_base.specs.Size.{code_of}
-use Rattle.pcl_output.specs.LeastTexts.{fixed_bytes}
-use Rattle.pcl_check.specs.inner.Reading.{raster_start}
-use Rattle.pcl_check.proofs.Beginnings.{start_is}
-use Rattle.pcl_output.specs.Tokens.{start_bytes}
-use Rattle.pcl_base.specs.declared.dpi.Dpi.TheVariants.{Dpi300, Dpi600}
-use Rattle.pcl_base.specs.declared.size.Size.TheVariants.{Executive, Letter, Legal, A4}
 
 raster_length : (size : Size) (dpi : Dpi) → length (raster_start size dpi) ≡ 26
 unfolding digits

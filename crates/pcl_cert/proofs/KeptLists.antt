@@ -1,29 +1,6 @@
 -- Lists that are put one after the other, and the tables that they stand for.
 use Rattle.std.proofs.Common.{◌≡◌, ℕ, zero, suc, ◌+◌, ◌-◌, ◌*◌, ◌^◌, ◌<◌, ◌≤◌, true, false, List, [], ◌∷◌, ◌++◌, length, take, drop, get_or, replicate, refl, sym, ap, subst, ◌∙◌, append_assoc, arith, inl, inr}
-use Rattle.std.specs.Prelude.{nat_eq}
-use Rattle.std.specs.List.{AllByRecursion}
-use Rattle.std.proofs.lemmas.Bool.{cases_lt}
-use Rattle.std.proofs.lemmas.List.{ext_get_or, get_or_append_left, get_or-append_right, get_or-replicate, get_or_past, get_or-take, length-append, length-replicate, length-take, length-drop, drop_at, append-nil, take-append-le, drop-append-le, map_push, length-map}
-use Rattle.std.proofs.Math.ListN.{drop_of_length-le}
-use Rattle.pcl_cert.specs.Certificates.{IsList, list_bytes}
-use Rattle.pcl_cert.specs.CertificateFields.{ends_in_zero}
-use Rattle.pcl_cert.specs.RowTables.{numbers_from}
-use Rattle.pcl_cert.specs.TablesModel.{count_of, list_from, lists_within, IsListAt}
-use Rattle.pcl_cert.specs.PageTables.{table_of, AreLeastTables}
-use Rattle.pcl_base.specs.declared.method.Method.{Method}
-use Rattle.pcl_base.specs.declared.method.Method.TheVariants.{Plain, Runs, Packed, Delta}
-use Rattle.pcl_base.specs.Method.{method_code}
-use Rattle.pcl_rows.specs.Rows.{base}
-use Rattle.pcl_coders.specs.RowWalks.{IsLeastTable}
-use Rattle.pcl_coders.proofs.RowWalks.{length-base}
-use Rattle.pcl_base.specs.Size.{page_height, page_row_bytes}
-use Rattle.pcl_bitmap.specs.Bitmap.{Picture}
-use Rattle.pcl_output.specs.Nodes.{row_at, row_above}
-use Rattle.pcl_output.specs.PageText.{bitmap_rows}
-use Rattle.pcl_output.proofs.RowsFrom.{length_rows}
-use Rattle.pcl_output.proofs.TokenCosts.{method_small}
-use Rattle.pcl_cert.specs.declared.listing.Lists.{Lists}
-use Rattle.pcl_cert.specs.inner.Listing.{IsTrimmed, HasListMore, HasRowMore, HoldsRows, HoldsRowsOf, AreWhole, listed}
+use Rattle.pcl_cert.proofs.Names.{nat_eq, AllByRecursion, cases_lt, ext_get_or, get_or_append_left, get_or-append_right, get_or-replicate, get_or_past, get_or-take, length-append, length-replicate, length-take, length-drop, drop_at, append-nil, take-append-le, drop-append-le, map_push, length-map, drop_of_length-le, IsList, list_bytes, ends_in_zero, numbers_from, count_of, list_from, lists_within, IsListAt, table_of, AreLeastTables, Method, Plain, Runs, Packed, Delta, method_code, base, IsLeastTable, length-base, page_height, page_row_bytes, Picture, row_at, row_above, bitmap_rows, length_rows, method_small, Lists, IsTrimmed, HasListMore, HasRowMore, HoldsRows, HoldsRowsOf, AreWhole, listed}
 use Rattle.pcl_cert.proofs.FieldsRead.{two_bytes}
 use Rattle.pcl_cert.proofs.Lists.{all_both}
 use Rattle.pcl_cert.proofs.Numbers.{numbers_of_front}

@@ -1,3 +1,4 @@
+pub mod Names
 pub mod FieldsRead
 pub mod Numbers
 pub mod Loops

@@ -1,17 +1,8 @@
 -- Lists of row tables: whatever is read is spelled so, and what is spelled is read.
 use Rattle.std.proofs.Common.{◌≡◌, ℕ, zero, suc, ◌+◌, ◌*◌, ◌^◌, ◌<◌, false, List, [], ◌∷◌, ◌++◌, length, take, drop, Option, Some, None, Ok, refl, ap, ◌∙◌, arith}
-use Rattle.std.specs.Int.{w16, to_be_bytes}
-use Rattle.std.specs.List.{flat_map, AllByRecursion}
-use Rattle.std.specs.Prelude.{nat_lt}
-use Rattle.std.proofs.lemmas.Bool.{le-ltb}
-use Rattle.std.proofs.lemmas.List.{drop_at, take-append-drop, length-append}
-use Rattle.std.proofs.lemmas.List.Concat.{flat_map-cons}
-use Rattle.pcl_cert.specs.declared.format.Format.{Format}
-use Rattle.pcl_cert.specs.declared.format.Format.TheVariants.{One, Two}
-use Rattle.pcl_cert.specs.Certificates.{IsList, list_bytes, lists_bytes, HasLists}
+use Rattle.pcl_cert.proofs.Names.{w16, to_be_bytes, flat_map, AllByRecursion, nat_lt, le-ltb, drop_at, take-append-drop, length-append, flat_map-cons, Format, One, Two, IsList, list_bytes, lists_bytes, HasLists, count_of, lists_at}
 use Rattle.pcl_cert.specs.RowTables.{numbers_from}
-use Rattle.pcl_cert.specs.TablesModel.{count_of}
-use Rattle.pcl_cert.specs.ReadingCertificates.{list_at, lists_at, places_at}
+use Rattle.pcl_cert.specs.ReadingCertificates.{list_at, places_at}
 use Rattle.pcl_cert.proofs.FieldsRead.{AreBytes, rest_bytes, front_bytes, step_ok, same_ok, two_bytes}
 use Rattle.pcl_cert.proofs.Numbers.{length_numbers, list_spelled}
 use Rattle.pcl_cert.proofs.Lists.{list_found}

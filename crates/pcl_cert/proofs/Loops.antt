@@ -1,8 +1,6 @@
 -- Reading several things one after the other, as loops do.
 use Rattle.std.proofs.Common.{◌≡◌, ℕ, suc, ◌+◌, ◌-◌, ◌<◌, ◌≤◌, List, [], ◌∷◌, ◌++◌, Result, Ok, Err, refl, sym, ap, ◌∙◌, append_assoc, arith}
-use Rattle.std.proofs.lemmas.List.{append-nil}
-use Rattle.pcl_cert.specs.declared.fault.CertFault.{CertFault}
-use Rattle.pcl_cert.specs.declared.fault.CertFault.TheVariants.{Memory}
+use Rattle.pcl_cert.proofs.Names.{append-nil, CertFault, Memory}
 use Rattle.pcl_cert.specs.ReadingCertificates.{◌>>=◌, Fails}
 
 -- what reads one thing

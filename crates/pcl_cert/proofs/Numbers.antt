@@ -1,14 +1,7 @@
 -- Numbers of two bytes, one after the other.
 use Rattle.std.proofs.Common.{◌≡◌, ℕ, zero, suc, ◌+◌, ◌-◌, ◌*◌, ◌<◌, ◌≤◌, false, nat_eq, List, length, get_or, take, drop, refl, ap, arith}
-use Rattle.std.specs.Int.{w16, from_be_bytes, to_be_bytes}
-use Rattle.std.specs.List.{flat_map}
-use Rattle.std.proofs.lemmas.List.{drop-drop, drop-take, take-take, length-drop}
-use Rattle.std.proofs.lemmas.List.Concat.{flat_map-cons}
-use Rattle.std.proofs.Math.Seq.{take-add}
-use Rattle.pcl_cert.specs.Certificates.{list_bytes}
-use Rattle.pcl_cert.specs.CertificateFields.{ends_in_zero}
+use Rattle.pcl_cert.proofs.Names.{w16, from_be_bytes, to_be_bytes, flat_map, drop-drop, drop-take, take-take, length-drop, flat_map-cons, take-add, list_bytes, ends_in_zero, count_of, list_from}
 use Rattle.pcl_cert.specs.RowTables.{numbers_from}
-use Rattle.pcl_cert.specs.TablesModel.{count_of, list_from}
 use Rattle.pcl_cert.proofs.FieldsRead.{AreBytes, rest_bytes, two_bytes, front_spelled}
 
 pub length_numbers : (n : ℕ) (bytes : List ℕ) → length (numbers_from n bytes) ≡ n

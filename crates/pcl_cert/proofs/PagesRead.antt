@@ -1,8 +1,6 @@
 -- What is read of a certificate is what is spelled there, and the other way round.
-use Rattle.std.proofs.Common.{ℕ, refl}
-use Rattle.pcl_base.specs.declared.dpi.Dpi.{Dpi}
-use Rattle.pcl_cert.specs.declared.format.Format.{Format}
-use Rattle.pcl_cert.specs.ReadingCertificates.{row_numbers_at, table_at, list_at, lists_at, proof_at, proofs_at}
+use Rattle.pcl_cert.proofs.Names.{ℕ, refl, Dpi, Format, row_numbers_at, list_at, proof_at}
+use Rattle.pcl_cert.specs.ReadingCertificates.{table_at, lists_at, proofs_at}
 use Rattle.pcl_cert.proofs.Loops.{IsMany}
 
 pub tables_are_many : IsMany row_numbers_at table_at

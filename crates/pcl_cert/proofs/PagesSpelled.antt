@@ -1,29 +1,12 @@
 -- Certificates: whatever is read is spelled so, and what is spelled is read.
 use Rattle.std.proofs.Common.{◌≡◌, ℕ, ◌+◌, ◌^◌, ◌<◌, Bool, true, false, cond, eqb, List, [], ◌++◌, length, take, drop, Some, Result, Ok, Err, refl, sym, ap, ◌∙◌, append_assoc, arith}
-use Rattle.std.specs.Int.{w16, w32, to_be_bytes}
-use Rattle.std.specs.List.{flat_map, AllByRecursion, starts_with}
+use Rattle.pcl_cert.proofs.Names.{w16, w32, to_be_bytes, flat_map, AllByRecursion, starts_with, Vec, eqb-true, append-nil, nil_from_length, take-append-drop, same_text, Dpi, Size, page_height, page_row_bytes, row_small, height_small, CertFault, BadMagic, Extra, Format, One, Two, PageProof, pair_bytes, row_bytes, table_bytes, lists_bytes, rows_in, proof_bytes, certificate_bytes, AreSmall, HasLists, IsProof, AreProofs, magic, size_with_height, Gives, contents_of, uint_at, format_at, sized, table_at, places_at, proofs_at, nat_tests}
 use Rattle.std.specs.Prelude.{nat_eq, if◌then◌else◌, IfOk}
-use Rattle.std.specs.Global.{Vec}
-use Rattle.std.proofs.lemmas.Bool.{eqb-true}
-use Rattle.std.proofs.lemmas.List.{append-nil, nil_from_length, take-append-drop}
-use Rattle.std.specs.Cmp.Lexicographic.{same_text}
-use Rattle.pcl_base.specs.declared.dpi.Dpi.{Dpi}
-use Rattle.pcl_base.specs.declared.size.Size.{Size}
-use Rattle.pcl_base.specs.Size.{page_height, page_row_bytes}
-use Rattle.pcl_base.proofs.PageBounds.{row_small, height_small}
-use Rattle.pcl_cert.specs.declared.fault.CertFault.{CertFault}
-use Rattle.pcl_cert.specs.declared.fault.CertFault.TheVariants.{BadMagic, Extra}
-use Rattle.pcl_cert.specs.declared.format.Format.{Format}
-use Rattle.pcl_cert.specs.declared.format.Format.TheVariants.{One, Two}
-use Rattle.pcl_cert.specs.declared.page_proof.PageProof.{PageProof}
-use Rattle.pcl_cert.specs.Certificates.{pair_bytes, row_bytes, table_bytes, lists_bytes, rows_in, proof_bytes, certificate_bytes, AreSmall, HasLists, IsProof, AreProofs}
-use Rattle.pcl_cert.specs.CertificateFields.{magic, size_with_height}
-use Rattle.pcl_cert.specs.ReadingCertificates.{Gives, contents_of, uint_at, format_at, sized, pair_at, row_numbers_at, table_at, places_at, proof_at, proofs_at, certificate_at}
+use Rattle.pcl_cert.specs.ReadingCertificates.{pair_at, row_numbers_at, proof_at, certificate_at}
 use Rattle.pcl_cert.proofs.FieldsRead.{AreBytes, rest_bytes, Splits, splits_both, step_ok, same_ok, two_bytes, four_bytes}
 use Rattle.pcl_cert.proofs.PagesRead.{tables_are_many, proofs_are_many}
 use Rattle.pcl_cert.proofs.Spelled.{Spells, number_spells, many_spell}
 use Rattle.pcl_cert.proofs.ListsSpelled.{places_spell}
-use Rattle.std.proofs.lemmas.Bool.Decides.{nat_tests}
 
 -- ---- tables
 

@@ -1,24 +1,8 @@
 -- The checker's yes: no text that prints the page is shorter.
 use Rattle.std.proofs.Common.{◌≡◌, ℕ, ◌+◌, ◌<◌, ◌≤◌, List, Some, None, length, get_or, sym, ap, ◌∙◌, arith}
-use Rattle.pcl_base.specs.Size.{page_row_bytes}
-use Rattle.pcl_bitmap.specs.declared.page.Page.{Page}
-use Rattle.pcl_base.specs.Walks.{IsFeasible}
-use Rattle.pcl_coders.proofs.Filling.{first_bounds}
-use Rattle.pcl_output.specs.PageText.{PrintsPage, bitmap_rows}
-use Rattle.pcl_output.specs.Nodes.{Leads, Ends, cost, row_at, row_above}
-use Rattle.pcl_output.specs.Table.{node_number}
-use Rattle.pcl_output.specs.declared.table.RowNumbers.{RowNumbers}
-use Rattle.pcl_output.proofs.Texts.{widths, text_bounded}
-use Rattle.pcl_output.proofs.Walking.{row_width, above_width}
+use Rattle.pcl_cert.proofs.Names.{page_row_bytes, Page, IsFeasible, first_bounds, PrintsPage, bitmap_rows, Leads, Ends, cost, row_at, row_above, node_number, RowNumbers, widths, text_bounded, row_width, above_width, list_of, number_at_place, BoundData, Tables, AreOfPage, ArePlacesGood, AreEdgesGood, IsBounded, IsVerdict, table_of, feasible_good, good_feasible, numbers_by_bounds, height_small, table_of_good}
 use Rattle.pcl_cert.specs.declared.check.Verdict.TheVariants as verdicts
-use Rattle.pcl_cert.specs.RowTables.{list_of, number_at_place}
-use Rattle.pcl_check.specs.Edges.{BoundData}
-use Rattle.pcl_cert.specs.Checking.{Tables, AreOfPage, ArePlacesGood, AreEdgesGood, IsBounded, IsVerdict}
-use Rattle.pcl_cert.specs.PageTables.{table_of}
-use Rattle.pcl_check.proofs.GoodNumbers.{feasible_good, good_feasible, numbers_by_bounds}
-use Rattle.pcl_base.proofs.PageBounds.{height_small}
 use Rattle.pcl_cert.proofs.KeptLists.{table_length, table_number}
-use Rattle.pcl_check.proofs.PlaceSteps.{table_of_good}
 
 -- ---- pages
 

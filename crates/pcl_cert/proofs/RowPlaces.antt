@@ -1,19 +1,6 @@
 -- Good places of a row.
 use Rattle.std.proofs.Common.{◌≡◌, ℕ, ◌+◌, ◌<◌, ◌≤◌, inl, inr, List, Option, Some, None, is_some, true, false, length, arith}
-use Rattle.std.proofs.lemmas.Bool.{cases_lt}
-use Rattle.pcl_base.specs.declared.method.Method.{Method}
-use Rattle.pcl_cert.specs.declared.check.places.BadPlace.{BadPlace}
-use Rattle.pcl_base.specs.Size.{page_height, page_row_bytes}
-use Rattle.pcl_bitmap.specs.declared.page.Page.{Page}
-use Rattle.pcl_coders.specs.RowWalks.{IsRowTable}
-use Rattle.pcl_output.specs.PageText.{bitmap_rows}
-use Rattle.pcl_output.specs.Nodes.{row_at, row_above}
-use Rattle.pcl_output.proofs.TokenCosts.{method_small}
-use Rattle.pcl_cert.specs.RowTables.{list_of}
-use Rattle.pcl_check.specs.Places.{IsGoodPlace, IsFirstPlace, FindsPlace}
-use Rattle.pcl_cert.specs.Checking.{IsGoodInTables, Tables}
-use Rattle.pcl_cert.specs.inner.FirstBad.{FindsBadBelow, FindsBadIn}
-use Rattle.pcl_cert.specs.PageTables.{table_of}
+use Rattle.pcl_cert.proofs.Names.{cases_lt, Method, BadPlace, page_height, page_row_bytes, Page, IsRowTable, bitmap_rows, row_at, row_above, method_small, list_of, IsGoodPlace, IsFirstPlace, FindsPlace, IsGoodInTables, Tables, FindsBadBelow, FindsBadIn, table_of}
 
 pub good_places : {method : Method} {seed row numbers : List ℕ} → IsRowTable method seed row numbers → {place : ℕ}
     → IsGoodPlace method seed row numbers place

@@ -1,28 +1,6 @@
 -- The numbers of a plan are small: each row can be sent as it is.
 use Rattle.std.proofs.Common.{◌≡◌, ℕ, zero, suc, ◌+◌, ◌-◌, ◌*◌, ◌^◌, ◌<◌, ◌≤◌, Bool, true, false, List, [], ◌∷◌, length, refl, sym, subst, ◌∙◌, arith}
-use Rattle.std.specs.Prelude.{slice_index_or}
-use Rattle.std.specs.List.{AllByRecursion}
-use Rattle.std.proofs.lemmas.List.{append-nil, drop_all}
-use Rattle.pcl_base.specs.Limits.{row_limit}
-use Rattle.pcl_base.specs.declared.method.Method.{Method}
-use Rattle.pcl_base.specs.declared.method.Method.TheVariants.{Plain, Runs, Packed, Delta}
-use Rattle.pcl_base.specs.Method.{method_code}
-use Rattle.pcl_rows.specs.Rows.{base, RowFrom, IsRowData}
-use Rattle.pcl_rows.specs.inner.Fronts.{overlaid}
-use Rattle.pcl_rows.proofs.Overlays.{overlaid_within}
-use Rattle.pcl_rows.proofs.Readings.{plain_elements, row_of_plain}
-use Rattle.pcl_coders.specs.Coding.{IsCodable}
-use Rattle.pcl_coders.proofs.RowWalks.{length-base}
-use Rattle.pcl_base.specs.Walks.{IsFeasible}
-use Rattle.pcl_output.specs.Tokens.{opening, method, send}
-use Rattle.pcl_output.specs.declared.node.Node.{Node}
-use Rattle.pcl_output.specs.Nodes.{row_at, row_above, Leads, Ends, cost, AreOfWidth}
-use Rattle.pcl_output.specs.Spelling.{least_spelling}
-use Rattle.pcl_output.specs.Table.{node_number, no_numbers}
-use Rattle.pcl_output.specs.declared.table.RowNumbers.{RowNumbers}
-use Rattle.pcl_output.proofs.Walking.{node, row_width, above_width}
-use Rattle.pcl_output.proofs.TokenCosts.{cost_opening, cost_method, cost_send, method_small, spelled_cost, row_cost_small}
-use Rattle.pcl_cert.specs.Certificates.{AreSmall}
+use Rattle.pcl_cert.proofs.Names.{slice_index_or, AllByRecursion, append-nil, drop_all, row_limit, Method, Plain, Runs, Packed, Delta, method_code, base, RowFrom, IsRowData, overlaid, overlaid_within, plain_elements, row_of_plain, IsCodable, length-base, IsFeasible, opening, method, send, Node, row_at, row_above, Leads, Ends, cost, AreOfWidth, least_spelling, node_number, no_numbers, RowNumbers, node, row_width, above_width, cost_opening, cost_method, cost_send, method_small, spelled_cost, row_cost_small, AreSmall}
 
 -- ---- plain data
 

@@ -1,12 +1,6 @@
 -- What reads one thing and the text that spells it: whatever is read is spelled so, and what is spelled is read.
 use Rattle.std.proofs.Common.{◌≡◌, ℕ, zero, suc, ◌<◌, false, ltb, List, [], ◌∷◌, ◌++◌, length, take, Ok, refl, sym, ap, ◌∙◌, append_assoc, arith}
-use Rattle.std.specs.Int.{Width, byte_len, to_be_bytes}
-use Rattle.std.specs.List.{flat_map, AllByRecursion}
-use Rattle.std.proofs.lemmas.Bool.{ltb-false, le-ltb}
-use Rattle.std.proofs.lemmas.List.{take_at, drop_at, take-append-drop, length-append}
-use Rattle.std.proofs.lemmas.List.Concat.{flat_map-cons}
-use Rattle.pcl_cert.specs.declared.fault.CertFault.TheVariants.{Short}
-use Rattle.pcl_cert.specs.ReadingCertificates.{uint_at}
+use Rattle.pcl_cert.proofs.Names.{Width, byte_len, to_be_bytes, flat_map, AllByRecursion, ltb-false, le-ltb, take_at, drop_at, take-append-drop, length-append, flat_map-cons, Short, uint_at}
 use Rattle.pcl_cert.proofs.FieldsRead.{AreBytes, rest_bytes, front_bytes, Splits, splits_both, step_ok, passed, same_ok, IsNumberWidth, front_spelled}
 use Rattle.pcl_cert.proofs.Loops.{Reader, IsMany}
 

@@ -1,30 +1,7 @@
 -- A table of a page is answered Proved on a least text, and can be written as a certificate.
 use Rattle.std.proofs.Common.{◌≡◌, ℕ, ◌+◌, ◌<◌, ◌≤◌, true, false, List, Option, Some, None, length, get_or, arith}
-use Rattle.std.specs.Prelude.{decimal}
-use Rattle.pcl_base.specs.Limits.{row_limit}
-use Rattle.pcl_base.specs.declared.method.Method.{Method}
-use Rattle.pcl_base.specs.Size.{page_height, code_of}
-use Rattle.pcl_bitmap.specs.declared.page.Page.{Page}
-use Rattle.pcl_coders.specs.Coding.{IsCodable}
-use Rattle.pcl_coders.proofs.Filling.{first_is_least}
-use Rattle.pcl_output.specs.PageText.{PrintsPage}
-use Rattle.pcl_output.specs.LeastTexts.{IsLeastText, fixed_bytes}
-use Rattle.pcl_output.specs.PageTables.{IsTableOf}
-use Rattle.pcl_output.specs.declared.table.RowNumbers.{RowNumbers}
-use Rattle.pcl_output.specs.Nodes.{start, row_at, row_above}
-use Rattle.pcl_output.specs.Table.{node_number}
-use Rattle.pcl_output.proofs.Texts.{widths, text_of_least}
-use Rattle.pcl_base.proofs.PageBounds.{row_small}
-use Rattle.pcl_check.specs.Edges.{AreGoodNumbers, IsLeastOfRow}
-use Rattle.pcl_check.proofs.GoodNumbers.{feasible_good}
-use Rattle.pcl_check.proofs.Beginnings.{code_few}
+use Rattle.pcl_cert.proofs.Names.{decimal, row_limit, Method, page_height, code_of, Page, IsCodable, first_is_least, PrintsPage, IsLeastText, fixed_bytes, IsTableOf, RowNumbers, start, row_at, row_above, node_number, widths, text_of_least, row_small, AreGoodNumbers, IsLeastOfRow, feasible_good, code_few, Format, One, Two, list_of, number_at_place, table_of, AreLeastTablesOf, IsProof, HasLists, Tables, AreLeastOf, HasLeastLists, AreEdgesGood, IsVerdict}
 use Rattle.pcl_cert.specs.declared.check.Verdict.TheVariants as verdicts
-use Rattle.pcl_cert.specs.declared.format.Format.{Format}
-use Rattle.pcl_cert.specs.declared.format.Format.TheVariants.{One, Two}
-use Rattle.pcl_cert.specs.RowTables.{list_of, number_at_place}
-use Rattle.pcl_cert.specs.PageTables.{table_of, AreLeastTablesOf}
-use Rattle.pcl_cert.specs.Certificates.{IsProof, HasLists}
-use Rattle.pcl_cert.specs.Checking.{Tables, AreLeastOf, HasLeastLists, AreEdgesGood, IsVerdict}
 use Rattle.pcl_cert.proofs.FixedParts.{one_digit, two_digits, fixed_length}
 use Rattle.pcl_cert.proofs.KeptLists.{table_number}
 use Rattle.pcl_cert.proofs.ProvedLeast.{rows_of, width_of, few_rows, row_wide, above_wide}

@@ -1,18 +1,6 @@
 -- Writing certificates: one thing after the other.
 use Rattle.std.proofs.Common.{◌≡◌, ℕ, zero, suc, ◌+◌, ◌*◌, ◌<◌, ◌≤◌, List, [], ◌∷◌, length, take, drop, get_or, refl, sym, ap, arith}
-use Rattle.std.specs.List.{AllByRecursion}
-use Rattle.std.specs.Int.{w16, from_be_bytes}
-use Rattle.std.proofs.lemmas.List.{get_or_past, drop-drop, length-map}
-use Rattle.pcl_base.specs.declared.dpi.Dpi.{Dpi}
-use Rattle.pcl_base.specs.declared.method.Method.{Method}
-use Rattle.pcl_base.specs.Method.{method_code}
-use Rattle.pcl_output.proofs.TokenCosts.{method_small}
-use Rattle.pcl_cert.specs.declared.format.Format.{Format}
-use Rattle.pcl_cert.specs.declared.format.Format.TheVariants.{One, Two}
-use Rattle.pcl_cert.specs.declared.page_proof.PageProof.{PageProof}
-use Rattle.pcl_cert.specs.Certificates.{FitsFormat, FitFormat, IsProof, AreProofs, proof_in, proofs_in}
-use Rattle.pcl_cert.specs.RowTables.{list_of}
-use Rattle.pcl_cert.specs.TablesModel.{count_of, list_from, lists_within}
+use Rattle.pcl_cert.proofs.Names.{AllByRecursion, w16, from_be_bytes, get_or_past, drop-drop, length-map, Dpi, Method, method_code, method_small, Format, One, Two, PageProof, FitsFormat, FitFormat, IsProof, AreProofs, proof_in, proofs_in, list_of, count_of, list_from, lists_within}
 use Rattle.pcl_cert.proofs.Numbers.{length_numbers, number_within}
 
 -- ---- pages

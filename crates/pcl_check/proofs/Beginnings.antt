@@ -1,14 +1,6 @@
 -- The start of a page text, number by number.
 use Rattle.std.proofs.Common.{◌≡◌, ℕ, ◌<◌, ◌≤◌, List, [], ◌∷◌, ◌++◌, Some, None, refl, sym, ◌∙◌, append_assoc, arith}
-use Rattle.std.specs.Prelude.{decimal, codes}
-use Rattle.std.proofs.lemmas.Bool.Decides.{nat_tests}
-use Rattle.std.proofs.lemmas.List.{append_cancel_left}
-use Rattle.pcl_base.specs.declared.dpi.Dpi.{Dpi}
-use Rattle.pcl_base.specs.declared.size.Size.{Size}
-use Rattle.pcl_base.specs.Dpi.{dots_per_inch}
-use Rattle.pcl_base.specs.Size.{code_of, size_with_code, page_width}
-use Rattle.pcl_output.specs.Tokens.{start_bytes}
-use Rattle.pcl_check.specs.inner.Reading.{raster_start}
+use Rattle.pcl_check.proofs.Names.{decimal, codes, nat_tests, append_cancel_left, Dpi, Size, dots_per_inch, code_of, size_with_code, page_width, start_bytes, raster_start}
 use Rattle.pcl_check.proofs.Decimals.{same_front}
 
 abbrev pub first_bytes : List ℕ

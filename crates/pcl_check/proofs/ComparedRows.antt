@@ -1,11 +1,6 @@
 -- Rows of a page beside rows of a text.
 use Rattle.std.proofs.Common.{◌≡◌, ℕ, ◌<◌, ◌≤◌, [], ◌∷◌, take, drop, replicate, ap, arith}
-use Rattle.std.specs.Prelude.{All}
-use Rattle.std.proofs.lemmas.List.{get_or-replicate, length-replicate}
-use Rattle.pcl_base.specs.Size.{page_height, page_row_bytes}
-use Rattle.pcl_bitmap.specs.Bitmap.{Picture, row_of}
-use Rattle.pcl_output.specs.PageText.{bitmap_rows}
-use Rattle.pcl_output.proofs.RowsFrom.{rows_at, no_rows}
+use Rattle.pcl_check.proofs.Names.{All, get_or-replicate, length-replicate, page_height, page_row_bytes, Picture, row_of, bitmap_rows, rows_at, no_rows}
 
 -- row y of a page is the first of those from it on
 pub first_row : (picture : Picture) {y : ℕ} → y < page_height picture.size picture.dpi

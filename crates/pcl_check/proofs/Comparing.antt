@@ -1,16 +1,7 @@
 -- Rows of a text beside those of a page.
 use Rattle.std.proofs.Common.{◌≡◌, ℕ, ◌-◌, ◌≤◌, Bool, true, false, IsTrue, List, [], ◌++◌, length, take, drop, replicate, refl, sym, subst, ◌∙◌, append_assoc, arith}
 use Rattle.std.specs.Prelude.{◌↔◌}
-use Rattle.std.proofs.lemmas.List.{length-append, length-replicate, append_assoc}
-use Rattle.pcl_base.proofs.Lists.{parts_of, of_parts}
-use Rattle.pcl_base.specs.declared.dpi.Dpi.{Dpi}
-use Rattle.pcl_base.specs.declared.size.Size.{Size}
-use Rattle.pcl_base.specs.Size.{page_height, page_row_bytes}
-use Rattle.pcl_bitmap.specs.Bitmap.{Picture}
-use Rattle.pcl_output.specs.Tokens.{end_bytes}
-use Rattle.pcl_output.specs.PageText.{bitmap_rows}
-use Rattle.pcl_check.specs.declared.reading.body.Place.{Place}
-use Rattle.pcl_check.specs.inner.Reading.{LeftOver, GivesRows, left_at, body_of, AreRowsAt, Advances, IsOnlyPrinted}
+use Rattle.pcl_check.proofs.Names.{length-append, length-replicate, append_assoc, parts_of, of_parts, Dpi, Size, page_height, page_row_bytes, Picture, end_bytes, bitmap_rows, Place, LeftOver, GivesRows, left_at, body_of, AreRowsAt, Advances, IsOnlyPrinted}
 use Rattle.pcl_check.proofs.Fronts.{white_rows}
 use Rattle.pcl_check.proofs.Outside.{end_only, end_prints}
 

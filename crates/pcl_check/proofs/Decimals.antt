@@ -1,14 +1,6 @@
 -- Numbers at the front of a text.
 use Rattle.std.proofs.Common.{◌≡◌, ℕ, ◌≤◌, false, List, [], ◌∷◌, ◌++◌, length, take, drop, sym, ap, ◌∙◌, arith}
-use Rattle.std.specs.Prelude.{decimal}
-use Rattle.std.specs.List.{prefix_len}
-use Rattle.std.proofs.lemmas.List.{append-nil, nil_from_length}
-use Rattle.pcl_base.specs.Digits.{is_digit, number_of, AreDigits}
-use Rattle.pcl_base.proofs.Fronts.{front_split}
-use Rattle.pcl_output.specs.Tokens.{IsSpelled}
-use Rattle.pcl_output.proofs.Numbers.{decimal_spelled}
-use Rattle.pcl_check.specs.declared.reading.parameter.Parameter.{Parameter}
-use Rattle.pcl_check.specs.inner.Reading.{IsParameter}
+use Rattle.pcl_check.proofs.Names.{decimal, prefix_len, append-nil, nil_from_length, is_digit, number_of, AreDigits, front_split, IsSpelled, decimal_spelled, Parameter, IsParameter}
 use Rattle.pcl_check.proofs.Splits.{one_split}
 
 -- nothing is after the digits

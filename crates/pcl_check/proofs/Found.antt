@@ -1,13 +1,7 @@
 -- The first number that is bad by one of two facts.
 use Rattle.std.proofs.Common.{◌≡◌, ℕ, ◌<◌, ◌≤◌, Bool, true, false, refl, ap, arith}
 use Rattle.std.specs.Prelude.{nat_lt, if◌then◌else◌, Option, Some, None}
-use Rattle.std.proofs.lemmas.Bool.{ltb-true, ltb-false}
-use Rattle.pcl_base.specs.declared.method.Method.{Method}
-use Rattle.pcl_base.specs.Method.{method_code}
-use Rattle.pcl_output.proofs.TokenCosts.{method_small}
-use Rattle.pcl_output.specs.declared.node.Node.{Node}
-use Rattle.pcl_check.specs.Edges.{inside_code, place_of, IsFirstBad, FindsBad}
-use Rattle.pcl_check.specs.inner.EdgePasses.{found_place, first_found, At, Both}
+use Rattle.pcl_check.proofs.Names.{ltb-true, ltb-false, Method, method_code, method_small, Node, inside_code, place_of, IsFirstBad, FindsBad, found_place, first_found, At, Both}
 
 -- the first bad number of one fact is that of another which differs from it at no number up to there
 first_too : (One Other : ℕ → Method → Bool → Type 0) {last : ℕ} {bad : Node}

@@ -1,20 +1,7 @@
 -- The token at the front of what is left inside a sequence.
 use Rattle.std.proofs.Common.{◌≡◌, ℕ, zero, suc, ◌+◌, ◌-◌, ◌<◌, ◌≤◌, Bool, true, false, List, [], ◌∷◌, ◌++◌, length, take, drop, replicate, refl, sym, ap, ◌∙◌, append_assoc, arith}
-use Rattle.std.specs.Prelude.{not}
-use Rattle.std.specs.List.{flat_map, AllByRecursion}
-use Rattle.std.proofs.lemmas.Bool.Decides.{nat_tests}
-use Rattle.std.proofs.lemmas.List.{length-drop}
-use Rattle.pcl_base.specs.declared.dpi.Dpi.{Dpi}
-use Rattle.pcl_base.specs.declared.method.Method.{Method}
-use Rattle.pcl_base.specs.declared.size.Size.{Size}
-use Rattle.pcl_base.specs.Method.{method_code}
-use Rattle.pcl_base.specs.Size.{page_row_bytes}
-use Rattle.pcl_base.specs.Digits.{is_digit, number_of, AreDigits}
-use Rattle.pcl_rows.specs.Rows.{IsRowData}
-use Rattle.pcl_output.specs.Tokens.{Token, method, skip, send, letter, token_bytes, AreWhite, PrintsRows, end_bytes}
-use Rattle.pcl_output.specs.PageText.{IsRowOf}
-use Rattle.pcl_output.proofs.Walking.{white_is_zeros}
-use Rattle.pcl_check.specs.inner.Reading.{LeftOver, RestPrints}
+use Rattle.pcl_check.proofs.Names.{not, flat_map, AllByRecursion, nat_tests, length-drop, Dpi, Method, Size, method_code, page_row_bytes, is_digit, number_of, AreDigits, IsRowData, Token, method, skip, send, letter, token_bytes, AreWhite, end_bytes, IsRowOf, white_is_zeros, LeftOver, RestPrints}
+use Rattle.pcl_output.specs.Tokens.{PrintsRows}
 use Rattle.pcl_check.proofs.Splits.{one_split}
 
 -- a letter as a number: a capital where it ends the sequence

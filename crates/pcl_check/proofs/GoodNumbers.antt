@@ -1,23 +1,6 @@
 -- Good numbers are undercut by no token.
 use Rattle.std.proofs.Common.{◌≡◌, ℕ, zero, suc, ◌+◌, ◌<◌, ◌≤◌, Bool, true, false, List, length, refl, sym, ap, inl, inr, arith}
-use Rattle.std.specs.Prelude.{not}
-use Rattle.std.proofs.lemmas.Bool.{cases_lt}
-use Rattle.pcl_base.specs.declared.method.Method.{Method}
-use Rattle.pcl_base.specs.Method.{method_code}
-use Rattle.pcl_rows.specs.Rows.{IsRowData}
-use Rattle.pcl_base.specs.Walks.{IsFeasible}
-use Rattle.pcl_output.specs.declared.table.RowNumbers.{RowNumbers}
-use Rattle.pcl_output.specs.Tokens.{Token, opening, method, skip, send}
-use Rattle.pcl_output.specs.declared.node.Node.{Node}
-use Rattle.pcl_output.specs.Nodes.{row_at, row_above, Leads, Ends, cost}
-use Rattle.pcl_output.specs.Spelling.{least_spelling, row_cost}
-use Rattle.pcl_output.specs.Table.{node_number}
-use Rattle.pcl_output.proofs.DigitCounts.{count_grows, spelled_long}
-use Rattle.pcl_coders.proofs.Lengths.{length_small}
-use Rattle.pcl_output.proofs.TokenCosts.{spelled_cost, cost_opening, cost_method, cost_skip, cost_send, method_small}
-use Rattle.pcl_output.proofs.Walking.{node}
-use Rattle.pcl_output.proofs.Tables.{number_past}
-use Rattle.pcl_check.specs.Edges.{number_at, IsGoodNumber, AreGoodNumbers, IsLeastOfRow, IsGiven, BoundData}
+use Rattle.pcl_check.proofs.Names.{not, cases_lt, Method, method_code, IsRowData, IsFeasible, RowNumbers, Token, opening, method, skip, send, Node, row_at, row_above, Leads, Ends, cost, least_spelling, row_cost, node_number, count_grows, spelled_long, length_small, spelled_cost, cost_opening, cost_method, cost_skip, cost_send, method_small, node, number_past, number_at, IsGoodNumber, AreGoodNumbers, IsLeastOfRow, IsGiven, BoundData}
 
 -- ---- from good numbers
 

@@ -1,3 +1,4 @@
+pub mod Names
 pub mod Splits
 pub mod ComparedRows
 pub mod Fronts

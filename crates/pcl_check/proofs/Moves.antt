@@ -1,25 +1,9 @@
 -- From what is left before a token to what is left after it.
 use Rattle.std.proofs.Common.{◌≡◌, ◌≢◌, ℕ, zero, suc, ◌-◌, ◌<◌, ◌≤◌, Bool, true, false, List, [], ◌∷◌, ◌++◌, length, replicate, Some, refl, sym, ap, ◌∙◌, append_assoc, arith, le_refl}
-use Rattle.std.specs.Prelude.{not}
-use Rattle.std.specs.List.{flat_map, AllByRecursion}
-use Rattle.std.proofs.lemmas.List.{length-append, length-replicate, take_at, drop_at, take_all, drop_all, append-nil}
-use Rattle.std.proofs.Math.Nat.{zero-div}
-use Rattle.pcl_base.proofs.Lists.{same_fronts}
-use Rattle.pcl_coders.proofs.Ends.{white_byte}
-use Rattle.pcl_base.specs.declared.dpi.Dpi.{Dpi}
-use Rattle.pcl_base.specs.declared.method.Method.{Method}
-use Rattle.pcl_base.specs.declared.size.Size.{Size}
-use Rattle.pcl_base.specs.Method.{method_code, method_with_code}
-use Rattle.pcl_base.specs.Size.{page_row_bytes}
-use Rattle.pcl_base.specs.Digits.{is_digit, number_of, AreDigits}
-use Rattle.pcl_rows.specs.Rows.{IsRowData}
-use Rattle.pcl_rows.proofs.Decoded.{decoded_is}
-use Rattle.pcl_output.specs.Tokens.{Token, method, skip, send, token_bytes, IsWhite, AreWhite, PrintsRows, end_bytes}
-use Rattle.pcl_output.specs.PageText.{IsRowOf}
-use Rattle.pcl_check.specs.inner.Reading.{LeftOver, RestPrints, GivesRows}
+use Rattle.pcl_check.proofs.Names.{not, flat_map, AllByRecursion, length-append, length-replicate, take_at, drop_at, take_all, drop_all, append-nil, zero-div, same_fronts, white_byte, Dpi, Method, Size, method_code, method_with_code, page_row_bytes, is_digit, number_of, AreDigits, IsRowData, decoded_is, Token, method, skip, send, token_bytes, IsWhite, AreWhite, end_bytes, IsRowOf, LeftOver, RestPrints, GivesRows, nat_tests}
+use Rattle.pcl_output.specs.Tokens.{PrintsRows}
 use Rattle.pcl_check.proofs.Splits.{no_split}
 use Rattle.pcl_check.proofs.Fronts.{letter_code, letter_is, left_over, white_rows, white_front, Told, front_at, is_method, is_skip, is_send, no_digit}
-use Rattle.std.proofs.lemmas.Bool.Decides.{nat_tests}
 
 -- ---- letters and methods
 

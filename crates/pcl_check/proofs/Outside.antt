@@ -1,13 +1,7 @@
 -- Outside a sequence: another one is sequence_opened, or the text ends.
 use Rattle.std.proofs.Common.{◌≡◌, ℕ, true, false, List, [], ◌∷◌, ◌++◌, length, replicate, refl, sym, ◌⊎◌, inl, inr, ap, ◌∙◌, arith}
-use Rattle.std.specs.List.{flat_map, AllByRecursion}
-use Rattle.std.proofs.lemmas.List.{length-replicate, append-nil}
-use Rattle.pcl_base.specs.declared.dpi.Dpi.{Dpi}
-use Rattle.pcl_base.specs.declared.size.Size.{Size}
-use Rattle.pcl_base.specs.Size.{page_row_bytes}
-use Rattle.pcl_output.specs.Tokens.{Token, opening, token_bytes, PrintsRows, AreWhite, end_bytes}
-use Rattle.pcl_output.specs.PageText.{IsRowOf}
-use Rattle.pcl_check.specs.inner.Reading.{LeftOver, RestPrints, GivesRows}
+use Rattle.pcl_check.proofs.Names.{flat_map, AllByRecursion, length-replicate, append-nil, Dpi, Size, page_row_bytes, Token, opening, token_bytes, AreWhite, end_bytes, IsRowOf, LeftOver, RestPrints, GivesRows}
+use Rattle.pcl_output.specs.Tokens.{PrintsRows}
 use Rattle.pcl_check.proofs.Fronts.{left_over, white_rows}
 use Rattle.pcl_check.proofs.Moves.{rows_white, white_before, all_white}
 

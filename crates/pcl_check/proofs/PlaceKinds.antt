@@ -1,14 +1,7 @@
 -- Elements of each kind by windows.
 use Rattle.std.proofs.Common.{◌≡◌, ℕ, ◌+◌, ◌-◌, ◌<◌, ◌≤◌, List, length, take, drop, sym, ◌∙◌, arith}
-use Rattle.std.specs.Prelude.{slice_index}
-use Rattle.std.proofs.lemmas.List.{ext_get_or, get_or-take, get_or-drop, length-drop, length-take-le}
-use Rattle.pcl_base.proofs.Lists.{run_part, start_within}
-use Rattle.pcl_base.specs.Limits.{row_limit}
-use Rattle.pcl_coders.specs.inner.Replacement.{replacement_bytes}
-use Rattle.pcl_coders.proofs.Prefixes.{run_len_of}
-use Rattle.pcl_coders.proofs.Shapes.{near_bytes, far_bytes}
+use Rattle.pcl_check.proofs.Names.{slice_index, ext_get_or, get_or-take, get_or-drop, length-drop, length-take-le, run_part, start_within, row_limit, replacement_bytes, run_len_of, near_bytes, far_bytes, IsNotUndercut, AreGoodRuns, AreGoodLiterals, AreGoodReplacements, AreRunStops, AreStartEnds, ArePlaced, AreBehindStarts}
 use Rattle.pcl_check.proofs.PlacesFound.{And}
-use Rattle.pcl_check.specs.inner.PlacePasses.{IsNotUndercut, AreGoodRuns, AreGoodLiterals, AreGoodReplacements, AreRunStops, AreStartEnds, ArePlaced, AreBehindStarts}
 
 -- ---- runs
 

@@ -1,20 +1,7 @@
 -- All elements at a place, kind by kind.
 use Rattle.std.proofs.Common.{◌≡◌, ℕ, ◌+◌, ◌<◌, ◌≤◌, List, length, take, drop, replicate, refl, sym, ap, ◌∙◌, inl, inr, arith}
-use Rattle.std.specs.Prelude.{slice_index, Option, Some, None}
-use Rattle.std.proofs.lemmas.Bool.{cases_lt}
-use Rattle.std.proofs.lemmas.List.{length-drop, length-replicate, get_or_past}
-use Rattle.pcl_base.specs.declared.method.Method.{Method}
-use Rattle.pcl_base.specs.declared.method.Method.TheVariants.{Plain, Runs, Packed, Delta}
-use Rattle.pcl_rows.specs.Heads.{offset_of}
-use Rattle.pcl_rows.specs.Elements.{Element, given, stop}
-use Rattle.pcl_coders.specs.declared.shape.Shape.{Shape}
-use Rattle.pcl_coders.specs.RowWalks.{IsRowTable}
-use Rattle.pcl_coders.specs.inner.Shape.{element_of, shape_stop}
-use Rattle.pcl_coders.proofs.Shapes.{IsRepeat, plain_shape, runs_shape, packed_shape, delta_shape}
-use Rattle.pcl_coders.proofs.Choices.{IsShapeElement, agrees_gives, byte_step, run_step, repeat_step, literal_step, replace_step}
-use Rattle.pcl_check.specs.Places.{IsGoodPlace, FindsPlace, FindsBadPlace}
-use Rattle.pcl_check.specs.inner.PlacePasses.{IsGoodByte, AreGoodRuns, AreGoodLiterals, AreGoodReplacements, AreGoodSteps}
-use Rattle.pcl_base.proofs.Lists.{first_of_run}
+use Rattle.pcl_check.proofs.Names.{slice_index, Option, cases_lt, length-drop, length-replicate, get_or_past, Method, Plain, Runs, Packed, Delta, offset_of, Element, given, stop, Shape, IsRowTable, element_of, shape_stop, IsRepeat, plain_shape, runs_shape, packed_shape, delta_shape, IsShapeElement, agrees_gives, byte_step, run_step, repeat_step, literal_step, replace_step, IsGoodPlace, FindsPlace, FindsBadPlace, IsGoodByte, AreGoodRuns, AreGoodLiterals, AreGoodReplacements, AreGoodSteps, first_of_run}
+use Rattle.std.specs.Prelude.{Some, None}
 
 -- ---- from kinds to elements
 

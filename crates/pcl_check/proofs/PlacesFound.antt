@@ -1,9 +1,7 @@
 -- The first place of which one of two facts doesn't hold.
 use Rattle.std.proofs.Common.{◌≡◌, ℕ, zero, suc, ◌+◌, ◌<◌, ◌≤◌, min, subst, inl, inr, arith}
-use Rattle.std.specs.Prelude.{Option, Some, None, MatchOption}
-use Rattle.std.proofs.lemmas.Bool.{cases_lt}
-use Rattle.pcl_check.specs.Places.{IsFirstPlace, FindsPlace}
-use Rattle.pcl_check.specs.inner.PlacePasses.{first_found_place}
+use Rattle.pcl_check.proofs.Names.{Option, MatchOption, cases_lt, IsFirstPlace, FindsPlace, first_found_place}
+use Rattle.std.specs.Prelude.{Some, None}
 
 -- both facts
 abbrev pub And : (ℕ → Type 0) → (ℕ → Type 0) → ℕ → Type 0

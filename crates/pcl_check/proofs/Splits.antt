@@ -1,6 +1,6 @@
 -- Bytes that pass a test with another one after them: they can be told in one way.
 use Rattle.std.proofs.Common.{◌≡◌, ℕ, Bool, false, List, [], ◌∷◌, ◌++◌, refl}
-use Rattle.pcl_base.proofs.Fronts.{Pass}
+use Rattle.pcl_check.proofs.Names.{Pass}
 
 pub one_split : (test : ℕ → Bool) (a b : List ℕ) {c d : ℕ} {x y : List ℕ} → Pass test a → Pass test b → test c ≡ false → test d ≡ false
     → a ++ c ∷ x ≡ b ++ d ∷ y → (a ≡ b) × (c ≡ d) × (x ≡ y)

@@ -1,13 +1,6 @@
 -- Places of rows whose numbers never grow.
 use Rattle.std.proofs.Common.{◌≡◌, ◌≢◌, ℕ, zero, suc, ◌+◌, ◌-◌, ◌<◌, ◌≤◌, min, List, length, take, refl, arith}
-use Rattle.std.specs.Prelude.{slice_index}
-use Rattle.std.proofs.lemmas.List.{get_or-take, length-take-le}
-use Rattle.pcl_base.proofs.Lists.{alike_at, rest_of_alike, run_byte, rest_of_run, falls_on, start_within}
-use Rattle.pcl_coders.specs.inner.Replacement.{replacement_bytes}
-use Rattle.pcl_coders.proofs.Ends.{ends_at}
-use Rattle.pcl_coders.proofs.Shapes.{near_bytes, far_bytes}
-use Rattle.pcl_check.specs.inner.PlacePasses.{IsGoodEnd, AreGoodRuns, AreGoodLiterals, AreGoodReplacements}
-use Rattle.pcl_check.specs.inner.SteadyNumbers.{most_number, IsSteady, IsNeedEnd, FallsByRun, FallsByStart, AreLeastSums, TakesBehind, IsKeptBefore}
+use Rattle.pcl_check.proofs.Names.{slice_index, get_or-take, length-take-le, alike_at, rest_of_alike, run_byte, rest_of_run, falls_on, start_within, replacement_bytes, ends_at, near_bytes, far_bytes, IsGoodEnd, AreGoodRuns, AreGoodLiterals, AreGoodReplacements, most_number, IsSteady, IsNeedEnd, FallsByRun, FallsByStart, AreLeastSums, TakesBehind, IsKeptBefore}
 
 -- ---- steady numbers
 

@@ -1,8 +1,6 @@
 -- Windows over the places that a step may lead to.
 use Rattle.std.proofs.Common.{◌≡◌, ℕ, ◌+◌, ◌-◌, ◌<◌, ◌≤◌, min, List, [], ◌++◌, length, drop, ap, arith}
-use Rattle.std.specs.Prelude.{slice_index}
-use Rattle.pcl_check.specs.inner.EdgePasses.{AreEnds, values}
-use Rattle.pcl_coders.specs.Windows.{IsLeastOf}
+use Rattle.pcl_check.proofs.Names.{slice_index, AreEnds, values, IsLeastOf}
 use Rattle.pcl_check.proofs.Values.{length_values, value_in, values_joined, values_rest, no_values}
 
 -- the last place that a step over at most so many places leads to

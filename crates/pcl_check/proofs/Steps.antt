@@ -1,16 +1,6 @@
 -- Steps of the reader, from the contracts of what it calls.
 use Rattle.std.proofs.Common.{◌≡◌, ℕ, ◌+◌, ◌<◌, ◌⊎◌, ◌==◌, Bool, true, false, List, ◌∷◌, length, Some, inl, inr, sym, ap, arith}
-use Rattle.std.specs.Prelude.{not}
-use Rattle.std.proofs.lemmas.List.{length-append}
-use Rattle.std.proofs.lemmas.Bool.Decides.{nat_tests}
-use Rattle.pcl_base.specs.declared.method.Method.{Method}
-use Rattle.pcl_base.specs.declared.dpi.Dpi.{Dpi}
-use Rattle.pcl_base.specs.declared.size.Size.{Size}
-use Rattle.pcl_base.specs.Method.{method_code, method_with_code}
-use Rattle.pcl_bitmap.specs.Bitmap.{Picture}
-use Rattle.pcl_check.specs.declared.reading.body.Place.{Place}
-use Rattle.pcl_check.specs.declared.reading.parameter.Parameter.{Parameter}
-use Rattle.pcl_check.specs.inner.Reading.{LeftOver, IsParameter, GivesRows, left_at}
+use Rattle.pcl_check.proofs.Names.{not, length-append, nat_tests, Method, Dpi, Size, method_code, method_with_code, Picture, Place, Parameter, LeftOver, IsParameter, GivesRows, left_at}
 use Rattle.pcl_check.proofs.Fronts.{letter_code, left_over, Told}
 
 pub told : (picture : Picture) (size : Size) (above : List ℕ) (place : Place) (parameter : Parameter) → place.inside ≡ true

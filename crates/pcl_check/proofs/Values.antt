@@ -1,7 +1,6 @@
 -- The values at some places.
 use Rattle.std.proofs.Common.{◌≡◌, ℕ, zero, suc, ◌+◌, ◌-◌, ◌<◌, ◌≤◌, List, [], ◌∷◌, ◌++◌, length, drop, refl, ap, ◌∙◌, arith, sym}
-use Rattle.std.specs.Prelude.{slice_index}
-use Rattle.std.proofs.lemmas.List.{append-nil, append_assoc}
+use Rattle.pcl_check.proofs.Names.{slice_index, append-nil, append_assoc}
 use Rattle.pcl_check.specs.inner.EdgePasses.{values}
 
 pub length_values : (value : ℕ → ℕ) (from count : ℕ) → length (values value from count) ≡ count

@@ -1,22 +1,6 @@
 -- The choice of an element along a table that is right.
 use Rattle.std.proofs.Common.{◌≡◌, ℕ, ◌+◌, ◌<◌, ◌≤◌, min, List, [], ◌∷◌, length, drop, inl, inr, arith}
-use Rattle.std.specs.Prelude.{slice_index}
-use Rattle.std.proofs.lemmas.List.{drop-drop, length-drop, get_or-drop}
-use Rattle.pcl_base.proofs.Lists.{run_part}
-use Rattle.pcl_base.specs.declared.method.Method.{Method}
-use Rattle.pcl_base.specs.declared.method.Method.TheVariants.{Runs, Packed, Delta}
-use Rattle.pcl_bitmap.specs.Kernels.{IsFirstDifference, IsRunEnd}
-use Rattle.pcl_rows.specs.Heads.{offset_of}
-use Rattle.pcl_rows.specs.Elements.{Element, given, stop}
-use Rattle.pcl_base.specs.Walks.{Walk, total}
-use Rattle.pcl_coders.specs.Starts.{IsLatestStart}
-use Rattle.pcl_coders.specs.inner.Replacement.{replacement_bytes}
-use Rattle.pcl_coders.specs.RowWalks.{Leads, Ends, cost}
-use Rattle.pcl_coders.specs.inner.Choosing.{NoLiteral, IsLiteralLen}
-use Rattle.pcl_coders.specs.inner.Filling.{AreRightFrom}
-use Rattle.pcl_coders.specs.declared.shape.Shape.{Shape}
-use Rattle.pcl_coders.specs.declared.shape.Shape.TheVariants.{Run, LiteralRun, RepeatRun, Replace}
-use Rattle.pcl_coders.specs.inner.Shape.{element_of, shape_stop, IsShapeChoice, IsReplacement}
+use Rattle.pcl_coders.proofs.Names.{slice_index, drop-drop, length-drop, get_or-drop, run_part, Method, Runs, Packed, Delta, IsFirstDifference, IsRunEnd, offset_of, Element, given, stop, Walk, total, IsLatestStart, replacement_bytes, Leads, Ends, cost, NoLiteral, IsLiteralLen, AreRightFrom, Shape, Run, LiteralRun, RepeatRun, Replace, element_of, shape_stop, IsShapeChoice, IsReplacement}
 use Rattle.pcl_coders.proofs.Shapes.{packed_shape}
 use Rattle.pcl_coders.proofs.Prefixes.{IsRunLen, run_len_of, same_len_of}
 use Rattle.pcl_coders.proofs.Choices.{agrees_gives, IsShapeElement, step_choice, runs_choice, repeat_step, literal_step, replace_step, within_run}

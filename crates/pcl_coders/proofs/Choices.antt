@@ -1,19 +1,8 @@
 -- The best element of each method.
 use Rattle.std.proofs.Common.{◌≡◌, ℕ, ◌+◌, ◌-◌, ◌*◌, ◌<◌, ◌≤◌, min, List, ◌++◌, length, take, drop, replicate, refl, sym, ap, ◌∙◌, inl, inr, arith}
-use Rattle.std.specs.Prelude.{slice_index, flat_map}
-use Rattle.std.proofs.lemmas.List.{take_at, drop_at, drop-drop, take-append-drop, length-append, length-drop, length-take, length-take-le, length-replicate, get_or-drop}
-use Rattle.pcl_base.proofs.Lists.{once_each, run_part, first_byte}
-use Rattle.pcl_base.specs.declared.method.Method.{Method}
-use Rattle.pcl_base.specs.declared.method.Method.TheVariants.{Plain, Runs, Packed, Delta}
-use Rattle.pcl_rows.specs.Heads.{head_bytes, offset_of}
-use Rattle.pcl_rows.specs.Elements.{Element, IsElement, given, stop}
-use Rattle.pcl_coders.specs.RowWalks.{Agrees, cost}
-use Rattle.pcl_coders.specs.inner.Choosing.{IsLeastLen}
+use Rattle.pcl_coders.proofs.Names.{slice_index, take_at, drop_at, drop-drop, take-append-drop, length-append, length-drop, length-take, length-take-le, length-replicate, get_or-drop, once_each, run_part, first_byte, Method, Plain, Runs, Packed, Delta, head_bytes, offset_of, Element, IsElement, given, stop, Agrees, cost, IsLeastLen, replacement, replacement_bytes, Shape, SingleByte, Run, LiteralRun, RepeatRun, Replace, element_of, shape_stop, IsShapeWithin, IsShapeChoice}
+use Rattle.std.specs.Prelude.{flat_map}
 use Rattle.pcl_coders.proofs.Prefixes.{IsRunLen, IsSameLen}
-use Rattle.pcl_coders.specs.inner.Replacement.{replacement, replacement_bytes}
-use Rattle.pcl_coders.specs.declared.shape.Shape.{Shape}
-use Rattle.pcl_coders.specs.declared.shape.Shape.TheVariants.{SingleByte, Run, LiteralRun, RepeatRun, Replace}
-use Rattle.pcl_coders.specs.inner.Shape.{element_of, shape_stop, IsShapeWithin, IsShapeChoice}
 use Rattle.pcl_coders.proofs.RowWalks.{stop_within}
 use Rattle.pcl_coders.proofs.Shapes.{given_copies, IsRepeat, plain_shape, runs_shape, packed_shape, delta_shape, replacement_is}
 

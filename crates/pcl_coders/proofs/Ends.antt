@@ -1,9 +1,6 @@
 -- The first place from which no more data is needed.
 use Rattle.std.proofs.Common.{◌≡◌, ◌≢◌, ℕ, ◌+◌, ◌-◌, ◌<◌, ◌≤◌, List, length, get_or, drop, replicate, sym, ◌∙◌, arith}
-use Rattle.std.proofs.lemmas.List.{ext_get_or, drop-drop, length-drop, length-replicate, get_or-drop, get_or-replicate, get_or_past}
-use Rattle.pcl_bitmap.specs.Kernels.{IsTrimmedLen}
-use Rattle.pcl_coders.specs.RowWalks.{Ends}
-use Rattle.pcl_coders.specs.inner.Filling.{IsFirstEnd}
+use Rattle.pcl_coders.proofs.Names.{ext_get_or, drop-drop, length-drop, length-replicate, get_or-drop, get_or-replicate, get_or_past, IsTrimmedLen, Ends, IsFirstEnd}
 
 -- the bytes of two rows from a place on, one by one
 pub ends_by : (old row : List ℕ) (place : ℕ) → length old ≡ length row

@@ -1,24 +1,6 @@
 -- A table that is filled from the row's end, and data along it.
 use Rattle.std.proofs.Common.{◌≡◌, ◌≢◌, ℕ, zero, suc, ◌+◌, ◌-◌, ◌*◌, ◌<◌, ◌≤◌, List, [], ◌∷◌, ◌++◌, length, get_or, set, drop, refl, sym, ap, ◌∙◌, subst, inl, inr, append_assoc, arith}
-use Rattle.std.specs.Prelude.{slice_index}
-use Rattle.std.specs.List.{flat_map}
-use Rattle.std.proofs.lemmas.Bool.{cases_lt}
-use Rattle.std.proofs.lemmas.List.{append-nil, drop-drop, drop_all, length-drop, get_or-drop, get_or-set_same, get_or-set_other, get_or_past, drop_more}
-use Rattle.std.proofs.lemmas.List.Concat.{flat_map-append}
-use Rattle.pcl_base.proofs.Lists.{first_byte}
-use Rattle.pcl_base.specs.declared.method.Method.{Method}
-use Rattle.pcl_base.specs.declared.method.Method.TheVariants.{Plain, Runs, Packed, Delta}
-use Rattle.pcl_rows.specs.Elements.{Element, element_bytes, stop}
-use Rattle.pcl_rows.specs.Rows.{base, IsRowData}
-use Rattle.pcl_rows.proofs.Spellings.{spelling_has_byte}
-use Rattle.pcl_base.specs.Walks.{Walk, total, IsAttained}
-use Rattle.pcl_coders.specs.RowWalks.{Leads, Ends, cost, IsRowTable, IsLeastTable}
-use Rattle.pcl_coders.specs.Coding.{IsCodable, IsLeastLength, AppendsLeast}
-use Rattle.pcl_coders.specs.inner.Filling.{IsPlaceNumber, AreRightFrom, AppendsWalk}
-use Rattle.pcl_coders.specs.declared.shape.Shape.{Shape}
-use Rattle.pcl_coders.specs.declared.shape.Shape.TheVariants.{SingleByte, Run, LiteralRun, Replace}
-use Rattle.pcl_coders.specs.inner.Shape.{element_of, shape_stop, IsShapeChoice}
-use Rattle.pcl_base.proofs.Walks.{feasible_bounds}
+use Rattle.pcl_coders.proofs.Names.{slice_index, flat_map, cases_lt, append-nil, drop-drop, drop_all, length-drop, get_or-drop, get_or-set_same, get_or-set_other, get_or_past, drop_more, flat_map-append, first_byte, Method, Plain, Runs, Packed, Delta, Element, element_bytes, stop, base, IsRowData, spelling_has_byte, Walk, total, IsAttained, Leads, Ends, cost, IsRowTable, IsLeastTable, IsCodable, IsLeastLength, AppendsLeast, IsPlaceNumber, AreRightFrom, AppendsWalk, Shape, SingleByte, Run, LiteralRun, Replace, element_of, shape_stop, IsShapeChoice, feasible_bounds}
 use Rattle.pcl_coders.proofs.RowWalks.{length-base, total_is, stop_within, walk_of_data, data_of_walk}
 use Rattle.pcl_coders.proofs.Choices.{HasShapeElement, byte_step, run_step, literal_step, replace_step}
 

@@ -1,7 +1,6 @@
 -- Least lengths.
 use Rattle.std.proofs.Common.{ℕ, ◌≡◌, ◌≤◌, List, arith}
-use Rattle.pcl_base.specs.declared.method.Method.{Method}
-use Rattle.pcl_coders.specs.Coding.{IsLeastLength}
+use Rattle.pcl_coders.proofs.Names.{Method, IsLeastLength}
 
 -- data of a least length is small
 pub length_small : {current : Method} {seed row : List ℕ} {least : ℕ} → IsLeastLength current seed row least → least ≤ 65535

@@ -1,3 +1,4 @@
+pub mod Names
 pub mod RowWalks
 pub mod Shapes
 pub mod Prefixes

@@ -1,16 +1,6 @@
 -- The best literal of a place, and the better of literals and repeats.
 use Rattle.std.proofs.Common.{◌≡◌, ℕ, ◌+◌, ◌-◌, ◌*◌, ◌<◌, ◌≤◌, ◌⊎◌, min, List, length, set, drop, replicate, refl, inl, inr, arith}
-use Rattle.std.specs.Prelude.{slice_index}
-use Rattle.std.proofs.lemmas.Bool.{cases_lt}
-use Rattle.std.proofs.lemmas.List.{length-drop, get_or-drop}
-use Rattle.pcl_base.proofs.Lists.{run_part}
-use Rattle.pcl_base.specs.declared.method.Method.TheVariants.{Packed}
-use Rattle.pcl_bitmap.specs.Kernels.{IsRunEnd}
-use Rattle.pcl_coders.specs.inner.Choosing.{IsLeastLen}
-use Rattle.pcl_coders.specs.inner.Filling.{AreRightFrom, IsBegun, IsLiteralEnd, HasLiteralEnd}
-use Rattle.pcl_coders.specs.declared.shape.Shape.{Shape}
-use Rattle.pcl_coders.specs.inner.Shape.{IsShapeChoice}
-use Rattle.pcl_coders.specs.declared.shape.Shape.TheVariants.{LiteralRun, RepeatRun}
+use Rattle.pcl_coders.proofs.Names.{slice_index, cases_lt, length-drop, get_or-drop, run_part, Packed, IsRunEnd, IsLeastLen, AreRightFrom, IsBegun, IsLiteralEnd, HasLiteralEnd, Shape, IsShapeChoice, LiteralRun, RepeatRun}
 use Rattle.pcl_coders.proofs.Prefixes.{run_len_of}
 use Rattle.pcl_coders.proofs.Choices.{IsBelow, step_choice, repeat_step, literal_step, packed_below}
 use Rattle.pcl_coders.proofs.Filling.{number_behind}

@@ -1,23 +1,6 @@
 -- The numbers of places, one after the other from the row's end.
 use Rattle.std.proofs.Common.{◌≡◌, ◌≢◌, ℕ, zero, suc, ◌+◌, ◌-◌, ◌*◌, ◌<◌, ◌≤◌, min, List, length, set, take, drop, replicate, refl, sym, ap, ◌∙◌, subst, inl, inr, arith}
-use Rattle.std.specs.Prelude.{slice_index}
-use Rattle.std.proofs.lemmas.Bool.{cases_lt}
-use Rattle.std.proofs.lemmas.Bool.Decides.{nat_tests}
-use Rattle.std.proofs.lemmas.List.{drop-drop, length-drop, length-replicate, get_or-drop, get_or-set_same}
-use Rattle.pcl_base.proofs.Lists.{run_behind}
-use Rattle.pcl_base.specs.declared.method.Method.{Method}
-use Rattle.pcl_base.specs.declared.method.Method.TheVariants.{Runs, Packed, Delta}
-use Rattle.pcl_bitmap.specs.Kernels.{IsRunEnd}
-use Rattle.pcl_rows.specs.Heads.{offset_of}
-use Rattle.pcl_rows.specs.Elements.{Element, IsElement, given, stop}
-use Rattle.pcl_coders.specs.RowWalks.{Agrees, Ends, cost}
-use Rattle.pcl_coders.specs.Starts.{IsLatestStart}
-use Rattle.pcl_coders.specs.inner.Choosing.{IsLeastLen}
-use Rattle.pcl_coders.specs.inner.Replacement.{replacement_bytes}
-use Rattle.pcl_coders.specs.inner.Filling.{IsPlaceNumber, AreRightFrom, IsBegun}
-use Rattle.pcl_coders.specs.declared.shape.Shape.{Shape}
-use Rattle.pcl_coders.specs.declared.shape.Shape.TheVariants.{Run, LiteralRun, RepeatRun, Replace}
-use Rattle.pcl_coders.specs.inner.Shape.{element_of, IsShapeChoice}
+use Rattle.pcl_coders.proofs.Names.{slice_index, cases_lt, nat_tests, drop-drop, length-drop, length-replicate, get_or-drop, get_or-set_same, run_behind, Method, Runs, Packed, Delta, IsRunEnd, offset_of, Element, IsElement, given, stop, Agrees, Ends, cost, IsLatestStart, IsLeastLen, replacement_bytes, IsPlaceNumber, AreRightFrom, IsBegun, Shape, Run, LiteralRun, RepeatRun, Replace, element_of, IsShapeChoice}
 use Rattle.pcl_coders.proofs.Shapes.{IsRepeat, runs_shape, packed_shape}
 use Rattle.pcl_coders.proofs.Prefixes.{IsSameLen, run_len_of, same_len_of}
 use Rattle.pcl_coders.proofs.Choices.{agrees_gives, HasShapeElement, run_step, repeat_step, literal_step, step_choice, replace_step, delta_below, runs_choice}

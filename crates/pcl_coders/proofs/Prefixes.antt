@@ -1,11 +1,6 @@
 -- How far the bytes at the front of a list are alike.
 use Rattle.std.proofs.Common.{◌≡◌, ℕ, ◌+◌, ◌-◌, ◌≤◌, min, List, length, take, drop, replicate, inl, inr, arith}
-use Rattle.std.specs.Prelude.{slice_index}
-use Rattle.std.proofs.lemmas.Bool.{cases_lt}
-use Rattle.std.proofs.lemmas.List.{ext_get_or, get_or-take, get_or-drop, get_or-replicate, length-drop, length-take, length-replicate}
-use Rattle.pcl_base.proofs.Lists.{run_byte}
-use Rattle.pcl_bitmap.specs.Kernels.{IsFirstDifference, IsRunEnd}
-use Rattle.pcl_coders.specs.inner.Choosing.{IsLeastLen}
+use Rattle.pcl_coders.proofs.Names.{slice_index, cases_lt, ext_get_or, get_or-take, get_or-drop, get_or-replicate, length-drop, length-take, length-replicate, run_byte, IsFirstDifference, IsRunEnd, IsLeastLen}
 
 -- how many wanted bytes at the front are one byte again and again
 pub record IsRunLen (wanted : List ℕ) (len : ℕ) : Type 0 where

@@ -1,10 +1,6 @@
 -- The queue of a window.
 use Rattle.std.proofs.Common.{◌≡◌, ◌≢◌, ℕ, ◌+◌, ◌-◌, ◌<◌, ◌≤◌, List, ◌⊎◌, length, get_or, set, take, drop, ap, ◌∙◌, inl, inr, arith}
-use Rattle.std.specs.Prelude.{slice_index}
-use Rattle.std.proofs.Math.ListN.{length-set}
-use Rattle.std.proofs.lemmas.Bool.{cases_lt}
-use Rattle.std.proofs.lemmas.List.{length-drop, length-take-le, get_or-drop, get_or-take, get_or-set_same, get_or-set_other}
-use Rattle.pcl_coders.specs.Windows.{IsLeastOf, IsQueue}
+use Rattle.pcl_coders.proofs.Names.{slice_index, length-set, cases_lt, length-drop, length-take-le, get_or-drop, get_or-take, get_or-set_same, get_or-set_other, IsLeastOf, IsQueue}
 
 -- the numbers in a window
 abbrev pub in_window : List ℕ → ℕ → ℕ → List ℕ

@@ -1,19 +1,6 @@
 -- Whole data for a row is a walk from its first place, of the same cost, and each such walk is data.
 use Rattle.std.proofs.Common.{◌≡◌, ℕ, ◌+◌, ◌-◌, ◌<◌, ◌≤◌, ◌⊎◌, List, [], ◌∷◌, ◌++◌, length, take, drop, refl, sym, ap, ◌∙◌, subst, inl, inr, append_assoc, arith}
-use Rattle.std.specs.List.{flat_map}
-use Rattle.std.proofs.lemmas.List.{append-nil, take_all, drop_at, drop-drop, length-append, length-take, length-drop, length-replicate}
-use Rattle.std.proofs.Math.Seq.{drop-nil}
-use Rattle.pcl_base.proofs.Lists.{length-copied}
-use Rattle.pcl_base.specs.declared.method.Method.{Method}
-use Rattle.pcl_base.specs.declared.method.Method.TheVariants.{Delta}
-use Rattle.pcl_rows.specs.Heads.{Head, Near, Far, head_bytes, new_count, offset_of}
-use Rattle.pcl_rows.specs.Elements.{Element, IsElement, AreElements, element_bytes, given, given_by, stop, reach}
-use Rattle.pcl_rows.specs.Rows.{base, after_element, after_elements, RowFrom, IsRowData, IsCutIntoElements}
-use Rattle.pcl_rows.proofs.Readings.{after_none, some_element}
-use Rattle.pcl_rows.proofs.Spellings.{spelling_has_byte}
-use Rattle.pcl_rows.proofs.OneReading.{one_row}
-use Rattle.pcl_base.specs.Walks.{Walk, total}
-use Rattle.pcl_coders.specs.RowWalks.{Agrees, Leads, Ends, cost}
+use Rattle.pcl_coders.proofs.Names.{flat_map, append-nil, take_all, drop_at, drop-drop, length-append, length-take, length-drop, length-replicate, drop-nil, length-copied, Method, Delta, Head, Near, Far, head_bytes, new_count, offset_of, Element, IsElement, AreElements, element_bytes, given, given_by, stop, reach, base, after_element, after_elements, RowFrom, IsRowData, IsCutIntoElements, after_none, some_element, spelling_has_byte, one_row, Walk, total, Agrees, Leads, Ends, cost}
 
 -- the untreated bytes stay after the elements
 abbrev pub kept : List ℕ → List ℕ

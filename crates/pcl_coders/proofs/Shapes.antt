@@ -1,13 +1,6 @@
 -- What the elements of each method give, and how many bytes they have.
 use Rattle.std.proofs.Common.{◌≡◌, ℕ, ◌+◌, ◌-◌, ◌*◌, ◌/◌, ◌%◌, ◌<◌, ◌≤◌, ◌⊎◌, List, [], ◌∷◌, ◌++◌, length, replicate, refl, ap, ◌∙◌, inl, inr, arith}
-use Rattle.std.specs.List.{flat_map}
-use Rattle.std.proofs.lemmas.Bool.Decides.{nat_tests}
-use Rattle.std.proofs.lemmas.List.{append-nil, length-append, length-replicate}
-use Rattle.pcl_base.proofs.Lists.{once_each, single_byte}
-use Rattle.pcl_base.specs.declared.method.Method.TheVariants.{Plain, Runs, Packed, Delta}
-use Rattle.pcl_rows.specs.Heads.{Head, Itself, Count, Literal, Skipped, Repeat, Near, Far, method_of, IsInRange, head_bytes, new_count, offset_of, copies_of}
-use Rattle.pcl_rows.specs.Elements.{given_by}
-use Rattle.pcl_coders.specs.inner.Replacement.{replacement, replacement_bytes}
+use Rattle.pcl_coders.proofs.Names.{flat_map, nat_tests, append-nil, length-append, length-replicate, once_each, single_byte, Plain, Runs, Packed, Delta, Head, Itself, Count, Literal, Skipped, Repeat, Near, Far, method_of, IsInRange, head_bytes, new_count, offset_of, copies_of, given_by, replacement, replacement_bytes}
 
 -- one byte that is repeated
 pub given_copies : (copies : ℕ) {bytes : List ℕ} {byte : ℕ} → bytes ≡ byte ∷ []

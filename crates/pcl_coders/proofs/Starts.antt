@@ -1,16 +1,6 @@
 -- An earlier start of a replacement is never shorter than the latest.
 use Rattle.std.proofs.Common.{◌≡◌, ℕ, ◌+◌, ◌-◌, ◌≤◌, List, [], ◌∷◌, length, drop, sym, inl, inr, arith}
-use Rattle.std.proofs.lemmas.Bool.{cases_lt}
-use Rattle.std.proofs.lemmas.List.{length-drop}
-use Rattle.pcl_base.specs.declared.method.Method.TheVariants.{Delta}
-use Rattle.pcl_rows.specs.Heads.{offset_of}
-use Rattle.pcl_rows.specs.Elements.{Element}
-use Rattle.pcl_base.specs.Walks.{Walk, total}
-use Rattle.pcl_coders.specs.RowWalks.{Leads, Ends, cost}
-use Rattle.pcl_coders.specs.Starts.{IsLatestStart, StartsAt}
-use Rattle.pcl_coders.specs.inner.Replacement.{replacement_bytes}
-use Rattle.pcl_coders.specs.declared.shape.Shape.TheVariants.{Replace}
-use Rattle.pcl_coders.specs.inner.Shape.{element_of}
+use Rattle.pcl_coders.proofs.Names.{cases_lt, length-drop, Delta, offset_of, Element, Walk, total, Leads, Ends, cost, IsLatestStart, StartsAt, replacement_bytes, Replace, element_of}
 use Rattle.pcl_coders.proofs.Shapes.{delta_shape, replacement_is}
 use Rattle.pcl_coders.proofs.Choices.{agrees_gives, replace_step}
 use Rattle.pcl_coders.proofs.Ends.{ends_at}

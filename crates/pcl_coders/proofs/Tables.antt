@@ -1,22 +1,6 @@
 -- Tables that are known without being filled, and what a table of least numbers says of its places.
 use Rattle.std.proofs.Common.{◌≡◌, ℕ, ◌+◌, ◌-◌, ◌⊎◌, List, [], ◌∷◌, ◌++◌, length, take, drop, refl, ap, ◌∙◌, subst, inl, inr, arith, zero-add}
-use Rattle.std.specs.Prelude.{slice_index}
-use Rattle.std.proofs.lemmas.Bool.{cases_lt}
-use Rattle.std.proofs.lemmas.List.{length-take-le, drop_at, take-append-drop}
-use Rattle.pcl_base.specs.declared.method.Method.{Method}
-use Rattle.pcl_base.specs.declared.method.Method.TheVariants.{Plain}
-use Rattle.pcl_rows.specs.Elements.{Element, stop}
-use Rattle.pcl_rows.specs.Rows.{base, RowFrom, IsRowData}
-use Rattle.pcl_rows.specs.inner.Fronts.{overlaid}
-use Rattle.pcl_rows.proofs.Overlays.{overlaid_within}
-use Rattle.pcl_rows.proofs.Readings.{plain_elements, row_of_plain}
-use Rattle.pcl_rows.proofs.OneReading.{one_row}
-use Rattle.pcl_rows.proofs.Spellings.{spelling_has_byte}
-use Rattle.pcl_base.specs.Walks.{Walk, total}
-use Rattle.pcl_coders.specs.RowWalks.{Leads, Ends, cost, IsRowTable, IsLeastTable}
-use Rattle.pcl_coders.specs.Coding.{IsCodable, IsLeastLength, AppendsLeast}
-use Rattle.pcl_coders.specs.inner.Filling.{IsNext, AreRightFrom, IsFirstEnd}
-use Rattle.pcl_base.proofs.Walks.{feasible_bounds}
+use Rattle.pcl_coders.proofs.Names.{slice_index, cases_lt, length-take-le, drop_at, take-append-drop, Method, Plain, Element, stop, base, RowFrom, IsRowData, overlaid, overlaid_within, plain_elements, row_of_plain, one_row, spelling_has_byte, Walk, total, Leads, Ends, cost, IsRowTable, IsLeastTable, IsCodable, IsLeastLength, AppendsLeast, IsNext, AreRightFrom, IsFirstEnd, feasible_bounds}
 use Rattle.pcl_coders.proofs.RowWalks.{length-base, data_of_walk}
 use Rattle.pcl_coders.proofs.Filling.{row_table_small}
 

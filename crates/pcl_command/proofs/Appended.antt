@@ -1,7 +1,6 @@
 -- Texts that are appended one after the other.
 use Rattle.std.proofs.Common.{◌≡◌, ◌++◌, List, ℕ, Result, append_assoc}
-use Rattle.std.specs.Prelude.{OnOk}
-use Rattle.std.proofs.lemmas.Result.{on_ok_weaker}
+use Rattle.pcl_command.proofs.Names.{OnOk, on_ok_weaker}
 
 pub then_appended : {T E : Type 0} (result : Result T E) (old new : List ℕ) {middle : List ℕ} (first second : List ℕ)
     → middle ≡ old ++ first → OnOk result (new ≡ middle ++ second) → OnOk result (new ≡ old ++ (first ++ second))

@@ -1,11 +1,5 @@
 -- Comparisons with what is asked, and without.
-use Rattle.std.proofs.Common.{List, ℕ}
-use Rattle.std.specs.Prelude.{Bool, true, false}
-use Rattle.pcl_base.specs.declared.dpi.Dpi.{Dpi}
-use Rattle.pcl_same.specs.declared.comparison.AskedComparison.{AskedComparison}
-use Rattle.pcl_same.specs.declared.comparison.AskedComparison.TheVariants.{Same, Pages, Asks}
-use Rattle.pcl_same.specs.Comparing.{IsComparison, IsAskedComparison, of_pages}
-use Rattle.pcl_command.specs.Comparisons.{IsComparisonFor}
+use Rattle.pcl_command.proofs.Names.{List, ℕ, Bool, true, false, Dpi, AskedComparison, Same, Pages, Asks, IsComparison, IsAskedComparison, of_pages, IsComparisonFor}
 
 -- what holds with what is asked holds of the pages
 pub pages_alone : (dpi : Dpi) (first second : List ℕ) (comparison : AskedComparison) → IsAskedComparison dpi first second comparison

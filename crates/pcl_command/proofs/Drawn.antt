@@ -1,15 +1,6 @@
 -- Faults that come of an image.
-use Rattle.std.proofs.Common.{List, ℕ, Option, Some, Err, inl, refl, arith}
-use Rattle.std.specs.Borrow.{Bor}
-use Rattle.pcl_base.specs.declared.dpi.Dpi.{Dpi}
-use Rattle.pcl_bitmap.specs.Bitmap.{Picture}
-use Rattle.pcl_tool.specs.declared.fault.Fault.{Fault}
-use Rattle.pcl_tool.specs.declared.fault.Fault.TheVariants.{Memory, WriteFault}
-use Rattle.pcl_tool.specs.Image.{IsImageWritten}
-use Rattle.pcl_command.specs.declared.files.FileFault.{FileFault}
+use Rattle.pcl_command.proofs.Names.{List, ℕ, Option, Some, Err, inl, refl, arith, Bor, Dpi, Picture, Fault, Memory, WriteFault, IsImageWritten, FileFault, FileAct, write_fault_of, IsDifferingPage, IsImageMade, IsDrawnTo}
 use Rattle.pcl_command.specs.declared.files.FileFault.TheVariants as file
-use Rattle.pcl_command.specs.Files.{FileAct, write_fault_of}
-use Rattle.pcl_command.specs.DifferenceImages.{IsDifferingPage, IsImageMade, IsDrawnTo}
 
 -- a fault that an image can have
 abbrev pub IsImageFault : Fault → Type 0

@@ -1,9 +1,5 @@
 -- Faults that come of reading a file.
-use Rattle.std.proofs.Common.{List, ℕ, Err, arith}
-use Rattle.pcl_tool.specs.declared.fault.Fault.{Fault}
-use Rattle.pcl_tool.specs.declared.fault.Fault.TheVariants.{Memory, ReadFault, TooLong}
-use Rattle.pcl_command.specs.Files.{FileAct}
-use Rattle.pcl_command.specs.Checks.{IsFileRead}
+use Rattle.pcl_command.proofs.Names.{List, ℕ, Err, arith, Fault, Memory, ReadFault, TooLong, FileAct, IsFileRead}
 
 -- a fault that reading a file can have
 abbrev pub IsReadFault : Fault → Type 0

@@ -1,21 +1,6 @@
 -- The pages of this number that two jobs have, which the comparison of the jobs speaks of.
 use Rattle.std.proofs.Common.{◌≡◌, ◌∙◌, ℕ, ◌+◌, ◌-◌, List, [], ◌∷◌, ◌++◌, length, Some, Err, inl, inr, refl, sym, ap, subst, arith}
-use Rattle.std.specs.Prelude.{slice_get}
-use Rattle.std.proofs.lemmas.List.{length-append}
-use Rattle.pcl_base.specs.declared.dpi.Dpi.{Dpi}
-use Rattle.pcl_base.specs.declared.refusal.Refusal.{Refusal}
-use Rattle.pcl_bitmap.specs.Bitmap.{Picture}
-use Rattle.pcl_escape.specs.Said.{Said}
-use Rattle.pcl_escape.specs.Pieces.{IsReading}
-use Rattle.pcl_escape.proofs.Again.{reading_again, fault_found_of}
-use Rattle.pcl_page.specs.Situation.{Sheet}
-use Rattle.pcl_page.specs.Jobs.{HasPages}
-use Rattle.pcl_page.specs.Delivering.{IsRefusal}
-use Rattle.pcl_tool.specs.declared.fault.Fault.{Fault}
-use Rattle.pcl_tool.specs.declared.fault.Fault.TheVariants.{Refused, Memory, NoSuchPage}
-use Rattle.pcl_tool.specs.Preview.{HasPage, HasNoPage, IsPageDots}
-use Rattle.pcl_same.proofs.OneAnswer.{alike_count}
-use Rattle.pcl_command.specs.DifferenceImages.{DifferInDots, IsDifferingPage}
+use Rattle.pcl_command.proofs.Names.{slice_get, length-append, Dpi, Refusal, Picture, Said, IsReading, reading_again, fault_found_of, Sheet, HasPages, IsRefusal, Fault, Refused, Memory, NoSuchPage, HasPage, HasNoPage, IsPageDots, alike_count, DifferInDots, IsDifferingPage}
 
 -- ---- a job has one list of pages
 

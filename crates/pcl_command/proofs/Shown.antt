@@ -1,12 +1,6 @@
 -- What was read and written where pages are shown.
 use Rattle.std.proofs.Common.{◌≤◌, ℕ, List, Option, Result, Err, length, arith}
-use Rattle.pcl_base.specs.declared.dpi.Dpi.{Dpi}
-use Rattle.pcl_tool.specs.declared.fault.Fault.{Fault}
-use Rattle.pcl_tool.specs.declared.fault.Fault.TheVariants.{Memory, ReadFault, TooLong}
-use Rattle.pcl_tool.specs.Minimizing.{IsRead, input_limit}
-use Rattle.pcl_tool.specs.declared.page_images.PageChoice.{PageChoice}
-use Rattle.pcl_tool.specs.PageImages.{IsPagesPreview}
-use Rattle.pcl_command.specs.Runs.{IsPreviewRun}
+use Rattle.pcl_command.proofs.Names.{Dpi, Fault, Memory, ReadFault, TooLong, IsRead, input_limit, PageChoice, IsPagesPreview, IsPreviewRun}
 
 -- of a job that was read to its end
 pub shown : (dpi : Dpi) (choice : PageChoice) {given left : Option (List ℕ)} (old new : Option (List ℕ)) {job : List ℕ}

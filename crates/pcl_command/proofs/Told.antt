@@ -1,19 +1,7 @@
 -- What was read and written where a text on a job is.
 use Rattle.std.proofs.Common.{◌≤◌, ℕ, List, Option, Result, Ok, Err, length, arith}
-use Rattle.std.proofs.KnownBytes.{Keeps-refl}
-use Rattle.pcl_base.specs.declared.dpi.Dpi.{Dpi}
-use Rattle.pcl_base.specs.declared.fault.JobFault.{JobFault}
+use Rattle.pcl_command.proofs.Names.{Keeps-refl, Dpi, JobFault, Refusal, IsRefusal, fault_of, Fault, Refused, Memory, WriteFault, IsRead, input_limit, IsWritten, IsDescribed, IsShrunk, IsTextRun}
 use Rattle.pcl_base.specs.declared.fault.JobFault.TheVariants as fault
-use Rattle.pcl_base.specs.declared.refusal.Refusal.{Refusal}
-use Rattle.pcl_page.specs.Delivering.{IsRefusal}
-use Rattle.pcl_tool.specs.JobFaults.{fault_of}
-use Rattle.pcl_tool.specs.declared.fault.Fault.{Fault}
-use Rattle.pcl_tool.specs.declared.fault.Fault.TheVariants.{Refused, Memory, WriteFault}
-use Rattle.pcl_tool.specs.Minimizing.{IsRead, input_limit}
-use Rattle.pcl_tool.specs.Transfer.{IsWritten}
-use Rattle.pcl_pages.specs.Describing.{IsDescribed}
-use Rattle.pcl_shrink.specs.Shrinking.{IsShrunk}
-use Rattle.pcl_command.specs.Runs.{IsTextRun}
 
 -- of a job that was read to its end, where its text was written, or a prefix of it
 pub told : (Tells : List ℕ → List ℕ → Type 0) (Refuses : List ℕ → Refusal → Type 0) {given left : Option (List ℕ)}

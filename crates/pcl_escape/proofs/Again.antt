@@ -1,15 +1,7 @@
 -- All steps, the other way: bytes that are whole pieces are read as these, and the first fault is found.
 use Rattle.std.proofs.Common.{◌≡◌, ℕ, zero, suc, ◌+◌, ◌-◌, ◌<◌, ◌≤◌, List, [], ◌∷◌, ◌++◌, length, Option, Some, None, Result, Ok, Err, refl, sym, ◌∙◌, append_assoc, append-nil, length-append, add-zero, zero-add, arith}
-use Rattle.std.proofs.lemmas.Bool.Decides.{nat_tests}
-use Rattle.std.specs.List.{flat_map, AllByRecursion}
-use Rattle.pcl_base.specs.declared.refusal.Refusal.{Refusal}
-use Rattle.pcl_escape.specs.declared.step.Prefix.{Prefix}
-use Rattle.pcl_escape.specs.Letter.{prefix_bytes}
-use Rattle.pcl_escape.specs.Exit.{joined}
-use Rattle.pcl_escape.specs.Said.{Said}
-use Rattle.pcl_escape.specs.inner.Scan.{Reads, step_at, start_at, sequence_at, prefix_at, parameter_at, commands_said, with_front, and_then, outcome, outcome_of, named_at}
-use Rattle.pcl_escape.specs.Pieces.{Parameter, Piece, silent, control, text, two_character, combined, exit, IsPrefix, IsPiece, ArePieces, IsMiddle, IsEnd, IsReading, parameter_bytes, spelling, command_of, parameter_commands, first_place, commands_from, commands_of}
-use Rattle.pcl_escape.specs.Faults.{Fails, in_parameter, in_line, IsUngrouped, FailsParameter, place_behind, IsFault, unknown_control, lone_escape, no_sequence, unknown_two, no_group, bad_group}
+use Rattle.pcl_escape.proofs.Names.{nat_tests, flat_map, AllByRecursion, Refusal, Prefix, prefix_bytes, joined, Said, Reads, step_at, parameter_at, commands_said, with_front, and_then, outcome_of, Parameter, Piece, silent, control, text, two_character, combined, exit, IsPrefix, IsPiece, ArePieces, IsMiddle, IsEnd, IsReading, parameter_bytes, spelling, command_of, parameter_commands, first_place, commands_from, commands_of, Fails, in_parameter, in_line, IsUngrouped, FailsParameter, place_behind, IsFault, unknown_control, lone_escape, no_sequence, unknown_two, no_group, bad_group}
+use Rattle.pcl_escape.specs.inner.Scan.{start_at, sequence_at, prefix_at, outcome, named_at}
 use Rattle.pcl_escape.proofs.Lines.{foreign}
 use Rattle.pcl_escape.proofs.Steps.{Inside, is_inside, found_shorter, is_middle, is_end, is_wrong, parameter_shorter, parameter_joined, inside_reads}
 use Rattle.pcl_escape.proofs.Starts.{piece_reads, text_again, inside_again, exit_first, exit_again, parts_apart, named_control, named_two}

@@ -1,15 +1,8 @@
 -- The checks of a parameter look at the bytes after it only to see whether they are enough.
 use Rattle.std.proofs.Common.{◌≡◌, ℕ, ◌≤◌, true, Option, inl, inr, Result, Ok, arith}
-use Rattle.std.proofs.lemmas.Bool.{cases_Bool}
-use Rattle.std.proofs.lemmas.Bool.Decides.{nat_tests}
-use Rattle.pcl_base.specs.declared.name.Name.{Name}
-use Rattle.pcl_base.specs.declared.kind.Kind.{Kind}
-use Rattle.pcl_base.specs.declared.value.Value.{Value}
-use Rattle.pcl_base.specs.declared.operation.Operation.{Operation}
+use Rattle.pcl_escape.proofs.Names.{cases_Bool, nat_tests, Name, Kind, Value, Operation, goes_on, in_range, operation_checks, exit_name}
 use Rattle.pcl_base.specs.Operation.{operation_of}
-use Rattle.pcl_escape.specs.Letter.{goes_on}
-use Rattle.pcl_escape.specs.Field.{in_range}
-use Rattle.pcl_escape.specs.Checks.{operation_checks, parameter_checks, exit_name}
+use Rattle.pcl_escape.specs.Checks.{parameter_checks}
 
 -- the checks took so many of the bytes that are left; of any that are enough they take as many
 pub record Take (checks : ℕ → Result ℕ Kind) (left len : ℕ) : Type 0 where

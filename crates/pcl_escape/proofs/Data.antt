@@ -1,19 +1,6 @@
 -- How many data bytes a command takes, by the whole part that the code has as a signed number.
 use Rattle.std.proofs.Common.{◌≡◌, ℕ, zero, suc, ℤ, pos, nat_abs, int_lt, ◌<◌, ◌≢◌, true, false, ◌&&◌, nat_lt, if◌then◌else◌, Option, Some, Result, Ok, Err, refl, sym, ap, ◌∙◌}
-use Rattle.std.proofs.lemmas.Bool.{ne_eqb}
-use Rattle.std.proofs.lemmas.Int.{to_z-of_z}
-use Rattle.std.specs.Int.{w32, cast_signed, cast_unsigned}
-use Rattle.std.specs.Int.Signed.{mag}
-use Rattle.pcl_base.specs.declared.kind.Kind.{Kind}
-use Rattle.pcl_base.specs.declared.kind.Kind.TheVariants.{Truncated, BadSequence}
-use Rattle.pcl_base.specs.declared.operation.Operation.{Operation}
-use Rattle.pcl_base.specs.declared.value.Sign.{Sign}
-use Rattle.pcl_base.specs.declared.value.Sign.TheVariants.{Minus}
-use Rattle.pcl_base.specs.declared.value.Value.{Value}
-use Rattle.pcl_base.specs.Operation.{takes_data}
-use Rattle.pcl_base.specs.Value.{with_sign, signed_whole, whole_of, is_minus, is_below_zero}
-use Rattle.pcl_escape.specs.Letter.{goes_on}
-use Rattle.pcl_escape.specs.Checks.{operation_checks}
+use Rattle.pcl_escape.proofs.Names.{ne_eqb, to_z-of_z, w32, cast_signed, cast_unsigned, mag, Kind, Truncated, BadSequence, Operation, Sign, Minus, Value, takes_data, with_sign, signed_whole, whole_of, is_minus, is_below_zero, goes_on, operation_checks}
 
 -- the value counts so many bytes
 pub record Counts (value : Value) (n : ℕ) : Type 0 where

@@ -1,22 +1,15 @@
 -- Examples worked out by hand from docs/LANGUAGE.md, which the definitions compute.
 use Rattle.std.proofs.Common.{◌≡◌, ℕ, List, [], ◌∷◌, ◌++◌, refl}
 use Rattle.std.specs.Prelude.{codes}
-use Rattle.pcl_base.specs.declared.kind.Kind.TheVariants.{Truncated, BadSequence, ValueRange, UnsupportedCommand, NotPcl}
-use Rattle.pcl_base.specs.declared.name.Name.{Name}
+use Rattle.pcl_escape.proofs.Names.{NotPcl, Name, Sign, Absent, Plus, Minus, zero_value, field_value, Said, IsReading, IsFault}
+use Rattle.pcl_base.specs.declared.kind.Kind.TheVariants.{Truncated, BadSequence, ValueRange, UnsupportedCommand}
 use Rattle.pcl_base.specs.declared.name.Name.TheVariants.{Empty, One, Two, Three}
-use Rattle.pcl_base.specs.declared.value.Sign.{Sign}
-use Rattle.pcl_base.specs.declared.value.Sign.TheVariants.{Absent, Plus, Minus}
 use Rattle.pcl_base.specs.Operation.{operation_of}
 use Rattle.pcl_base.specs.Refusal.{refusal}
-use Rattle.pcl_base.specs.Value.{zero_value}
-use Rattle.pcl_escape.specs.Field.{field_value}
 use Rattle.pcl_escape.specs.inner.Fields.{field_at}
-use Rattle.pcl_escape.specs.Said.{Said}
 use Rattle.pcl_escape.specs.inner.Scan.{named_at, text_at, parameter_at, ungrouped_at, prefix_at, sequence_at, start_at, outcome}
 use Rattle.pcl_escape.specs.Checks.{parameter_checks}
 use Rattle.pcl_escape.specs.inner.Lines.{lines_from}
-use Rattle.pcl_escape.specs.Pieces.{IsReading}
-use Rattle.pcl_escape.specs.Faults.{IsFault}
 use Rattle.pcl_escape.proofs.Runs.{reading_of, fault_of}
 
 abbrev said : ℕ → Name → Sign → ℕ → List ℕ → Said

@@ -1,15 +1,7 @@
 -- A value field that is read from the left is the field that was spelled there.
 use Rattle.std.proofs.Common.{◌≡◌, ℕ, Bool, true, false, ◌||◌, eqb, if◌then◌else◌, List, [], ◌∷◌, ◌++◌, Option, Some, None, refl, ap, subst, append_assoc, arith}
-use Rattle.std.proofs.lemmas.Bool.Decides.{nat_tests}
-use Rattle.std.specs.Prelude.{IfSome, is_none}
-use Rattle.pcl_base.specs.declared.value.Sign.{Sign}
-use Rattle.pcl_escape.specs.Field.{Spelled, sign_bytes, fraction_bytes, field_bytes}
-use Rattle.pcl_base.specs.Digits.{is_digit, AreDigits}
-use Rattle.pcl_escape.specs.inner.Fields.{sign_at, digits_at, fraction_at, field_at}
-use Rattle.pcl_escape.specs.Pieces.{IsField}
-use Rattle.pcl_base.specs.Value.{is_absent}
-use Rattle.pcl_escape.specs.Faults.{extends, is_bare, is_empty}
-use Rattle.pcl_base.proofs.Fronts.{StopsAt, front_split, front_again}
+use Rattle.pcl_escape.proofs.Names.{nat_tests, IfSome, is_none, Sign, Spelled, sign_bytes, fraction_bytes, field_bytes, is_digit, AreDigits, sign_at, digits_at, fraction_at, IsField, is_absent, extends, is_bare, is_empty, StopsAt, front_split, front_again}
+use Rattle.pcl_escape.specs.inner.Fields.{field_at}
 
 -- ---- digits
 

@@ -1,3 +1,4 @@
+pub mod Names
 pub mod Fields
 pub mod Values
 pub mod Data

@@ -1,10 +1,7 @@
 -- The lines after a universal exit: what is skipped is what they are, both ways.
 use Rattle.std.proofs.Common.{◌≡◌, ℕ, zero, suc, ◌+◌, ◌-◌, ◌<◌, ◌≤◌, Bool, true, false, ◌==◌, not, nat_eq, if◌then◌else◌, IsTrue, List, [], ◌∷◌, ◌++◌, length, take, drop, ◌⊎◌, inl, inr, Result, Ok, Err, refl, sym, ap, subst, ◌∙◌, append_assoc, append-nil, length-append, length-drop, length-take-le, take-append-drop, take_at, drop_at, add-zero, eqb-true, arith}
-use Rattle.std.specs.Prelude.{codes}
-use Rattle.std.proofs.lemmas.Grind.{flat_map-append}
-use Rattle.std.specs.Str.{bytes_eq}
-use Rattle.pcl_escape.specs.Exit.{is_job_line, names_language, names_pcl, HasNoFeed, IsLine, joined, AreOtherLines, AreLines, to_other_bytes, to_pcl}
-use Rattle.pcl_escape.specs.inner.Lines.{line_len, lines_from, lines_at}
+use Rattle.pcl_escape.proofs.Names.{codes, flat_map-append, bytes_eq, is_job_line, names_language, names_pcl, HasNoFeed, IsLine, joined, AreOtherLines, AreLines, to_other_bytes, to_pcl, line_len, lines_at}
+use Rattle.pcl_escape.specs.inner.Lines.{lines_from}
 use Rattle.pcl_escape.proofs.Fields.{by_test}
 
 -- ---- one line

@@ -1,12 +1,9 @@
 -- The steps of the loop: each takes the front off the reading.
 use Rattle.std.proofs.Common.{◌≡◌, ℕ, suc, ◌+◌, ◌-◌, ◌≤◌, true, false, ◌==◌, is_some, List, ◌++◌, length, Option, Result, Ok, Err, refl, sym, append-nil, arith}
-use Rattle.pcl_base.specs.declared.refusal.Refusal.{Refusal}
-use Rattle.pcl_escape.specs.declared.step.Prefix.{Prefix}
-use Rattle.pcl_escape.specs.Said.{Said}
-use Rattle.pcl_escape.specs.inner.Scan.{Reads, step_at, commands_said, with_front, outcome}
+use Rattle.pcl_escape.proofs.Names.{Refusal, Prefix, Said, Reads, step_at, commands_said, with_front, nat_tests}
+use Rattle.pcl_escape.specs.inner.Scan.{outcome}
 use Rattle.pcl_escape.proofs.Runs.{with_fronts, GoesOn, step_shorter}
 use Rattle.pcl_escape.proofs.Again.{first_step, enough}
-use Rattle.std.proofs.lemmas.Bool.Decides.{nat_tests}
 
 -- what was read before, and what is still read of the rest of so many bytes
 abbrev pub so_far : List Said → ℕ → Option Prefix → List ℕ → Result (List Said) Refusal

@@ -1,13 +1,6 @@
 -- What a step of the code reads inside a sequence, by what it found: no letter, a fault of the checks, or a parameter.
 use Rattle.std.proofs.Common.{◌≡◌, ℕ, Bool, true, false, if◌then◌else◌, List, length, Some, None, Err, arith}
-use Rattle.std.specs.Bool.{then_some}
-use Rattle.pcl_base.specs.declared.kind.Kind.TheVariants.{Truncated}
-use Rattle.pcl_base.specs.declared.value.Value.{Value}
-use Rattle.pcl_base.specs.Refusal.{refusal}
-use Rattle.pcl_escape.specs.declared.step.Prefix.{Prefix}
-use Rattle.pcl_escape.specs.Letter.{prefix_name}
-use Rattle.pcl_escape.specs.Field.{Spelled}
-use Rattle.pcl_escape.specs.inner.Fields.{field_at}
+use Rattle.pcl_escape.proofs.Names.{then_some, Truncated, Value, refusal, Prefix, prefix_name, Spelled, field_at}
 use Rattle.pcl_escape.specs.inner.Scan.{parameter_at}
 
 -- nothing is after the field at the front

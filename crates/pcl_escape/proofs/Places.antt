@@ -1,24 +1,7 @@
 -- The data of a command stand in the job right before what is left after its step.
 use Rattle.std.proofs.Common.{◌≡◌, ℕ, suc, ◌+◌, ◌-◌, true, false, ◌==◌, if◌then◌else◌, List, [], ◌∷◌, ◌++◌, length, take_at, drop_at, Option, Some, None, Result, Ok, Err, refl, sym, ap, subst, append_assoc, length-append, arith}
-use Rattle.std.proofs.lemmas.Bool.Decides.{nat_tests}
-use Rattle.std.proofs.lemmas.List.{take-append-drop}
-use Rattle.std.specs.Prelude.{IfSome}
-use Rattle.pcl_base.specs.declared.kind.Kind.{Kind}
-use Rattle.pcl_base.specs.declared.name.Name.{Name}
-use Rattle.pcl_base.specs.declared.name.Name.TheVariants.{One}
-use Rattle.pcl_base.specs.declared.refusal.Refusal.{Refusal}
-use Rattle.pcl_base.specs.declared.value.Value.{Value}
-use Rattle.pcl_base.specs.Name.{name_bytes}
-use Rattle.pcl_base.specs.Operation.{operation_of}
-use Rattle.pcl_base.proofs.Fronts.{front_split}
-use Rattle.pcl_escape.specs.declared.step.Prefix.{Prefix}
-use Rattle.pcl_escape.specs.Letter.{is_silent, is_control, is_text, is_two_character, is_parameterized, is_ungrouped, is_group, goes_on, is_letter, name_with_letter, parameter_name}
-use Rattle.pcl_escape.specs.Field.{Spelled, field_bytes, field_value}
-use Rattle.pcl_escape.specs.Exit.{joined}
-use Rattle.pcl_escape.specs.Items.{name_with}
-use Rattle.pcl_escape.specs.Said.{Said}
-use Rattle.pcl_escape.specs.inner.Fields.{field_at}
-use Rattle.pcl_escape.specs.inner.Scan.{Reads, named_by, named_at, text_at, checked_at, letter_at, parameter_at, leaves, skipped_by, with_lines, ungrouped_at, prefix_at, sequence_at, start_at, step_at, IsPlaced}
+use Rattle.pcl_escape.proofs.Names.{nat_tests, take-append-drop, IfSome, Kind, Name, One, Refusal, Value, name_bytes, operation_of, front_split, Prefix, is_silent, is_control, is_text, is_two_character, is_parameterized, is_ungrouped, is_group, goes_on, is_letter, name_with_letter, parameter_name, Spelled, field_bytes, field_value, joined, name_with, Said, field_at, Reads, named_by, checked_at, letter_at, leaves, skipped_by, with_lines, step_at, IsPlaced}
+use Rattle.pcl_escape.specs.inner.Scan.{named_at, text_at, parameter_at, ungrouped_at, prefix_at, sequence_at, start_at}
 use Rattle.pcl_escape.proofs.Fields.{by_test, field_split}
 use Rattle.pcl_escape.proofs.Lines.{Lines, skipped, foreign, lines_split}
 use Rattle.pcl_escape.proofs.Starts.{before_rest_is}

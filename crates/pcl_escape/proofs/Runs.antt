@@ -1,18 +1,9 @@
 -- All steps: what the reading of the bytes gives says what the bytes are.
 use Rattle.std.proofs.Common.{◌≡◌, ℕ, zero, suc, ◌+◌, ◌-◌, ◌<◌, true, is_some, List, [], ◌∷◌, ◌++◌, length, Option, Some, None, Result, Ok, Err, refl, append_assoc, append-nil, length-append, add-zero, ◌&&◌, zero-add, arith, ◌==◌, not, false}
-use Rattle.std.specs.List.{flat_map, AllByRecursion}
-use Rattle.pcl_base.specs.declared.fault.JobFault.{JobFault}
-use Rattle.pcl_base.specs.declared.fault.JobFault.TheVariants.{Refused, Memory}
-use Rattle.pcl_base.specs.declared.refusal.Refusal.{Refusal}
-use Rattle.pcl_escape.specs.declared.step.Prefix.{Prefix}
-use Rattle.pcl_escape.specs.Letter.{goes_on, prefix_bytes}
-use Rattle.pcl_escape.specs.Said.{Said}
-use Rattle.pcl_escape.specs.inner.Scan.{Reads, with_front, and_then, outcome, outcome_of, Yields, step_at}
-use Rattle.pcl_escape.specs.Pieces.{Parameter, Piece, combined, IsPrefix, IsPiece, ArePieces, IsMiddle, IsEnd, parameter_bytes, spelling, command_of, parameter_commands, first_place, commands_from, commands_of, IsReading}
-use Rattle.pcl_escape.specs.Faults.{Fails, IsFault, IsFaultOf, IsUngrouped, in_parameter, FailsParameter, place_behind}
+use Rattle.pcl_escape.proofs.Names.{flat_map, AllByRecursion, JobFault, Refused, Memory, Refusal, Prefix, goes_on, prefix_bytes, Said, Reads, with_front, and_then, outcome_of, Yields, step_at, Parameter, Piece, combined, IsPrefix, IsPiece, ArePieces, IsMiddle, IsEnd, parameter_bytes, spelling, command_of, parameter_commands, first_place, commands_from, commands_of, IsReading, Fails, IsFault, IsFaultOf, IsUngrouped, in_parameter, FailsParameter, place_behind, nat_tests}
+use Rattle.pcl_escape.specs.inner.Scan.{outcome}
 use Rattle.pcl_escape.proofs.Steps.{Inside, is_middle, is_end, is_wrong, is_inside, found_shorter, grouped_step, parameter_step, parameter_shorter}
 use Rattle.pcl_escape.proofs.Starts.{Outside, whole_piece, sequence, wrong, start_step}
-use Rattle.std.proofs.lemmas.Bool.Decides.{nat_tests}
 
 -- ---- what bytes are
 

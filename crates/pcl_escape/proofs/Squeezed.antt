@@ -1,14 +1,6 @@
 -- The front of what a line says tells what it asks for.
 use Rattle.std.proofs.Common.{◌≡◌, ℕ, zero, suc, ◌<◌, ◌≤◌, ◌==◌, Bool, true, false, ◌&&◌, nat_eq, List, [], ◌∷◌, ◌++◌, length, take, refl, sym, ap, append-nil, eqb-true, arith}
-use Rattle.std.specs.Prelude.{codes}
-use Rattle.std.specs.List.{starts_with}
-use Rattle.std.specs.Char.{to_ascii_uppercase}
-use Rattle.std.specs.Str.{bytes_eq}
-use Rattle.std.proofs.lemmas.List.{map-append}
-use Rattle.std.proofs.lemmas.List.Elements.{filter-append}
-use Rattle.std.proofs.lemmas.Bool.Decides.{nat_tests}
-use Rattle.pcl_base.proofs.Lists.{full_front, longer_front}
-use Rattle.pcl_escape.specs.Exit.{is_white_space, squeezed, names_language, names_pcl}
+use Rattle.pcl_escape.proofs.Names.{codes, starts_with, to_ascii_uppercase, bytes_eq, map-append, filter-append, nat_tests, full_front, longer_front, is_white_space, squeezed, names_language, names_pcl}
 
 -- a byte after the line says what it says alone
 squeezed_more : (line : List ℕ) (byte : ℕ) → squeezed (line ++ byte ∷ []) ≡ squeezed line ++ squeezed (byte ∷ [])

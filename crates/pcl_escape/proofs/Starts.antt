@@ -1,30 +1,9 @@
 -- What a step reads outside sequences: a whole piece, the first parameter of a sequence, or a fault.
 use Rattle.std.proofs.Common.{◌≡◌, ◌↔◌, ℕ, suc, ◌+◌, ◌-◌, ◌<◌, true, false, ◌==◌, IsTrue, is_some, List, [], ◌∷◌, ◌++◌, length, take, take_at, drop, Option, Some, None, Result, Ok, Err, inl, inr, refl, sym, ap, subst₂, ◌∙◌, append_assoc, length-append, arith}
-use Rattle.std.proofs.lemmas.Bool.{eqb-true, cases_Bool}
-use Rattle.std.proofs.lemmas.Bool.Decides.{nat_tests}
-use Rattle.std.specs.List.{prefix_len}
-use Rattle.std.proofs.lemmas.List.{nil_from_length}
-use Rattle.pcl_base.specs.declared.name.Name.TheVariants.{One}
-use Rattle.pcl_base.specs.declared.kind.Kind.TheVariants.{Truncated, UnsupportedCommand}
-use Rattle.pcl_base.specs.declared.operation.Operation.{Operation}
-use Rattle.pcl_base.specs.declared.refusal.Refusal.{Refusal}
-use Rattle.pcl_base.specs.declared.value.Sign.{Sign}
-use Rattle.pcl_base.specs.declared.value.Sign.TheVariants.{Absent}
-use Rattle.pcl_base.specs.Operation.{operation_of}
-use Rattle.pcl_escape.specs.declared.step.Prefix.{Prefix}
-use Rattle.pcl_escape.specs.Letter.{is_silent, is_control, is_text, is_two_character, is_parameterized, is_ungrouped, is_group, is_last, prefix_bytes}
-use Rattle.pcl_escape.specs.Field.{Spelled, field_bytes, field_value}
-use Rattle.pcl_base.specs.Digits.{is_digit}
+use Rattle.pcl_escape.proofs.Names.{eqb-true, cases_Bool, nat_tests, prefix_len, nil_from_length, One, Truncated, UnsupportedCommand, Operation, Refusal, Sign, Absent, operation_of, Prefix, is_silent, is_control, is_text, is_two_character, is_parameterized, is_ungrouped, is_group, is_last, prefix_bytes, Spelled, field_bytes, field_value, is_digit, exit_name, is_exit, parameter_checks, joined, lines_at, Said, Reads, refuse, named_by, before_rest, skipped_by, with_lines, commands_said, Parameter, Piece, silent, control, text, two_character, exit, IsField, IsPrefix, IsNoText, IsRun, IsExit, IsPiece, parameter_bytes, spelling, bare_command, text_command, exit_command, commands_from, Fails, unknown_control, lone_escape, no_sequence, unknown_two, no_group, bad_group, in_line, IsUngrouped, cut, Pass, StopsAt, front_yes, front_split, front_again}
 use Rattle.pcl_escape.specs.inner.Fields.{field_at}
-use Rattle.pcl_escape.specs.Checks.{exit_name, is_exit, parameter_checks}
-use Rattle.pcl_escape.specs.Exit.{joined}
-use Rattle.pcl_escape.specs.inner.Lines.{lines_at}
-use Rattle.pcl_escape.specs.Said.{Said}
-use Rattle.pcl_escape.specs.inner.Scan.{Reads, refuse, named_by, named_at, text_at, before_rest, skipped_by, with_lines, ungrouped_at, prefix_at, sequence_at, start_at, parameter_at, commands_said}
-use Rattle.pcl_escape.specs.Pieces.{Parameter, Piece, silent, control, text, two_character, exit, IsField, IsPrefix, IsNoText, IsRun, IsExit, IsPiece, parameter_bytes, spelling, bare_command, text_command, exit_command, commands_from}
-use Rattle.pcl_escape.specs.Faults.{Fails, unknown_control, lone_escape, no_sequence, unknown_two, no_group, bad_group, in_line, IsUngrouped, cut}
+use Rattle.pcl_escape.specs.inner.Scan.{named_at, text_at, ungrouped_at, prefix_at, sequence_at, start_at, parameter_at}
 use Rattle.pcl_escape.proofs.Fields.{by_test}
-use Rattle.pcl_base.proofs.Fronts.{Pass, StopsAt, front_yes, front_split, front_again}
 use Rattle.pcl_escape.proofs.Lines.{Lines, skipped, foreign, lines_split, lines_again}
 use Rattle.pcl_escape.proofs.Checks.{exit_takes_none}
 use Rattle.pcl_escape.proofs.Steps.{Inside, is_middle, is_end, is_wrong, Found, is_inside, is_leave, IsLast, is_leaving, end_reads, parameter_step, grouped_step, parameter_joined, last_again, middle_stays, inside_reads}

@@ -1,17 +1,7 @@
 -- What a step reads inside a sequence: a middle parameter, the last one with its data, or its first fault.
 use Rattle.std.proofs.Common.{◌≡◌, ℕ, Bool, true, false, ◌&&◌, ◌<◌, is_some, IsTrue, List, [], ◌∷◌, ◌++◌, length, take, drop, Some, None, inl, inr, Result, Ok, Err, refl, sym, ap, subst, ◌∙◌, append_assoc, append-nil, length-append, length-take-le, take-append-drop, take_at, drop_at, arith}
-use Rattle.std.proofs.lemmas.Bool.{cases_Bool}
-use Rattle.std.proofs.lemmas.Bool.Decides.{nat_tests}
-use Rattle.pcl_base.specs.declared.kind.Kind.{Kind}
-use Rattle.pcl_base.specs.declared.refusal.Refusal.{Refusal}
-use Rattle.pcl_escape.specs.declared.step.Prefix.{Prefix}
-use Rattle.pcl_escape.specs.Letter.{is_last, goes_on, is_letter, parameter_name}
-use Rattle.pcl_escape.specs.Field.{Spelled, field_bytes, field_value}
-use Rattle.pcl_escape.specs.inner.Fields.{field_at}
-use Rattle.pcl_escape.specs.Checks.{parameter_checks, is_exit}
-use Rattle.pcl_escape.specs.inner.Scan.{Reads, letter_at, checked_at, parameter_at}
-use Rattle.pcl_escape.specs.Pieces.{Parameter, IsField, IsMiddle, IsEnd, PassesChecks, parameter_bytes, command_of}
-use Rattle.pcl_escape.specs.Faults.{FailsParameter, cut, no_letter, check}
+use Rattle.pcl_escape.proofs.Names.{cases_Bool, nat_tests, Kind, Refusal, Prefix, is_last, goes_on, is_letter, parameter_name, Spelled, field_bytes, field_value, field_at, parameter_checks, is_exit, Reads, letter_at, checked_at, Parameter, IsField, IsMiddle, IsEnd, PassesChecks, parameter_bytes, command_of, FailsParameter, cut, no_letter, check}
+use Rattle.pcl_escape.specs.inner.Scan.{parameter_at}
 use Rattle.pcl_escape.proofs.Fields.{by_test, FieldStops, field_split, field_again}
 use Rattle.pcl_escape.proofs.Checks.{checks_take, none_behind}
 

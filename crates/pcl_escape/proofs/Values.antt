@@ -1,12 +1,6 @@
 -- The value of a field of the code, whose digits before the point are read up to a limit.
 use Rattle.std.proofs.Common.{◌≡◌, ℕ, ◌+◌, ◌*◌, ◌≤◌, min, nat_le, if◌then◌else◌, List, [], Option, Some, None, arith}
-use Rattle.std.proofs.lemmas.Bool.Decides.{nat_tests}
-use Rattle.std.specs.Bool.{then_some}
-use Rattle.std.specs.Borrow.{Bor}
-use Rattle.std.specs.Option.{unwrap_or}
-use Rattle.pcl_base.specs.declared.value.Sign.{Sign}
-use Rattle.pcl_base.specs.declared.value.Value.{Value}
-use Rattle.pcl_escape.specs.Field.{contents, fraction_parts, greatest_parts, in_range, ten_thousandths}
+use Rattle.pcl_escape.proofs.Names.{nat_tests, then_some, Bor, unwrap_or, Sign, Value, contents, fraction_parts, greatest_parts, in_range, ten_thousandths}
 
 -- the value of a number and its decimals
 abbrev pub value_with : Sign → ℕ → ℕ → Value

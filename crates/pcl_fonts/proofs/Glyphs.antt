@@ -1,8 +1,6 @@
 -- Characters as they are read.
 use Rattle.std.proofs.Common.{◌≡◌, ℕ, ◌+◌, ◌≤◌, Bool, true, ◌&&◌, nat_le, List, length, take, drop, ◌-◌, ap, ◌∙◌}
-use Rattle.std.proofs.lemmas.List.{take_rest}
-use Rattle.std.proofs.lemmas.Bool.{le-leb}
-use Rattle.pcl_fonts.specs.Fields.{Character, word, has_fixed_bytes, is_character, pattern_bytes}
+use Rattle.pcl_fonts.proofs.Names.{take_rest, le-leb, Character, word, has_fixed_bytes, is_character, pattern_bytes}
 
 pub is_taken : (bytes : List ℕ) (width height : ℕ) → 16 ≤ length bytes → has_fixed_bytes bytes ≡ true → width ≡ word bytes 10
     → height ≡ word bytes 12 → 16 + pattern_bytes width height ≤ length bytes → is_character bytes ≡ true

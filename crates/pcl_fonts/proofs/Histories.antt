@@ -1,7 +1,6 @@
 -- Tables of fonts along a history.
 use Rattle.std.proofs.Common.{List, ◌∷◌}
-use Rattle.pcl_fonts.specs.History.{FontEvent}
-use Rattle.pcl_fonts.specs.Table.{FontTable, Holds, Follows}
+use Rattle.pcl_fonts.proofs.Names.{FontEvent, FontTable, Holds, Follows}
 
 -- a table that holds what a history leaves holds what is left after one event more
 pub holds_after : {old new : FontTable} {event : FontEvent} {history : List FontEvent} → Follows old new event → Holds old history

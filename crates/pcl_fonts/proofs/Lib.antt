@@ -1,3 +1,4 @@
+pub mod Names
 mod Glyphs
 pub mod Histories
 mod Tables

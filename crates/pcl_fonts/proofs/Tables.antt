@@ -1,20 +1,7 @@
 -- Tables of fonts as the entries of a map, and what each event does to them.
 use Rattle.std.proofs.Common.{◌≡◌, ℕ, ◌≤◌, ◌+◌, Bool, true, false, ◌&&◌, cond, nat_eq, if◌then◌else◌, List, [], map, filter, Option, None, Some, is_some, IfSome, refl, sym, ap, ◌∙◌, arith}
-use Rattle.std.proofs.lemmas.Bool.{eqb-true, eq-eqb}
-use Rattle.std.proofs.lemmas.Bool.Decides.{nat_tests}
-use Rattle.std.proofs.lemmas.Map.Made.{lookup-map_values}
-use Rattle.std.proofs.lemmas.Map.Entries.{lookup-filter-values, option_filter}
-use Rattle.std.proofs.lemmas.Cmp.{nat_eq_equiv}
-use Rattle.std.specs.List.{IsDistinct}
-use Rattle.std.specs.Map.{keys_of, lookup}
-use Rattle.std.specs.Option.{option_map}
-use Rattle.indexmap.specs.IndexMap.{IndexMap, get, WritesThrough}
-use Rattle.pcl_fonts.specs.Fields.{Character, font_of, has_code, character_of as character_with}
-use Rattle.pcl_fonts.specs.History.{FontEvent, header, character, control, with_permanent, font_step, character_step}
-use Rattle.pcl_fonts.specs.Table.{FontTable, Follows, IsSame, printed, font_at, character_at, character_of, font_in, character_in, stored_in, is_there}
-use Rattle.pcl_fonts.specs.declared.fonts.Entry.{Entry}
-use Rattle.pcl_fonts.specs.declared.fonts.FontControl.{FontControl}
-use Rattle.pcl_fonts.specs.declared.fonts.FontControl.TheVariants.{Temporary, One, MakeTemporary, MakePermanent}
+use Rattle.pcl_fonts.proofs.Names.{eqb-true, eq-eqb, nat_tests, lookup-map_values, lookup-filter-values, option_filter, nat_eq_equiv, IsDistinct, keys_of, lookup, option_map, IndexMap, get, WritesThrough, Character, font_of, has_code, FontEvent, header, character, control, with_permanent, font_step, character_step, FontTable, Follows, IsSame, printed, font_at, character_at, character_of, font_in, character_in, stored_in, is_there, Entry, FontControl, Temporary, One, MakeTemporary, MakePermanent}
+use Rattle.pcl_fonts.specs.Fields.{character_of as character_with}
 use Rattle.pcl_fonts.specs.declared.fonts.FontControl.TheVariants as controls
 
 abbrev pub Entries : Type 0

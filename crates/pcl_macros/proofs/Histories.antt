@@ -1,7 +1,6 @@
 -- Tables of macros along a history.
 use Rattle.std.proofs.Common.{List, ◌∷◌, ap, ◌∙◌}
-use Rattle.pcl_macros.specs.History.{MacroEvent, body_step}
-use Rattle.pcl_macros.specs.Table.{MacroTable, Holds, Follows}
+use Rattle.pcl_macros.proofs.Names.{MacroEvent, body_step, MacroTable, Holds, Follows}
 
 -- a table that holds what a history leaves holds what is left after one event more
 pub holds_after : (old new : MacroTable) (event : MacroEvent) (history : List MacroEvent) → Follows old new event → Holds old history

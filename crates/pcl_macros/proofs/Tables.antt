@@ -1,19 +1,6 @@
 -- Tables of macros as the entries of a map, and what each event does to them.
 use Rattle.std.proofs.Common.{◌≡◌, ℕ, ◌≤◌, ◌+◌, Bool, true, false, cond, nat_eq, List, map, filter, Option, None, Some, is_some, IfSome, refl, ap, ◌∙◌, arith}
-use Rattle.std.proofs.lemmas.Bool.{eqb-true, eq-eqb}
-use Rattle.std.proofs.lemmas.Bool.Decides.{nat_tests}
-use Rattle.std.proofs.lemmas.Map.Made.{lookup-map_values}
-use Rattle.std.proofs.lemmas.Map.Entries.{lookup-filter-values, option_filter}
-use Rattle.std.proofs.lemmas.Cmp.{nat_eq_equiv}
-use Rattle.std.specs.List.{IsDistinct}
-use Rattle.std.specs.Map.{keys_of, lookup}
-use Rattle.std.specs.Option.{option_map}
-use Rattle.indexmap.specs.IndexMap.{IndexMap, get, WritesThrough}
-use Rattle.pcl_macros.specs.History.{MacroEvent, MacroBody, control, with_permanent, if_permanent, body_step}
-use Rattle.pcl_macros.specs.Table.{Begun, MacroTable, Follows, macro_at, macro_in, is_there}
-use Rattle.pcl_macros.specs.declared.table.Body.{Body}
-use Rattle.pcl_macros.specs.declared.table.MacroControl.{MacroControl}
-use Rattle.pcl_macros.specs.declared.table.MacroControl.TheVariants.{MakeTemporary, MakePermanent}
+use Rattle.pcl_macros.proofs.Names.{eqb-true, eq-eqb, nat_tests, lookup-map_values, lookup-filter-values, option_filter, nat_eq_equiv, IsDistinct, keys_of, lookup, option_map, IndexMap, get, WritesThrough, MacroEvent, MacroBody, control, with_permanent, if_permanent, body_step, Begun, MacroTable, Follows, macro_at, macro_in, is_there, Body, MacroControl, MakeTemporary, MakePermanent}
 
 abbrev pub Entries : Type 0
 Entries = List (ℕ × Body)

@@ -1,7 +1,5 @@
 -- What a command does, without its place and its name.
-use Rattle.std.proofs.Common.{ℕ, List}
-use Rattle.pcl_base.specs.declared.operation.Operation.{Operation}
-use Rattle.pcl_base.specs.declared.value.Value.{Value}
+use Rattle.pcl_meaning.proofs.Names.{ℕ, List, Operation, Value}
 
 pub record Deed : Type 0 where
   pub operation : Operation

@@ -1,15 +1,7 @@
 -- The dots of rows, as tokens print them and as they are inked.
 use Rattle.std.proofs.Common.{◌≡◌, ℕ, zero, suc, ◌+◌, ◌-◌, ◌*◌, ◌/◌, ◌%◌, ◌<◌, Bool, true, false, ◌&&◌, ◌||◌, ◌==◌, nat_le, nat_lt, List, [], ◌∷◌, take, drop, refl, sym, ap, ◌∙◌, inl, inr, arith, get_or}
-use Rattle.std.proofs.Math.Bool.{and-false, or-false}
-use Rattle.std.proofs.lemmas.Bool.{cases_lt}
-use Rattle.std.proofs.lemmas.Bool.Decides.{nat_tests}
-use Rattle.std.proofs.lemmas.List.{get_or_past, drop-drop}
-use Rattle.pcl_bitmap.proofs.Bytes.{bit_of_byte-zero}
-use Rattle.pcl_bitmap.specs.Bitmap.{dot_of_row}
-use Rattle.pcl_bitmap.specs.Dots.{raster_dot}
-use Rattle.pcl_output.specs.Tokens.{IsWhite, AreWhite}
+use Rattle.pcl_meaning.proofs.Names.{and-false, or-false, cases_lt, nat_tests, get_or_past, drop-drop, bit_of_byte-zero, dot_of_row, raster_dot, IsWhite, AreWhite, dot_of_rows}
 use Rattle.pcl_output.specs.PageText.{rows_from}
-use Rattle.pcl_meaning.specs.PageTexts.{dot_of_rows}
 
 -- ---- dots of rows
 

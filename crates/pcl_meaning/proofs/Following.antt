@@ -1,20 +1,7 @@
 -- How far deeds bring a situation.
 use Rattle.std.proofs.Common.{◌≡◌, ℕ, ◌+◌, ◌≤◌, ◌<◌, false, cond, List, [], ◌∷◌, ◌++◌, length, Some, None, Result, Ok, Err, refl, ap, subst, ◌∙◌, arith}
-use Rattle.std.specs.Prelude.{is_some}
-use Rattle.pcl_base.specs.declared.dpi.Dpi.{Dpi}
-use Rattle.pcl_base.specs.declared.kind.Kind.{Kind}
-use Rattle.pcl_base.specs.declared.kind.Kind.TheVariants.{UnsupportedCommand}
-use Rattle.pcl_base.specs.declared.name.Name.TheVariants.{Empty}
-use Rattle.pcl_base.specs.declared.operation.Operation.{Operation}
-use Rattle.pcl_base.specs.declared.operation.Operation.TheVariants.{Reset, ControlMacros, ControlFonts}
-use Rattle.pcl_base.specs.declared.value.Value.{Value}
-use Rattle.pcl_escape.specs.Said.{Said}
-use Rattle.pcl_env.specs.Outcome.{outcome}
+use Rattle.pcl_meaning.proofs.Names.{is_some, Dpi, Kind, UnsupportedCommand, Empty, Operation, Reset, ControlMacros, ControlFonts, Value, Said, outcome, Run, managed, after_command, run_from, run_of, Performance, done, in_order, step, then_from, after_adds, tried_as}
 use Rattle.pcl_page.specs.Situation.{Situation, is_marked, drawn, draw_refusal, ◌|>◌, turned_by, drawn_on, counted, prepared, is_ignored, after, page_refusal, within_page_limit, tried}
-use Rattle.pcl_page.specs.Macros.{Run, managed, after_command, run_from, run_of}
-use Rattle.pcl_page.specs.Performing.{Performance, done, in_order, step}
-use Rattle.pcl_page.proofs.Keeping.{then_from, after_adds}
-use Rattle.pcl_page.proofs.Steps.{tried_as}
 use Rattle.pcl_meaning.proofs.Deeds.{Deed}
 use Rattle.pcl_meaning.proofs.Readings.{IsSaid, AreSaid}
 

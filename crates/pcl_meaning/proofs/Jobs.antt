@@ -1,35 +1,10 @@
 -- Whole jobs of page texts are accepted, and mean the pages of the texts.
 use Rattle.std.proofs.Common.{◌≡◌, ℕ, ◌+◌, ◌*◌, ◌<◌, ◌≤◌, List, [], ◌∷◌, ◌++◌, length, Option, Some, None, refl, sym, ap, subst, ◌∙◌, append_assoc, append-nil, length-append, arith, lit≤, false}
-use Rattle.std.specs.List.{flat_map}
-use Rattle.std.proofs.lemmas.Bool.Decides.{nat_tests}
-use Rattle.pcl_base.specs.declared.dpi.Dpi.{Dpi}
-use Rattle.pcl_base.specs.declared.kind.Kind.{Kind}
-use Rattle.pcl_base.specs.declared.size.Size.{Size}
-use Rattle.pcl_base.specs.declared.refusal.Refusal.{Refusal}
-use Rattle.pcl_base.specs.Limits.{macro_limit, command_limit}
-use Rattle.pcl_base.specs.Size.{page_width, page_height, page_row_bytes}
-use Rattle.pcl_base.proofs.PageBounds.{height_small}
-use Rattle.pcl_escape.specs.Pieces.{commands_of, IsReading}
-use Rattle.pcl_env.specs.Settings.{Settings, defaults, nothing_asked}
+use Rattle.pcl_meaning.proofs.Names.{flat_map, nat_tests, Dpi, Kind, Size, Refusal, macro_limit, command_limit, page_width, page_height, page_row_bytes, height_small, commands_of, IsReading, Settings, defaults, nothing_asked, dot, Page, Temporary, control, pages_fit, Mark, is_black, Sheet, Situation, at_begin, at_end, Shows, Performance, done, unless, then_on, runs, after_all, end_refusal, ended, after_end, pages_of, asks_among, Asks, HasPages, HasAsks, performance_of, Token, method, commands_in, command_count, token_bytes, start_bytes, end_bytes, frame_bytes, IsPageText, bitmap_rows, IsWrittenPage, AreAlike, AllAlike, PrintEach, most_commands, nothing_for, dot_of_rows, job_of, MeansRows}
 use Rattle.pcl_env.specs.Outcome.{outcome}
-use Rattle.pcl_bitmap.specs.Bitmap.{dot}
-use Rattle.pcl_bitmap.specs.declared.page.Page.{Page}
-use Rattle.pcl_fonts.specs.declared.fonts.FontControl.TheVariants.{Temporary}
-use Rattle.pcl_fonts.specs.History.{control}
 use Rattle.pcl_macros.specs.declared.table.MacroControl.TheVariants as macros
 use Rattle.pcl_macros.specs.History.{control as macro_control}
-use Rattle.pcl_page.proofs.Turns.{pages_fit}
-use Rattle.pcl_page.specs.Marks.{Mark, is_black}
-use Rattle.pcl_page.specs.Situation.{Sheet, Situation, at_begin, at_end, after}
-use Rattle.pcl_page.specs.Performing.{Shows, Performance, done, unless, then_on, runs, after_all, end_refusal, ended, after_end, pages_of, asks_among}
-use Rattle.pcl_page.specs.Asks.{Asks}
-use Rattle.pcl_page.specs.Jobs.{HasPages, HasAsks, performance_of}
-use Rattle.pcl_output.specs.Tokens.{Token, method, commands_in, command_count, token_bytes, start_bytes, end_bytes, frame_bytes}
-use Rattle.pcl_output.specs.PageText.{IsPageText, bitmap_rows}
-use Rattle.pcl_writer.specs.Appending.{IsWrittenPage}
-use Rattle.pcl_page.specs.Alike.{AreAlike, AllAlike}
-use Rattle.pcl_meaning.specs.JobTexts.{PrintEach, most_commands, nothing_for}
-use Rattle.pcl_meaning.specs.PageTexts.{dot_of_rows, job_of, MeansRows}
+use Rattle.pcl_page.specs.Situation.{after}
 use Rattle.pcl_meaning.proofs.Deeds.{Deed}
 use Rattle.pcl_meaning.proofs.Readings.{ReadsAs, reads_joined, reads_none, said_many}
 use Rattle.pcl_meaning.proofs.Sequences.{token_deeds, body_deeds, reset, tokens_read, start_read, end_read, frame_read}

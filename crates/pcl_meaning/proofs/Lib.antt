@@ -1,3 +1,4 @@
+pub mod Names
 pub mod Deeds
 pub mod Readings
 pub mod Sequences

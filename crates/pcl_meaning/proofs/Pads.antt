@@ -1,10 +1,6 @@
 -- Rows with no dot past their width.
 use Rattle.std.proofs.Common.{◌≡◌, ℕ, zero, suc, ◌+◌, ◌-◌, ◌*◌, ◌/◌, ◌%◌, ◌^◌, ◌<◌, ◌≤◌, ◌==◌, false, List, [], ◌∷◌, refl, sym, ap, ◌∙◌, arith}
-use Rattle.std.specs.Prelude.{slice_index}
-use Rattle.std.proofs.lemmas.Bool.Decides.{nat_tests}
-use Rattle.std.proofs.Math.Nat.{pow-suc, div-div-eq-div-mul, mul_comm, mul_assoc}
-use Rattle.pcl_bitmap.specs.Bitmap.{bit_of_byte, dot_of_row}
-use Rattle.pcl_page.specs.Raster.{first_bits, cleared_past}
+use Rattle.pcl_meaning.proofs.Names.{slice_index, nat_tests, pow-suc, div-div-eq-div-mul, mul_comm, mul_assoc, bit_of_byte, dot_of_row, first_bits, cleared_past}
 
 -- the bits of a byte from bit n on are clear
 abbrev AreClear : ℕ → ℕ → Type 0

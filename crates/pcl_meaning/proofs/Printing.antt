@@ -1,45 +1,12 @@
 -- Performing the deeds of a page text prints its page.
 use Rattle.std.proofs.Common.{◌≡◌, ℕ, zero, suc, ◌+◌, ◌-◌, ◌*◌, ◌/◌, ◌<◌, ◌≤◌, Bool, true, false, cond, ◌||◌, nat_le, List, [], ◌∷◌, ◌++◌, length, drop, replicate, Option, Some, None, refl, ◌∙◌, length-append, arith, Ok}
-use Rattle.std.specs.Prelude.{not, nat_lt}
-use Rattle.std.specs.List.{AllByRecursion}
-use Rattle.std.proofs.lemmas.List.{length-replicate, map-append}
-use Rattle.std.proofs.Math.Bool.{or-false}
-use Rattle.std.proofs.lemmas.Bool.Decides.{nat_tests}
-use Rattle.pcl_base.specs.declared.dpi.Dpi.{Dpi}
-use Rattle.pcl_base.specs.declared.dpi.Dpi.TheVariants.{Dpi300, Dpi600}
-use Rattle.pcl_base.specs.declared.method.Method.{Method}
-use Rattle.pcl_base.specs.declared.method.Method.TheVariants.{Plain}
-use Rattle.pcl_base.specs.declared.operation.Axis.TheVariants.{Horizontal, Vertical}
-use Rattle.pcl_base.specs.declared.operation.Unit.TheVariants.{PclUnit}
-use Rattle.pcl_base.specs.declared.operation.Operation.{Operation}
-use Rattle.pcl_base.specs.declared.operation.Operation.TheVariants.{FormFeed, PageSize, Copies, TopMargin, Move, RasterResolution, RasterWidth, StartRaster, EndRasterResetMethod, RasterMethod, RasterOffset, RasterRow}
-use Rattle.pcl_base.specs.declared.size.Size.{Size}
-use Rattle.pcl_base.specs.declared.size.Size.TheVariants.{Executive, Letter, Legal, A4}
-use Rattle.pcl_base.specs.declared.value.Value.{Value}
-use Rattle.pcl_base.specs.Dpi.{dots_per_inch}
-use Rattle.pcl_base.specs.Method.{method_code}
-use Rattle.pcl_base.specs.Size.{code_of, page_width, units_high}
-use Rattle.pcl_base.specs.Value.{zero_value}
-use Rattle.pcl_env.specs.declared.effect.Effect.{Effect}
+use Rattle.pcl_meaning.proofs.Names.{not, nat_lt, AllByRecursion, length-replicate, map-append, or-false, nat_tests, Dpi, Dpi300, Dpi600, Method, Plain, Horizontal, Vertical, PclUnit, Operation, FormFeed, PageSize, Copies, TopMargin, Move, RasterResolution, RasterWidth, StartRaster, EndRasterResetMethod, RasterMethod, RasterOffset, RasterRow, Size, Executive, Letter, Legal, A4, Value, dots_per_inch, method_code, code_of, page_width, units_high, zero_value, Effect, Settings, put, put_x, put_y, to_first_line, nothing_asked, with_size, before_feed, return_carriage, Temporary, FontEvent, control, MacroEvent, Asked, pages_fit, with_page, Mark, is_black, dot_at, Raster, ends_raster, scale_of, raster_from, bytes_of_width, row_sent, row_mark, IsRowData, decoded_is, Token, opening, method, skip, send, IsRowOf, IsPageText, nothing_for, dot_of_rows}
 use Rattle.pcl_env.specs.declared.effect.Effect.TheVariants as page
-use Rattle.pcl_env.specs.Settings.{Settings, put, put_x, put_y, to_first_line, nothing_asked, with_size}
-use Rattle.pcl_env.specs.Outcome.{before_feed, return_carriage, outcome}
-use Rattle.pcl_fonts.specs.declared.fonts.FontControl.TheVariants.{Temporary}
-use Rattle.pcl_fonts.specs.History.{FontEvent, control}
+use Rattle.pcl_env.specs.Outcome.{outcome}
 use Rattle.pcl_macros.specs.declared.table.MacroControl.TheVariants as macros
-use Rattle.pcl_macros.specs.History.{MacroEvent, control as macro_control}
-use Rattle.pcl_env.specs.declared.asked.Asked.{Asked}
-use Rattle.pcl_page.proofs.Turns.{pages_fit}
-use Rattle.pcl_page.specs.Asks.{with_page}
-use Rattle.pcl_page.specs.Marks.{Mark, is_black, dot_at}
-use Rattle.pcl_page.specs.Raster.{Raster, ends_raster, scale_of, raster_from, bytes_of_width, row_sent, row_mark}
+use Rattle.pcl_macros.specs.History.{control as macro_control}
 use Rattle.pcl_page.specs.Situation.{Sheet, Situation, ◌|>◌, below, ejects, end_raster, drawn_on, after}
-use Rattle.pcl_rows.specs.Rows.{IsRowData}
-use Rattle.pcl_rows.proofs.Decoded.{decoded_is}
-use Rattle.pcl_output.specs.Tokens.{Token, opening, method, skip, send, PrintsRows}
-use Rattle.pcl_output.specs.PageText.{IsRowOf, IsPageText}
-use Rattle.pcl_meaning.specs.JobTexts.{nothing_for}
-use Rattle.pcl_meaning.specs.PageTexts.{dot_of_rows}
+use Rattle.pcl_output.specs.Tokens.{PrintsRows}
 use Rattle.pcl_meaning.proofs.Deeds.{Deed, deed}
 use Rattle.pcl_meaning.proofs.Readings.{number_value, whole_is}
 use Rattle.pcl_meaning.proofs.Sequences.{body_deeds, start_deeds, end_deeds}

@@ -1,24 +1,8 @@
 -- Bytes that are read as deeds, wherever in a job they stand.
 use Rattle.std.proofs.Common.{◌≡◌, ℕ, zero, suc, ◌+◌, ◌*◌, ◌≤◌, true, false, List, [], ◌∷◌, ◌++◌, length, Some, None, Ok, refl, sym, ap, ◌∙◌, append_assoc, append-nil, arith}
-use Rattle.std.specs.List.{flat_map, AllByRecursion}
-use Rattle.std.proofs.lemmas.List.Concat.{flat_map-append}
-use Rattle.std.proofs.lemmas.Bool.Decides.{nat_tests}
-use Rattle.pcl_base.specs.declared.name.Name.TheVariants.{Three}
-use Rattle.pcl_base.specs.declared.operation.Operation.{Operation}
-use Rattle.pcl_base.specs.declared.operation.Operation.TheVariants.{RasterRow}
-use Rattle.pcl_base.specs.declared.value.Sign.TheVariants.{Absent}
-use Rattle.pcl_base.specs.declared.value.Value.{Value}
-use Rattle.pcl_base.specs.Operation.{operation_of, takes_data}
-use Rattle.pcl_base.specs.Value.{whole_of}
-use Rattle.pcl_escape.specs.declared.step.Prefix.{Prefix}
-use Rattle.pcl_escape.specs.Letter.{may_go_on, is_last, parameter_name, prefix_bytes}
-use Rattle.pcl_escape.specs.Field.{Spelled, field_value, in_range}
-use Rattle.pcl_base.specs.Digits.{number_of}
-use Rattle.pcl_escape.specs.Checks.{parameter_checks, data_checks, is_exit}
-use Rattle.pcl_escape.specs.Said.{Said}
-use Rattle.pcl_escape.specs.Pieces.{Piece, combined, Parameter, parameter_bytes, spelling, IsPrefix, IsMiddle, IsEnd, IsPiece, ArePieces, parameter_commands, first_place, commands_from, commands_of}
-use Rattle.pcl_escape.proofs.Runs.{place_further}
-use Rattle.pcl_output.specs.Tokens.{IsSpelled}
+use Rattle.pcl_meaning.proofs.Names.{flat_map, AllByRecursion, flat_map-append, nat_tests, Three, Operation, RasterRow, Absent, Value, takes_data, whole_of, Prefix, may_go_on, is_last, parameter_name, prefix_bytes, Spelled, field_value, in_range, number_of, data_checks, is_exit, Said, Piece, combined, Parameter, parameter_bytes, spelling, IsPrefix, IsMiddle, IsEnd, IsPiece, ArePieces, parameter_commands, first_place, commands_from, commands_of, place_further, IsSpelled}
+use Rattle.pcl_base.specs.Operation.{operation_of}
+use Rattle.pcl_escape.specs.Checks.{parameter_checks}
 use Rattle.pcl_meaning.proofs.Deeds.{Deed, deed}
 
 -- ---- commands and deeds

@@ -1,17 +1,6 @@
 -- Pages that show one sheet are the same in all that a text prints.
 use Rattle.std.proofs.Common.{◌≡◌, ℕ, ◌<◌, ◌≤◌, List, [], ◌∷◌, ◌++◌, length, sym, ap, ◌∙◌, arith}
-use Rattle.std.proofs.lemmas.List.{length-append}
-use Rattle.pcl_base.specs.declared.dpi.Dpi.{Dpi}
-use Rattle.pcl_base.specs.declared.size.Size.{Size}
-use Rattle.pcl_base.specs.Size.{page_width, page_height}
-use Rattle.pcl_bitmap.specs.Bitmap.{Picture}
-use Rattle.pcl_bitmap.proofs.Pictures.{same_dots}
-use Rattle.pcl_bitmap.specs.declared.page.Page.{Page}
-use Rattle.pcl_page.specs.Situation.{Sheet}
-use Rattle.pcl_page.specs.Performing.{Shows}
-use Rattle.pcl_output.specs.Tokens.{frame_bytes}
-use Rattle.pcl_output.specs.PageText.{IsPageText, PrintsPage, bitmap_rows}
-use Rattle.pcl_meaning.specs.JobTexts.{PrintEach, PrintsShortest, IsLeastJobText}
+use Rattle.pcl_meaning.proofs.Names.{length-append, Dpi, Size, page_width, page_height, Picture, same_dots, Page, Sheet, Shows, frame_bytes, IsPageText, PrintsPage, bitmap_rows, PrintEach, PrintsShortest, IsLeastJobText}
 
 -- two pages with the same contents, whatever the proofs that they keep
 pub record AreSame (page other : Page) : Type 0 where

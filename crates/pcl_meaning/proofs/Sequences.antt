@@ -1,28 +1,10 @@
 -- Page texts are read as deeds.
-use Rattle.pcl_escape.specs.Letter.{may_go_on}
+use Rattle.pcl_meaning.proofs.Names.{may_go_on, decimal, flat_map, AllByRecursion, length-drop, flat_map-append, Dpi, Method, Horizontal, Vertical, PclUnit, Operation, Reset, FormFeed, PageSize, Copies, TopMargin, Move, RasterResolution, RasterWidth, StartRaster, EndRasterResetMethod, RasterMethod, RasterOffset, RasterRow, Size, dots_per_inch, method_code, code_of, page_width, zero_value, width_small, Prefix, Parameter, parameter_bytes, two_character, IsPrefix, IsMiddle, IsEnd, Token, opening, method, skip, send, token_bytes, IsSpelled, start_bytes, end_bytes, frame_bytes, decimal_spelled}
 use Rattle.std.proofs.Common.{◌≡◌, ℕ, ◌≤◌, true, false, List, [], ◌∷◌, ◌++◌, length, drop, Some, refl, append_assoc, append-nil, arith, lit≤, Bool}
-use Rattle.std.specs.Prelude.{decimal}
-use Rattle.std.specs.List.{flat_map, AllByRecursion}
-use Rattle.std.proofs.lemmas.List.{length-drop}
-use Rattle.std.proofs.lemmas.List.Concat.{flat_map-append}
-use Rattle.pcl_base.specs.declared.dpi.Dpi.{Dpi}
-use Rattle.pcl_base.specs.declared.method.Method.{Method}
-use Rattle.pcl_base.specs.declared.operation.Axis.TheVariants.{Horizontal, Vertical}
-use Rattle.pcl_base.specs.declared.operation.Unit.TheVariants.{PclUnit}
-use Rattle.pcl_base.specs.declared.operation.Operation.{Operation}
-use Rattle.pcl_base.specs.declared.operation.Operation.TheVariants.{Reset, FormFeed, PageSize, Copies, TopMargin, Move, RasterResolution, RasterWidth, StartRaster, EndRasterResetMethod, RasterMethod, RasterOffset, RasterRow}
-use Rattle.pcl_base.specs.declared.size.Size.{Size}
-use Rattle.pcl_base.specs.Dpi.{dots_per_inch}
-use Rattle.pcl_base.specs.Method.{method_code}
 use Rattle.pcl_base.specs.Operation.{operation_of}
-use Rattle.pcl_base.specs.Size.{code_of, page_width}
-use Rattle.pcl_base.specs.Value.{zero_value}
-use Rattle.pcl_base.proofs.PageBounds.{width_small}
-use Rattle.pcl_escape.specs.declared.step.Prefix.{Prefix}
-use Rattle.pcl_escape.specs.Pieces.{Parameter, parameter_bytes, control, two_character, IsPrefix, IsMiddle, IsEnd}
-use Rattle.pcl_output.specs.Tokens.{Token, opening, method, skip, send, token_bytes, IsSpelled, PrintsRows, start_bytes, end_bytes, frame_bytes}
+use Rattle.pcl_escape.specs.Pieces.{control}
+use Rattle.pcl_output.specs.Tokens.{PrintsRows}
 use Rattle.pcl_meaning.proofs.Deeds.{Deed, deed}
-use Rattle.pcl_output.proofs.Numbers.{decimal_spelled}
 use Rattle.pcl_meaning.proofs.Readings.{ReadsAs, reads_joined, reads_none, reads_piece, reads_sequence, AreMeant, meant_more, middle_more, number_parameter, number_value, IsSetting, setting_middle, setting_end, setting_meant, row_prefix, row_end, row_meant, IsMeant}
 
 -- ---- the deeds of a text

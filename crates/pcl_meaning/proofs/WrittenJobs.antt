@@ -1,11 +1,6 @@
 -- A job written again: page texts of its pages between two resets.
 use Rattle.std.proofs.Common.{◌≡◌, ℕ, List, ◌++◌, sym, subst, append_assoc}
-use Rattle.pcl_base.specs.declared.dpi.Dpi.{Dpi}
-use Rattle.pcl_page.specs.Situation.{Sheet}
-use Rattle.pcl_page.specs.Jobs.{HasPages, HasAsks}
-use Rattle.pcl_output.specs.Tokens.{frame_bytes}
-use Rattle.pcl_writer.specs.Appending.{IsWrittenPage}
-use Rattle.pcl_meaning.specs.JobTexts.{PrintEach, IsJobOf, nothing_for}
+use Rattle.pcl_meaning.proofs.Names.{Dpi, Sheet, HasPages, HasAsks, frame_bytes, IsWrittenPage, PrintEach, IsJobOf, nothing_for}
 use Rattle.pcl_meaning.proofs.Jobs.{IsAgain, written_again}
 
 -- a least raster job asks for nothing

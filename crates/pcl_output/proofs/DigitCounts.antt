@@ -1,13 +1,7 @@
 -- How many digits a number needs.
 use Rattle.std.proofs.Common.{◌≡◌, ℕ, zero, suc, ◌+◌, ◌-◌, ◌*◌, ◌^◌, ◌<◌, ◌≤◌, List, [], ◌∷◌, length, fold, refl, arith, add-one}
-use Rattle.std.specs.Prelude.{decimal}
-use Rattle.std.proofs.lemmas.Bool.Decides.{nat_tests}
-use Rattle.std.proofs.lemmas.Fmt.{decimal_by_steps, length-decimal-le}
-use Rattle.std.proofs.lemmas.List.{length-append}
-use Rattle.std.proofs.Math.Nat.{mul-le-mul_right, pow-succ', pow-le-pow_right}
-use Rattle.pcl_base.specs.Digits.{AreDigits}
-use Rattle.pcl_output.specs.Tokens.{IsSpelled}
-use Rattle.pcl_output.specs.Spelling.{least_spelling, digit_count}
+use Rattle.pcl_output.proofs.Names.{decimal, nat_tests, decimal_by_steps, length-decimal-le, length-append, mul-le-mul_right, pow-succ', pow-le-pow_right, AreDigits, IsSpelled, least_spelling}
+use Rattle.pcl_output.specs.Spelling.{digit_count}
 use Rattle.pcl_output.proofs.Numbers.{decimal_spelled}
 
 -- digits spell a number below the power of ten of their count

@@ -1,12 +1,7 @@
 -- Bodies worked out by hand from docs/OUTPUT.md. The rows are one byte wide.
 use Rattle.std.proofs.Common.{◌≡◌, ℕ, true, false, List, [], ◌∷◌, ◌++◌, refl, lit≤, arith}
-use Rattle.std.specs.Prelude.{codes}
-use Rattle.std.specs.List.{flat_map}
-use Rattle.pcl_base.specs.declared.method.Method.TheVariants.{Plain, Delta}
-use Rattle.pcl_rows.specs.Heads.{Itself, Near}
-use Rattle.pcl_rows.specs.Elements.{IsElement}
-use Rattle.pcl_rows.specs.Rows.{IsRowData}
-use Rattle.pcl_output.specs.Tokens.{Token, opening, method, skip, send, token_bytes, IsSpelled, PrintsRows}
+use Rattle.pcl_output.proofs.Names.{codes, flat_map, Plain, Delta, Itself, Near, IsElement, IsRowData, Token, opening, method, skip, send, token_bytes, IsSpelled}
+use Rattle.pcl_output.specs.Tokens.{PrintsRows}
 
 -- ---- numbers
 

@@ -1,10 +1,6 @@
 -- A number in decimal is spelled as the grammar wants it.
 use Rattle.std.proofs.Common.{◌≡◌, ℕ, ◌+◌, ◌-◌, ◌*◌, ◌%◌, ◌^◌, ◌<◌, true, List, [], ◌∷◌, ◌++◌, fold, refl, arith}
-use Rattle.std.specs.Prelude.{decimal}
-use Rattle.std.proofs.lemmas.Fmt.{decimal_by_steps}
-use Rattle.std.proofs.lemmas.Bool.Decides.{nat_tests}
-use Rattle.pcl_base.specs.Digits.{is_digit, AreDigits}
-use Rattle.pcl_output.specs.Tokens.{IsSpelled}
+use Rattle.pcl_output.proofs.Names.{decimal, decimal_by_steps, nat_tests, is_digit, AreDigits, IsSpelled}
 
 digit_is : (n : ℕ) → n < 10 → is_digit (48 + n) ≡ true
 digit_is n lt = grind (arith, nat_tests)

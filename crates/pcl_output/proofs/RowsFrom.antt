@@ -1,12 +1,7 @@
 -- Rows cut from the bytes of a bitmap.
 use Rattle.std.proofs.Common.{◌≡◌, ℕ, length-take-le, zero, suc, ◌+◌, ◌-◌, ◌*◌, ◌<◌, ◌≤◌, List, [], ◌∷◌, length, take, drop, refl, ap, arith}
-use Rattle.std.proofs.Math.ListN.{drop_of_length-le}
-use Rattle.std.proofs.lemmas.List.{drop-drop, length-drop}
-use Rattle.std.specs.List.{AllByRecursion}
-use Rattle.pcl_base.specs.Size.{page_height, page_row_bytes}
-use Rattle.pcl_bitmap.specs.Bitmap.{Picture, IsPicture}
-use Rattle.pcl_output.specs.PageText.{IsRowOf, bitmap_rows, rows_from}
-use Rattle.pcl_output.specs.Nodes.{row_at}
+use Rattle.pcl_output.proofs.Names.{drop_of_length-le, drop-drop, length-drop, AllByRecursion, page_height, page_row_bytes, Picture, IsPicture, IsRowOf, bitmap_rows, row_at}
+use Rattle.pcl_output.specs.PageText.{rows_from}
 use Rattle.pcl_output.proofs.Walking.{row_at_first}
 
 pub drop_rows : (k n width : ℕ) (bytes : List ℕ) → drop k (rows_from n width bytes) ≡ rows_from (n - k) width (drop (k * width) bytes)

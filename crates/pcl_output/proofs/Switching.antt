@@ -1,12 +1,6 @@
 -- The numbers of a row, with a switch of the method or without.
 use Rattle.std.proofs.Common.{◌≡◌, ℕ, ◌+◌, ◌≤◌, min, inl, inr, arith}
-use Rattle.std.proofs.lemmas.Bool.{cases_lt}
-use Rattle.pcl_base.specs.declared.method.Method.{Method}
-use Rattle.pcl_base.specs.declared.method.Method.TheVariants.{Plain, Runs, Packed, Delta}
-use Rattle.pcl_output.specs.declared.by_method.ByMethod.{ByMethod}
-use Rattle.pcl_output.specs.declared.table.RowNumbers.{RowNumbers}
-use Rattle.pcl_output.specs.Table.{by_method, IsSwitched}
-use Rattle.pcl_output.specs.Spelling.{switching}
+use Rattle.pcl_output.proofs.Names.{cases_lt, Method, Plain, Runs, Packed, Delta, ByMethod, RowNumbers, by_method, IsSwitched, switching}
 use Rattle.pcl_output.proofs.DigitCounts.{count_is, count_of_none}
 
 -- what the letter and the number of a method cost

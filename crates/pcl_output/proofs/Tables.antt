@@ -1,9 +1,6 @@
 -- Numbers of tables.
 use Rattle.std.proofs.Common.{◌≡◌, ◌≤◌, List, length, arith}
-use Rattle.std.proofs.lemmas.List.{get_or_past}
-use Rattle.pcl_output.specs.declared.node.Node.{Node}
-use Rattle.pcl_output.specs.Table.{no_numbers, node_number}
-use Rattle.pcl_output.specs.declared.table.RowNumbers.{RowNumbers}
+use Rattle.pcl_output.proofs.Names.{get_or_past, Node, no_numbers, node_number, RowNumbers}
 
 -- after more rows than a table has, its numbers are 0
 pub number_past : (table : List RowNumbers) (a : Node) → length table ≤ a.row → node_number table a ≡ 0

@@ -1,18 +1,6 @@
 -- Lengths of page texts and costs of walks.
 use Rattle.std.proofs.Common.{◌≡◌, ℕ, ◌+◌, ◌<◌, ◌≤◌, false, List, [], ◌∷◌, ◌++◌, length, replicate, refl, ap, ◌∙◌, arith}
-use Rattle.std.specs.List.{flat_map, AllByRecursion}
-use Rattle.std.proofs.lemmas.List.{length-append}
-use Rattle.pcl_base.specs.declared.dpi.Dpi.{Dpi}
-use Rattle.pcl_base.specs.declared.size.Size.{Size}
-use Rattle.pcl_base.specs.declared.method.Method.TheVariants.{Plain}
-use Rattle.pcl_base.specs.Size.{page_height, page_row_bytes}
-use Rattle.pcl_base.specs.Walks.{Walk, total, IsFeasible, IsLeastCost}
-use Rattle.pcl_base.proofs.Walks.{feasible_bounds}
-use Rattle.pcl_output.specs.Tokens.{Token, token_bytes, start_bytes, end_bytes, PrintsRows}
-use Rattle.pcl_output.specs.PageText.{IsRowOf, IsPageText}
-use Rattle.pcl_output.specs.declared.node.Node.{Node}
-use Rattle.pcl_output.specs.Nodes.{start, Leads, Ends, cost, AreOfWidth}
-use Rattle.pcl_output.specs.LeastTexts.{fixed_bytes, IsLeastText}
+use Rattle.pcl_output.proofs.Names.{flat_map, AllByRecursion, length-append, Dpi, Size, Plain, page_height, page_row_bytes, Walk, total, IsFeasible, IsLeastCost, feasible_bounds, Token, token_bytes, start_bytes, end_bytes, PrintsRows, IsRowOf, IsPageText, Node, start, Leads, Ends, cost, AreOfWidth, fixed_bytes, IsLeastText}
 use Rattle.pcl_output.proofs.Walking.{walk_of_tokens, tokens_of_walk}
 
 pub total_is : (tokens : List Token) → total cost tokens ≡ length (flat_map token_bytes tokens)

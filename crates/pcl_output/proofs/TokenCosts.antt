@@ -1,15 +1,7 @@
 -- What tokens cost, and the lesser of two numbers.
 use Rattle.std.proofs.Common.{◌≡◌, ℕ, ◌+◌, ◌<◌, ◌≤◌, Bool, true, false, List, ◌∷◌, length, refl, inl, inr, arith}
-use Rattle.std.specs.Prelude.{not}
-use Rattle.std.proofs.lemmas.Bool.{cases_lt}
-use Rattle.std.proofs.lemmas.List.{length-append}
-use Rattle.pcl_base.specs.declared.method.Method.{Method}
-use Rattle.pcl_base.specs.Method.{method_code}
-use Rattle.pcl_output.specs.declared.node.Node.{Node}
-use Rattle.pcl_output.specs.Tokens.{Token, opening, method, skip, send, letter, IsSpelled}
-use Rattle.pcl_output.specs.Nodes.{cost}
-use Rattle.pcl_output.specs.Spelling.{least_spelling, digit_count, row_cost}
-use Rattle.pcl_output.specs.Table.{outside, inside, rest}
+use Rattle.pcl_output.proofs.Names.{not, cases_lt, length-append, Method, method_code, Node, Token, opening, method, skip, send, letter, IsSpelled, cost, least_spelling, row_cost, outside, inside, rest}
+use Rattle.pcl_output.specs.Spelling.{digit_count}
 use Rattle.pcl_output.proofs.DigitCounts.{count_le, least_spelled}
 use Rattle.pcl_output.proofs.Walking.{node}
 

@@ -1,13 +1,7 @@
 -- Tokens that print rows are a walk, and a walk's tokens print them.
 use Rattle.std.proofs.Common.{◌≡◌, ℕ, zero, suc, ◌+◌, ◌-◌, ◌<◌, ◌≤◌, Bool, true, false, List, [], ◌∷◌, length, take, drop, replicate, refl, sym, ap, subst, ◌∙◌, arith, add-one}
-use Rattle.std.specs.Prelude.{not}
-use Rattle.std.proofs.lemmas.List.{drop-drop, drop_more, length-drop, length-replicate, get_or-drop}
-use Rattle.pcl_base.specs.declared.method.Method.{Method}
-use Rattle.pcl_rows.specs.Rows.{IsRowData}
-use Rattle.pcl_base.specs.Walks.{Walk}
-use Rattle.pcl_output.specs.Tokens.{Token, opening, method, skip, send, IsWhite, AreWhite, PrintsRows}
-use Rattle.pcl_output.specs.declared.node.Node.{Node}
-use Rattle.pcl_output.specs.Nodes.{row_at, row_above, Leads, Ends, AreOfWidth}
+use Rattle.pcl_output.proofs.Names.{not, drop-drop, drop_more, length-drop, length-replicate, get_or-drop, Method, IsRowData, Walk, Token, opening, method, skip, send, IsWhite, AreWhite, Node, row_at, row_above, Leads, Ends, AreOfWidth}
+use Rattle.pcl_output.specs.Tokens.{PrintsRows}
 
 -- ---- rows
 

@@ -1,9 +1,6 @@
 -- Runs of white rows.
 use Rattle.std.proofs.Common.{◌≡◌, ℕ, zero, suc, ◌+◌, ◌<◌, ◌≤◌, List, [], ◌∷◌, length, take, drop, sym, subst, arith, add-one}
-use Rattle.std.proofs.lemmas.List.{drop_more, length-drop, get_or-drop, take_all}
-use Rattle.pcl_output.specs.Tokens.{IsWhite, AreWhite}
-use Rattle.pcl_output.specs.Nodes.{row_at}
-use Rattle.pcl_output.specs.inner.WhiteRows.{AreSkippable, IsWhiteRun}
+use Rattle.pcl_output.proofs.Names.{drop_more, length-drop, get_or-drop, take_all, IsWhite, AreWhite, row_at, AreSkippable, IsWhiteRun}
 use Rattle.pcl_output.proofs.Walking.{white_at}
 
 pub white_front : (run count : ℕ) (rows : List (List ℕ)) → AreWhite (take run rows) → count ≤ run → AreWhite (take count rows)

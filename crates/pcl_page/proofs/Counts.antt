@@ -1,10 +1,6 @@
 -- How many pages a sink counted.
 use Rattle.std.proofs.Common.{◌≡◌, ◌+◌, List, [], ◌∷◌, length, ap, arith}
-use Rattle.pcl_base.specs.declared.dpi.Dpi.{Dpi}
-use Rattle.pcl_bitmap.specs.declared.page.Page.{Page}
-use Rattle.pcl_page.specs.Situation.{Sheet}
-use Rattle.pcl_page.specs.Delivering.{Hands}
-use Rattle.pcl_page.specs.declared.accepting.Counted.{Counted}
+use Rattle.pcl_page.proofs.Names.{Dpi, Page, Sheet, Hands, Counted}
 
 abbrev pub counts_one : Counted → Page → Counted → Type 0
 counts_one old page new = new.pages ≡ old.pages + 1

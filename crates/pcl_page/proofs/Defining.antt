@@ -1,23 +1,6 @@
 -- The command that ends a definition counts, and runs no macro.
 use Rattle.std.proofs.Common.{◌≡◌, ℕ, Bool, true, cond, [], Option, Some, None, Result, Ok, refl, sym, ap, ◌∙◌, append-nil, arith}
-use Rattle.std.specs.Prelude.{is_some}
-use Rattle.pcl_base.specs.declared.dpi.Dpi.{Dpi}
-use Rattle.pcl_base.specs.declared.fault.CallFault.{CallFault}
-use Rattle.pcl_base.specs.declared.operation.Operation.{Operation}
-use Rattle.pcl_base.specs.declared.operation.Operation.TheVariants.{ControlMacros}
-use Rattle.pcl_base.specs.declared.value.Value.{Value}
-use Rattle.pcl_base.specs.Operation.{operation_of}
-use Rattle.pcl_escape.specs.Said.{Said}
-use Rattle.pcl_macros.specs.Table.{is_begun}
-use Rattle.pcl_bitmap.specs.declared.page.Page.{Page}
-use Rattle.pcl_page.specs.declared.interpreter.Interpreter.{Interpreter}
-use Rattle.pcl_page.specs.declared.macros.Action.{Action}
-use Rattle.pcl_page.specs.declared.macros.Action.TheVariants.{End}
-use Rattle.pcl_page.specs.declared.macros.Keeping.{Keeping}
-use Rattle.pcl_page.specs.declared.macros.Keeping.TheVariants.{Kept, Ends}
-use Rattle.pcl_page.specs.Situation.{Situation}
-use Rattle.pcl_page.specs.Macros.{Run, action_of, control_keeping, keeping_of, counting, defining, after_command, run_by, run_from, run_of}
-use Rattle.pcl_page.specs.inner.Unfolding.{IsAt, IsStepped}
+use Rattle.pcl_page.proofs.Names.{is_some, Dpi, CallFault, Operation, ControlMacros, Value, operation_of, Said, is_begun, Page, Interpreter, Action, End, Keeping, Kept, Ends, Situation, Run, action_of, control_keeping, keeping_of, counting, defining, after_command, run_by, run_from, run_of, IsAt, IsStepped}
 
 command_inside : (dpi : Dpi) (place : ℕ) (command : Said) (s : Situation) {keeping : Keeping} → is_some s.begun ≡ true
     → keeping_of (operation_of command.name) command.value ≡ keeping

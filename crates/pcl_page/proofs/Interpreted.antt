@@ -1,35 +1,10 @@
 -- The interpreter follows the situation, command by command.
 use Rattle.std.proofs.Common.{◌≡◌, ℕ, ◌+◌, Bool, true, false, cond, List, ◌∷◌, Option, Some, None, Result, Ok, Err, refl, sym, ◌∙◌, append-nil, inl, inr, rules}
-use Rattle.std.specs.Prelude.{is_some}
-use Rattle.std.specs.Option.{option_map}
-use Rattle.pcl_base.specs.declared.dpi.Dpi.{Dpi}
-use Rattle.pcl_base.specs.declared.fault.CallFault.{CallFault}
-use Rattle.pcl_base.specs.declared.fault.CallFault.TheVariants.{Refused, Memory}
-use Rattle.pcl_base.specs.declared.fault.JobFault.{JobFault}
+use Rattle.pcl_page.proofs.Names.{is_some, option_map, Dpi, CallFault, Refused, Memory, JobFault, Kind, Operation, ControlMacros, Value, operation_of, Effect, Stay, Settings, kept, Outcome, Said, MacroControl, Temporary, MacroEvent, control, Begun, Controls, macro_at, is_begun, Page, Performer, Interpreter, Begin, Execute, Call, Control, Run, acted, managed, counting, run_by, run_from, run_with, macro_now, IsIn, HandsMore, IsTried, EndDone, IsAt, Enters, IsStepped, IsActed, IsEntered, InterpreterEnds}
 use Rattle.pcl_base.specs.declared.fault.JobFault.TheVariants as job
-use Rattle.pcl_base.specs.declared.kind.Kind.{Kind}
-use Rattle.pcl_base.specs.declared.operation.Operation.{Operation}
-use Rattle.pcl_base.specs.declared.operation.Operation.TheVariants.{ControlMacros}
-use Rattle.pcl_base.specs.declared.value.Value.{Value}
-use Rattle.pcl_base.specs.Operation.{operation_of}
-use Rattle.pcl_env.specs.declared.effect.Effect.{Effect}
-use Rattle.pcl_env.specs.declared.effect.Effect.TheVariants.{Stay}
-use Rattle.pcl_env.specs.Settings.{Settings, kept}
-use Rattle.pcl_env.specs.Outcome.{Outcome, outcome}
-use Rattle.pcl_escape.specs.Said.{Said}
-use Rattle.pcl_macros.specs.declared.table.MacroControl.{MacroControl}
-use Rattle.pcl_macros.specs.declared.table.MacroControl.TheVariants.{Temporary}
-use Rattle.pcl_macros.specs.History.{MacroEvent, control}
-use Rattle.pcl_macros.specs.Table.{Begun, Controls, macro_at, is_begun}
+use Rattle.pcl_env.specs.Outcome.{outcome}
 use Rattle.pcl_macros.proofs.Histories.{holds_after}
-use Rattle.pcl_bitmap.specs.declared.page.Page.{Page}
-use Rattle.pcl_page.specs.declared.performer.Performer.{Performer}
-use Rattle.pcl_page.specs.declared.interpreter.Interpreter.{Interpreter}
-use Rattle.pcl_page.specs.declared.macros.Action.TheVariants.{Begin, Execute, Call, Control}
 use Rattle.pcl_page.specs.Situation.{Situation, ◌|>◌, is_marked, turned, turned_by, drawn_on, taken, counted, prepared, is_ignored, after, after_named, tried}
-use Rattle.pcl_page.specs.Macros.{Run, acted, managed, counting, run_by, run_from, run_with, macro_now}
-use Rattle.pcl_page.specs.inner.Reflecting.{IsIn, HandsMore, IsTried, EndDone}
-use Rattle.pcl_page.specs.inner.Unfolding.{IsAt, Enters, IsStepped, IsActed, IsEntered, InterpreterEnds}
 use Rattle.pcl_page.proofs.Keeping.{then_from, is_counted}
 use Rattle.pcl_page.proofs.Steps.{only_stays, stays_pages, no_more}
 use Rattle.pcl_page.proofs.Unfolded.{managed_acts}

@@ -1,22 +1,7 @@
 -- Performing a job, place by place, up to the whole.
 use Rattle.std.proofs.Common.{◌≡◌, ℕ, ◌+◌, List, [], ◌∷◌, ◌++◌, Option, Some, None, Result, Ok, Err, refl, sym, ap, ◌∙◌, append_assoc, append-nil, rules}
-use Rattle.pcl_base.specs.declared.dpi.Dpi.{Dpi}
-use Rattle.pcl_base.specs.declared.fault.JobFault.{JobFault}
+use Rattle.pcl_page.proofs.Names.{Dpi, JobFault, Kind, macro_limit, refusal, Said, Page, Performer, Interpreter, Running, Sheet, Situation, at_end, HasPages, performance_of, AllShow, IsPerformed, Hands, HandsOver, Shows, Performance, done, then_on, step, runs, after_all, end_refusal, ended, after_end, pages_of, IsSamePage, IsAt, resumed, begun_among, GoesOn, InterpreterEnds, IsAsking}
 use Rattle.pcl_base.specs.declared.fault.JobFault.TheVariants.{Refused, Memory}
-use Rattle.pcl_base.specs.declared.kind.Kind.{Kind}
-use Rattle.pcl_base.specs.Limits.{macro_limit}
-use Rattle.pcl_base.specs.Refusal.{refusal}
-use Rattle.pcl_escape.specs.Said.{Said}
-use Rattle.pcl_bitmap.specs.declared.page.Page.{Page}
-use Rattle.pcl_page.specs.declared.performer.Performer.{Performer}
-use Rattle.pcl_page.specs.declared.interpreter.Interpreter.{Interpreter}
-use Rattle.pcl_page.specs.declared.interpreter.Running.{Running}
-use Rattle.pcl_page.specs.Situation.{Sheet, Situation, at_end}
-use Rattle.pcl_page.specs.Jobs.{HasPages, performance_of}
-use Rattle.pcl_page.specs.Delivering.{AllShow, IsPerformed, Hands, HandsOver}
-use Rattle.pcl_page.specs.Performing.{Shows, Performance, done, then_on, step, runs, after_all, end_refusal, ended, after_end, pages_of}
-use Rattle.pcl_bitmap.specs.Page.{IsSamePage}
-use Rattle.pcl_page.specs.inner.Unfolding.{IsAt, resumed, begun_among, GoesOn, InterpreterEnds, IsAsking}
 use Rattle.pcl_page.proofs.Keeping.{end_adds}
 use Rattle.pcl_page.proofs.Sinks.{stays_there, hands_append, hands_further, goes_from, goes_to}
 use Rattle.pcl_page.proofs.Unfolded.{Grows, then_done, then_assoc, then_grows, all_grow}

@@ -1,21 +1,6 @@
 -- What a command leaves alone.
 use Rattle.std.proofs.Common.{◌≡◌, ℕ, ◌<◌, Bool, true, false, cond, nat_le, List, [], ◌∷◌, ◌++◌, Option, Some, None, Result, Ok, Err, refl, sym, append-nil, arith, rules}
-use Rattle.std.proofs.lemmas.Bool.Decides.{nat_tests}
-use Rattle.pcl_base.specs.declared.dpi.Dpi.{Dpi}
-use Rattle.pcl_base.specs.declared.kind.Kind.{Kind}
-use Rattle.pcl_base.specs.declared.kind.Kind.TheVariants.{TooManyCommands}
-use Rattle.pcl_base.specs.declared.operation.Operation.{Operation}
-use Rattle.pcl_base.specs.declared.operation.Operation.TheVariants.{PrintText}
-use Rattle.pcl_base.specs.Limits.{command_limit}
-use Rattle.pcl_base.specs.Operation.{operation_of}
-use Rattle.pcl_fonts.specs.Fields.{Character}
-use Rattle.pcl_escape.specs.Said.{Said}
-use Rattle.pcl_env.specs.declared.effect.Effect.{Effect}
-use Rattle.pcl_env.specs.declared.effect.Effect.TheVariants.{EjectMarked}
-use Rattle.pcl_env.specs.Settings.{Settings, defaults, font_in_use}
-use Rattle.pcl_env.specs.Outcome.{Outcome, outcome}
-use Rattle.pcl_page.specs.Text.{is_proportional, prints}
-use Rattle.pcl_page.specs.Raster.{ends_raster}
+use Rattle.pcl_page.proofs.Names.{nat_tests, Dpi, Kind, TooManyCommands, Operation, PrintText, command_limit, operation_of, Character, Said, Effect, EjectMarked, Settings, defaults, font_in_use, Outcome, outcome, is_proportional, prints, ends_raster}
 use Rattle.pcl_page.specs.Situation.{Sheet, Situation, font_now, code_printed, codes_printed, draw_refusal, unless_refused, ◌|>◌, end_raster, is_marked, ejects, sheet_of, turned, turned_by, drawn, drawn_on, taken, counted, counted_in_limit, prepared, is_ignored, after, after_named, page_refusal, within_page_limit, tried, at_end}
 use Rattle.pcl_page.proofs.Turns.{prepared_page}
 

@@ -1,3 +1,4 @@
+pub mod Names
 pub mod Pads
 pub mod Painted
 pub mod Sizes

@@ -1,9 +1,6 @@
 -- The bits of a row past its width.
 use Rattle.std.proofs.Common.{◌≡◌, ℕ, zero, suc, ◌+◌, ◌-◌, ◌*◌, ◌/◌, ◌%◌, ◌^◌, ◌<◌, ◌≤◌, List, [], ◌∷◌, length, get_or, refl, sym, ap, ◌∙◌, arith}
-use Rattle.std.proofs.Math.ListN.{set}
-use Rattle.std.proofs.Math.Pow.{pow_mono}
-use Rattle.std.proofs.lemmas.Nat.{pow_pos}
-use Rattle.pcl_page.specs.Raster.{first_bits, cleared_past}
+use Rattle.pcl_page.proofs.Names.{set, pow_mono, pow_pos, first_bits, cleared_past}
 
 -- eight bits are a whole byte
 pub whole_byte : (width byte : ℕ) → 8 ≤ width → first_bits width byte ≡ byte

@@ -1,8 +1,6 @@
 -- What is inked: black over what was there, and a row that was decoded and painted.
 use Rattle.std.proofs.Common.{◌≡◌, ℕ, ◌+◌, ◌*◌, Bool, true, false, cond, ◌||◌, List, ◌++◌, length, take, drop, refl, arith}
-use Rattle.std.proofs.lemmas.List.{take_at}
-use Rattle.pcl_bitmap.specs.Dots.{raster_dot}
-use Rattle.pcl_page.specs.Raster.{Raster, row_mark, is_below_height}
+use Rattle.pcl_page.proofs.Names.{take_at, raster_dot, Raster, row_mark, is_below_height}
 
 -- black over another ink
 pub or_is : (covered before : Bool) → (covered || before) ≡ cond covered true before

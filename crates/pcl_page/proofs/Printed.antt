@@ -1,23 +1,7 @@
 -- What is drawn, text and fonts: the performer follows the situation.
 use Rattle.std.proofs.Common.{◌≡◌, ℕ, suc, ◌+◌, ◌-◌, Bool, true, false, cond, List, [], ◌∷◌, Option, Some, None, ℤ, pos, negsuc, refl, sym, subst, ◌∙◌, rules, arith}
 use Rattle.std.specs.Prelude.{◌==◌}
-use Rattle.pcl_base.specs.declared.dpi.Dpi.{Dpi}
-use Rattle.pcl_base.specs.declared.operation.Side.{Side}
-use Rattle.pcl_base.specs.declared.kind.Kind.TheVariants.{NoFont}
-use Rattle.pcl_bitmap.specs.declared.ink.Ink.TheVariants.{Black}
-use Rattle.pcl_escape.specs.Said.{Said}
-use Rattle.pcl_fonts.specs.Fields.{Font, Character}
-use Rattle.pcl_fonts.specs.declared.header.FontInfo.{FontInfo}
-use Rattle.pcl_fonts.specs.History.{FontEvent}
-use Rattle.pcl_fonts.specs.Table.{info_of}
-use Rattle.pcl_fonts.proofs.Histories.{holds_after}
-use Rattle.pcl_env.specs.Settings.{Settings, put_x, advance, font_of, font_in_use}
-use Rattle.pcl_page.specs.declared.performer.Performer.{Performer}
-use Rattle.pcl_page.specs.declared.text.Printed.{Printed}
-use Rattle.pcl_page.specs.Marks.{Mark}
-use Rattle.pcl_page.specs.Text.{prints, character_mark, are_spaces, is_proportional, text_refusal, behind_character, behind_blank}
-use Rattle.pcl_page.specs.Situation.{Situation, with_event, with_row_in, raster_for_row, code_printed, codes_printed}
-use Rattle.pcl_page.specs.inner.Reflecting.{character_at, IsIn, IsDrawn, IsInked, IsAtCursor, IsLastInked, IsSent, HasEvent, HasSettings}
+use Rattle.pcl_page.proofs.Names.{Dpi, Side, NoFont, Black, Said, Font, Character, FontInfo, FontEvent, info_of, holds_after, Settings, put_x, advance, font_of, font_in_use, Performer, Printed, Mark, prints, character_mark, are_spaces, is_proportional, text_refusal, behind_character, behind_blank, Situation, with_event, with_row_in, raster_for_row, code_printed, codes_printed, character_at, IsIn, IsDrawn, IsInked, IsAtCursor, IsLastInked, IsSent, HasEvent, HasSettings}
 use Rattle.pcl_page.proofs.Turns.{drawn_in}
 
 pub event_in : {dpi : Dpi} {event : FontEvent} {s : Situation} {old new : Performer} → IsIn dpi s old → HasEvent event old new

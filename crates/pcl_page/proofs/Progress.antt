@@ -1,25 +1,9 @@
 -- How far commands and macros bring a performance, and how much work they leave.
 use Rattle.std.proofs.Common.{◌≡◌, ℕ, zero, suc, ◌+◌, ◌-◌, ◌*◌, ◌<◌, ◌≤◌, List, [], ◌∷◌, ◌++◌, length, take, drop, Option, Some, None, Result, Ok, Err, refl, sym, ap, ◌∙◌, length-append, suc-mul, arith, inl, inr, rules, is_some}
 use Rattle.std.specs.Prelude.{◌⊎◌, slice_get}
-use Rattle.pcl_base.specs.declared.dpi.Dpi.{Dpi}
-use Rattle.pcl_base.specs.declared.fault.CallFault.{CallFault}
+use Rattle.pcl_page.proofs.Names.{Dpi, CallFault, JobFault, Kind, Refusal, macro_limit, refusal, Settings, Said, Page, Interpreter, Running, Situation, Run, after_command, run_of, macro_ended, Performance, stopped, then_on, step, commands_left, runs, HandsMore, IsAt, run_in, entered, Enters, rest_of, resumed, begun_among, left_in, work_left, GoesOn, IsStepped}
 use Rattle.pcl_base.specs.declared.fault.CallFault.TheVariants as call
-use Rattle.pcl_base.specs.declared.fault.JobFault.{JobFault}
 use Rattle.pcl_base.specs.declared.fault.JobFault.TheVariants as job
-use Rattle.pcl_base.specs.declared.kind.Kind.{Kind}
-use Rattle.pcl_base.specs.declared.refusal.Refusal.{Refusal}
-use Rattle.pcl_base.specs.Limits.{macro_limit}
-use Rattle.pcl_base.specs.Refusal.{refusal}
-use Rattle.pcl_env.specs.Settings.{Settings}
-use Rattle.pcl_escape.specs.Said.{Said}
-use Rattle.pcl_bitmap.specs.declared.page.Page.{Page}
-use Rattle.pcl_page.specs.declared.interpreter.Interpreter.{Interpreter}
-use Rattle.pcl_page.specs.declared.interpreter.Running.{Running}
-use Rattle.pcl_page.specs.Situation.{Situation}
-use Rattle.pcl_page.specs.Macros.{Run, after_command, run_of, macro_ended}
-use Rattle.pcl_page.specs.Performing.{Performance, stopped, then_on, step, commands_left, runs}
-use Rattle.pcl_page.specs.inner.Reflecting.{HandsMore}
-use Rattle.pcl_page.specs.inner.Unfolding.{IsAt, run_in, entered, Enters, rest_of, resumed, begun_among, left_in, work_left, GoesOn, IsStepped}
 use Rattle.pcl_page.proofs.Sinks.{no_pages, first_of_more, none_of_more, goes_from, goes_to}
 use Rattle.pcl_page.proofs.Unfolded.{then_assoc, then_same, pushed, begun_refused, begun_deep, begun_entered, command_by, begun_grow, begun_after}
 

@@ -1,16 +1,7 @@
 -- Pages that are handed over, one part after the other.
 use Rattle.std.proofs.Common.{◌≡◌, List, [], ◌∷◌, ◌++◌, Result, Ok, Err, sym, subst, ◌∙◌, append_assoc, append-nil}
-use Rattle.pcl_base.specs.declared.dpi.Dpi.{Dpi}
-use Rattle.pcl_base.specs.declared.fault.JobFault.{JobFault}
+use Rattle.pcl_page.proofs.Names.{Dpi, JobFault, Said, Page, Interpreter, Sheet, Situation, Performance, Hands, HandsMore, HandsFirst, GoesOn}
 use Rattle.pcl_base.specs.declared.fault.JobFault.TheVariants.{Refused, Memory}
-use Rattle.pcl_escape.specs.Said.{Said}
-use Rattle.pcl_bitmap.specs.declared.page.Page.{Page}
-use Rattle.pcl_page.specs.declared.interpreter.Interpreter.{Interpreter}
-use Rattle.pcl_page.specs.Situation.{Sheet, Situation}
-use Rattle.pcl_page.specs.Performing.{Performance}
-use Rattle.pcl_page.specs.Delivering.{Hands}
-use Rattle.pcl_page.specs.inner.Reflecting.{HandsMore}
-use Rattle.pcl_page.specs.inner.Unfolding.{HandsFirst, GoesOn}
 
 module _ {S : Type 0} (takes : S → Page → S → Type 0) (dpi : Dpi) where
   pub hands_append : (front back : List Sheet) (old middle new : S) → Hands takes dpi front old middle → Hands takes dpi back middle new

@@ -1,18 +1,8 @@
 -- A command that lets the page stay keeps its size.
-use Rattle.std.specs.Prelude.{length}
+use Rattle.pcl_page.proofs.Names.{length, Dpi, Method, PaperSource, Axis, Operation, Ask, Size, Value, Stay, Eject, EjectMarked, Position, Settings, Outcome, stays, move_along, popped, set_size, set_rectangle, set_method}
 use Rattle.std.proofs.Common.{◌≡◌, ℕ, Bool, true, false, cond, List, Option, Some, None, refl, subst, rules, arith}
-use Rattle.pcl_base.specs.declared.dpi.Dpi.{Dpi}
-use Rattle.pcl_base.specs.declared.method.Method.{Method}
-use Rattle.pcl_base.specs.declared.operation.Asking.TheVariants.{PaperSource}
-use Rattle.pcl_base.specs.declared.operation.Axis.{Axis}
 use Rattle.pcl_base.specs.declared.operation.Unit.{Unit as Measure}
-use Rattle.pcl_base.specs.declared.operation.Operation.{Operation}
-use Rattle.pcl_base.specs.declared.operation.Operation.TheVariants.{Ask}
-use Rattle.pcl_base.specs.declared.size.Size.{Size}
-use Rattle.pcl_base.specs.declared.value.Value.{Value}
-use Rattle.pcl_env.specs.declared.effect.Effect.TheVariants.{Stay, Eject, EjectMarked}
-use Rattle.pcl_env.specs.Settings.{Position, Settings}
-use Rattle.pcl_env.specs.Outcome.{Outcome, stays, move_along, popped, set_size, set_rectangle, set_method, outcome}
+use Rattle.pcl_env.specs.Outcome.{outcome}
 
 -- where the page stays, the size does
 abbrev Keeps : Settings → Outcome → Type 0

@@ -1,26 +1,6 @@
 -- The performer follows the situation: rasters that end, pages that are turned, and what is drawn.
 use Rattle.std.proofs.Common.{◌≡◌, ℕ, ◌<◌, ◌≤◌, Bool, true, false, cond, nat_le, List, [], ◌∷◌, length, Option, Some, None, Result, Ok, Err, refl, sym, ◌∙◌, append-nil, length-append, inl, inr, arith, rules, ◌++◌}
-use Rattle.std.proofs.lemmas.Bool.Decides.{nat_tests}
-use Rattle.pcl_base.specs.declared.dpi.Dpi.{Dpi}
-use Rattle.pcl_base.specs.declared.fault.CallFault.TheVariants.{Memory}
-use Rattle.pcl_base.specs.declared.kind.Kind.TheVariants.{TooManyPages}
-use Rattle.pcl_base.specs.declared.operation.Operation.{Operation}
-use Rattle.pcl_base.specs.declared.size.Size.{Size}
-use Rattle.pcl_base.specs.declared.value.Value.{Value}
-use Rattle.pcl_bitmap.specs.Bitmap.{Picture}
-use Rattle.pcl_env.specs.declared.effect.Effect.{Effect}
-use Rattle.pcl_env.specs.declared.effect.Effect.TheVariants.{Stay, Eject, EjectMarked}
-use Rattle.pcl_env.specs.declared.effect.Unsupported.{Unsupported}
-use Rattle.pcl_env.specs.Settings.{Settings, to_first_line}
-use Rattle.pcl_env.specs.Outcome.{Outcome, outcome, Answers}
-use Rattle.pcl_bitmap.specs.declared.page.Page.{Page}
-use Rattle.pcl_page.specs.declared.performer.Performer.{Performer}
-use Rattle.pcl_env.specs.declared.asked.Asked.{Asked}
-use Rattle.pcl_page.specs.Marks.{Mark, are_marked}
-use Rattle.pcl_page.specs.Raster.{Raster, ends_raster}
-use Rattle.pcl_page.specs.Situation.{Situation, settings_below, end_raster, is_marked, ejects, sheet_of, turned_page, prepared, page_refusal}
-use Rattle.pcl_page.specs.Performing.{Shows}
-use Rattle.pcl_page.specs.inner.Reflecting.{IsPainted, IsIn, IsWhite, IsFollowed, IsEjected, IsHanded, Takes, IsPrepared, IsDrawn, HandsMore, IsTurned}
+use Rattle.pcl_page.proofs.Names.{nat_tests, Dpi, Memory, TooManyPages, Operation, Size, Value, Picture, Effect, Stay, Eject, EjectMarked, Unsupported, Settings, to_first_line, Outcome, outcome, Answers, Page, Performer, Asked, Mark, are_marked, Raster, ends_raster, Situation, settings_below, end_raster, is_marked, ejects, sheet_of, turned_page, prepared, page_refusal, Shows, IsPainted, IsIn, IsWhite, IsFollowed, IsEjected, IsHanded, Takes, IsPrepared, IsDrawn, HandsMore, IsTurned}
 use Rattle.pcl_page.proofs.Sizes.{size_kept}
 
 -- ---- pages

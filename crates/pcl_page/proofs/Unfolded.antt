@@ -1,24 +1,7 @@
 -- Performances of commands and of macros, unfolded.
 use Rattle.std.proofs.Common.{◌≡◌, ℕ, zero, suc, ◌+◌, ◌-◌, ◌<◌, Bool, true, false, cond, List, [], ◌∷◌, ◌++◌, length, Option, Some, None, Result, Ok, Err, refl, sym, ◌∙◌, append-nil, arith, inl, inr}
 use Rattle.std.specs.Prelude.{is_some, ◌⊎◌}
-use Rattle.pcl_base.specs.declared.dpi.Dpi.{Dpi}
-use Rattle.pcl_base.specs.declared.kind.Kind.{Kind}
-use Rattle.pcl_base.specs.declared.kind.Kind.TheVariants.{MacroDepth}
-use Rattle.pcl_base.specs.declared.operation.Operation.{Operation}
-use Rattle.pcl_base.specs.declared.operation.Operation.TheVariants.{ControlMacros}
-use Rattle.pcl_base.specs.declared.refusal.Refusal.{Refusal}
-use Rattle.pcl_base.specs.declared.value.Value.{Value}
-use Rattle.pcl_base.specs.Limits.{macro_limit}
-use Rattle.pcl_base.specs.Operation.{operation_of}
-use Rattle.pcl_env.specs.Settings.{Settings}
-use Rattle.pcl_escape.specs.Said.{Said}
-use Rattle.pcl_page.specs.declared.interpreter.Running.{Running}
-use Rattle.pcl_page.specs.declared.macros.Action.{Action}
-use Rattle.pcl_page.specs.declared.macros.Keeping.{Keeping}
-use Rattle.pcl_page.specs.Situation.{Situation, tried}
-use Rattle.pcl_page.specs.Macros.{Run, action_of, keeping_of, acted, managed, counting, defining, after_command, run_of, macro_ended}
-use Rattle.pcl_page.specs.Performing.{Performance, done, stopped, unless, then_on, in_order, concluded, and_run, step, commands_left, runs}
-use Rattle.pcl_page.specs.inner.Unfolding.{run_in, entered, HasLevel, rest_of, resumed, begun_among}
+use Rattle.pcl_page.proofs.Names.{Dpi, Kind, MacroDepth, Operation, ControlMacros, Refusal, Value, macro_limit, operation_of, Settings, Said, Running, Action, Keeping, Situation, tried, Run, action_of, keeping_of, acted, managed, counting, defining, after_command, run_of, macro_ended, Performance, done, stopped, unless, then_on, in_order, concluded, and_run, step, commands_left, runs, run_in, entered, HasLevel, rest_of, resumed, begun_among}
 use Rattle.pcl_page.proofs.Keeping.{then_from, is_counted}
 use Rattle.pcl_page.proofs.Sinks.{Onward, stays_there, onward_on}
 

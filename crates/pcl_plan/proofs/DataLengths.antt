@@ -1,7 +1,6 @@
 -- What a row costs tells how many bytes of data it has.
 use Rattle.std.proofs.Common.{◌≡◌, ℕ, ◌+◌, ◌^◌, ◌<◌, ◌≤◌, arith}
-use Rattle.pcl_output.specs.Spelling.{row_cost}
-use Rattle.pcl_output.proofs.DigitCounts.{count_le, count_above, count_is}
+use Rattle.pcl_plan.proofs.Names.{row_cost, count_le, count_above, count_is}
 
 -- of no byte
 pub cost_of_none : (bytes : ℕ) → bytes ≤ 65535 → row_cost bytes ≤ 1 → 0 ≡ bytes

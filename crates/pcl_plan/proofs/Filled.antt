@@ -1,18 +1,6 @@
 -- A table that is filled one row upwards.
 use Rattle.std.proofs.Common.{◌≡◌, ℕ, zero, suc, ◌+◌, ◌-◌, ◌<◌, ◌≤◌, Bool, true, false, List, [], length, drop, refl, subst, ◌∙◌, inl, inr, arith}
-use Rattle.std.proofs.lemmas.Bool.{cases_lt}
-use Rattle.std.proofs.lemmas.List.{drop_more}
-use Rattle.pcl_base.specs.declared.method.Method.{Method}
-use Rattle.pcl_coders.specs.Coding.{IsLeastLength}
-use Rattle.pcl_output.specs.declared.table.RowNumbers.{RowNumbers}
-use Rattle.pcl_output.specs.Tokens.{AreWhite}
-use Rattle.pcl_output.specs.declared.node.Node.{Node}
-use Rattle.pcl_output.specs.Nodes.{row_at, row_above}
-use Rattle.pcl_output.specs.Table.{number_in, node_number, end_numbers, rest}
-use Rattle.pcl_plan.specs.inner.Filling.{skipping, IsReadable, IsLeastStart, IsDirect, AreRowNumbers, IsRowRight, AreRightFrom}
-use Rattle.pcl_output.specs.inner.WhiteRows.{AreSkippable, IsWhiteRun}
-use Rattle.pcl_output.proofs.Walking.{node}
-use Rattle.pcl_output.proofs.WhiteRows.{white_front, white_below, skippable_within, ink_left}
+use Rattle.pcl_plan.proofs.Names.{cases_lt, drop_more, Method, IsLeastLength, RowNumbers, AreWhite, Node, row_at, row_above, number_in, node_number, end_numbers, rest, skipping, IsReadable, IsLeastStart, IsDirect, AreRowNumbers, IsRowRight, AreRightFrom, AreSkippable, IsWhiteRun, node, white_front, white_below, skippable_within, ink_left}
 use Rattle.pcl_plan.proofs.RightRows.{at_row, row_stays, end_number, white_row_right}
 use Rattle.pcl_plan.proofs.InkedRows.{inked_row_right}
 

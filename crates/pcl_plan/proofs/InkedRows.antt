@@ -1,21 +1,6 @@
 -- The numbers after some rows are right where ink is left.
 use Rattle.std.proofs.Common.{◌≡◌, ℕ, zero, suc, ◌+◌, ◌-◌, ◌*◌, ◌<◌, ◌≤◌, Bool, true, false, List, [], ◌∷◌, length, drop, refl, ap, subst, inl, inr, arith}
-use Rattle.std.specs.Prelude.{not}
-use Rattle.std.proofs.lemmas.List.{drop_more}
-use Rattle.pcl_base.specs.declared.method.Method.{Method}
-use Rattle.pcl_coders.proofs.Lengths.{length_small}
-use Rattle.pcl_base.specs.Walks.{IsAttained}
-use Rattle.pcl_output.specs.declared.table.RowNumbers.{RowNumbers}
-use Rattle.pcl_output.specs.Tokens.{Token, opening, method, skip, send, AreWhite}
-use Rattle.pcl_output.specs.declared.node.Node.{Node}
-use Rattle.pcl_output.specs.Nodes.{Leads, Ends, cost}
-use Rattle.pcl_output.specs.Spelling.{switching, row_cost}
-use Rattle.pcl_output.specs.Table.{number_in, outside, inside, rest, IsSwitched}
-use Rattle.pcl_plan.specs.inner.Filling.{skipping, IsDirect, IsRowRight}
-use Rattle.pcl_output.specs.inner.WhiteRows.{AreSkippable}
-use Rattle.pcl_output.proofs.DigitCounts.{count_grows}
-use Rattle.pcl_output.proofs.Walking.{node}
-use Rattle.pcl_output.proofs.TokenCosts.{cost_opening, rest_below, best_end, row_cost_small}
+use Rattle.pcl_plan.proofs.Names.{not, drop_more, Method, length_small, IsAttained, RowNumbers, Token, opening, method, skip, send, AreWhite, Node, Leads, Ends, cost, switching, row_cost, number_in, outside, inside, rest, IsSwitched, skipping, IsDirect, IsRowRight, AreSkippable, count_grows, node, cost_opening, rest_below, best_end, row_cost_small}
 use Rattle.pcl_plan.proofs.LeastTokens.{switch_token, skip_token, row_token, switch_leads, skip_leads, row_leads, switch_below, skip_below, switch_costs, skip_costs, row_costs}
 use Rattle.pcl_plan.proofs.RightRows.{at_row}
 

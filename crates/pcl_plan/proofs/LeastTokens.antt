@@ -1,20 +1,6 @@
 -- Tokens in their shortest spelling: where they lead and what they cost, and numbers that no step falls below.
 use Rattle.std.proofs.Common.{◌≡◌, ℕ, ◌+◌, ◌<◌, ◌≤◌, Bool, true, false, List, length, refl, arith}
-use Rattle.std.specs.Prelude.{not}
-use Rattle.pcl_base.specs.declared.method.Method.{Method}
-use Rattle.pcl_base.specs.Method.{method_code}
-use Rattle.pcl_rows.specs.Rows.{IsRowData}
-use Rattle.pcl_coders.specs.Coding.{IsLeastLength}
-use Rattle.pcl_output.specs.Tokens.{Token, method, skip, send}
-use Rattle.pcl_output.specs.declared.node.Node.{Node}
-use Rattle.pcl_output.specs.Nodes.{row_at, row_above, Leads, cost}
-use Rattle.pcl_output.specs.Spelling.{least_spelling, setting_cost, switching, row_cost}
-use Rattle.pcl_output.specs.Table.{outside, inside, rest}
-use Rattle.pcl_output.specs.inner.WhiteRows.{AreSkippable}
-use Rattle.pcl_output.proofs.DigitCounts.{count_grows, spelled_long}
-use Rattle.pcl_output.proofs.Walking.{node}
-use Rattle.pcl_output.proofs.TokenCosts.{cost_method, cost_skip, cost_send, method_small, best_end, spelled_cost}
-use Rattle.pcl_plan.specs.inner.Filling.{skipping}
+use Rattle.pcl_plan.proofs.Names.{not, Method, method_code, IsRowData, IsLeastLength, Token, method, skip, send, Node, row_at, row_above, Leads, cost, least_spelling, setting_cost, switching, row_cost, outside, inside, rest, AreSkippable, count_grows, spelled_long, node, cost_method, cost_skip, cost_send, method_small, best_end, spelled_cost, skipping}
 
 abbrev pub switch_token : Method → Bool → Token
 switch_token next ends = method (least_spelling (method_code next)) next ends

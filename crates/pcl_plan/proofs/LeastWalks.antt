@@ -1,16 +1,6 @@
 -- What holds of every walk of least cost.
 use Rattle.std.proofs.Common.{◌≡◌, ℕ, ◌+◌, ◌-◌, ◌*◌, ◌≤◌, Bool, true, false, List, [], ◌∷◌, length, ap, subst, arith}
-use Rattle.std.specs.Prelude.{not}
-use Rattle.pcl_base.specs.declared.method.Method.{Method}
-use Rattle.pcl_coders.specs.Coding.{IsLeastLength}
-use Rattle.pcl_base.specs.Walks.{Walk, total, IsFeasible}
-use Rattle.pcl_base.proofs.Walks.{feasible_bounds}
-use Rattle.pcl_output.specs.Tokens.{Token, opening, method, skip, send, command_count}
-use Rattle.pcl_output.specs.declared.node.Node.{Node}
-use Rattle.pcl_output.specs.Nodes.{row_at, row_above, Leads, Ends, cost}
-use Rattle.pcl_output.specs.Spelling.{switching}
-use Rattle.pcl_output.proofs.Walking.{node}
-use Rattle.pcl_output.proofs.TokenCosts.{rest_below}
+use Rattle.pcl_plan.proofs.Names.{not, Method, IsLeastLength, Walk, total, IsFeasible, feasible_bounds, Token, opening, method, skip, send, command_count, Node, row_at, row_above, Leads, Ends, cost, switching, node, rest_below}
 use Rattle.pcl_plan.proofs.LeastTokens.{switch_below, row_is_least, switch_costs, row_costs}
 
 -- The commands of a walk of least cost: two for each row that is left at most, and one more; not that one after a switch.

@@ -1,3 +1,4 @@
+pub mod Names
 pub mod LeastTokens
 pub mod RightRows
 pub mod InkedRows

@@ -1,13 +1,6 @@
 -- A table that is right, and the steps that were read off it, are a plan.
 use Rattle.std.proofs.Common.{◌≡◌, ℕ, List, arith}
-use Rattle.pcl_output.specs.declared.table.RowNumbers.{RowNumbers}
-use Rattle.pcl_output.specs.declared.step.Step.{Step}
-use Rattle.pcl_output.specs.Nodes.{start}
-use Rattle.pcl_output.specs.Table.{node_number}
-use Rattle.pcl_output.specs.PageTables.{IsTableFor}
-use Rattle.pcl_plan.specs.inner.Filling.{AreRightFrom}
-use Rattle.pcl_plan.specs.inner.Reading.{AreLeastSteps}
-use Rattle.pcl_plan.specs.Plans.{StepsAndTable, IsPlan}
+use Rattle.pcl_plan.proofs.Names.{RowNumbers, Step, start, node_number, IsTableFor, AreRightFrom, AreLeastSteps, StepsAndTable, IsPlan}
 use Rattle.pcl_plan.proofs.Reading.{feasible_table, least_table}
 
 pub plan_is : {width : ℕ} {rows : List (List ℕ)} {table : List RowNumbers} {steps : List Step} {plan : StepsAndTable} → plan.steps ≡ steps

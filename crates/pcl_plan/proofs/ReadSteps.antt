@@ -1,22 +1,7 @@
 -- The steps that were read so far, and what comes after them, are a walk of least cost.
 use Rattle.std.proofs.Common.{◌≡◌, ℕ, ◌+◌, ◌<◌, ◌≤◌, Bool, true, false, List, [], ◌∷◌, ◌++◌, length, refl, sym, ap, subst, arith, append_assoc}
-use Rattle.std.specs.Prelude.{not}
-use Rattle.std.proofs.lemmas.Bool.{false_from_ne_true}
-use Rattle.std.proofs.lemmas.List.{append-nil}
-use Rattle.pcl_base.specs.declared.method.Method.{Method}
-use Rattle.pcl_base.specs.Walks.{Walk, total}
-use Rattle.pcl_output.specs.declared.table.RowNumbers.{RowNumbers}
-use Rattle.pcl_output.specs.declared.step.Step.{Step}
-use Rattle.pcl_output.specs.declared.step.Step.TheVariants.{Skip, Switch, Row}
-use Rattle.pcl_output.specs.declared.node.Node.{Node}
-use Rattle.pcl_output.specs.Tokens.{Token}
-use Rattle.pcl_output.specs.Nodes.{start, Leads, Ends, cost, stays_inside, row_after, method_after}
-use Rattle.pcl_output.specs.Spelling.{least_spelling, row_cost}
-use Rattle.pcl_output.specs.Table.{node_number, outside, inside, rest}
-use Rattle.pcl_plan.specs.Plans.{IsTokenOf, opened, is_last, Spells}
-use Rattle.pcl_plan.specs.inner.Reading.{IsBestStep, IsNextNode, AreLeastSteps}
-use Rattle.pcl_output.proofs.Walking.{node}
-use Rattle.pcl_output.proofs.TokenCosts.{cost_opening, cost_some}
+use Rattle.pcl_plan.proofs.Names.{not, false_from_ne_true, append-nil, Method, Walk, total, RowNumbers, Step, Skip, Switch, Row, Node, Token, start, Leads, Ends, cost, stays_inside, row_after, method_after, least_spelling, row_cost, node_number, outside, inside, rest, IsTokenOf, opened, is_last, IsBestStep, IsNextNode, AreLeastSteps, node, cost_opening, cost_some}
+use Rattle.pcl_plan.specs.Plans.{Spells}
 use Rattle.pcl_plan.proofs.LeastTokens.{switch_token, skip_token, row_token, switch_leads, skip_leads, row_leads}
 use Rattle.pcl_plan.proofs.Reading.{IsRightTable, opens, ends}
 

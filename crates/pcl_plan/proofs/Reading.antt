@@ -1,29 +1,8 @@
 -- Steps are read off a table that is right.
 use Rattle.std.proofs.Common.{◌≡◌, ℕ, ◌+◌, ◌<◌, ◌≤◌, true, false, List, [], ◌∷◌, length, refl, ap, ◌∙◌, arith}
-use Rattle.std.specs.Prelude.{not}
-use Rattle.std.proofs.Math.ListN.{drop_of_length-le}
-use Rattle.pcl_base.specs.declared.method.Method.{Method}
-use Rattle.pcl_rows.specs.Rows.{IsRowData}
-use Rattle.pcl_coders.specs.Coding.{IsLeastLength}
-use Rattle.pcl_base.specs.Walks.{Walk, total, IsFeasible, IsLeastCost}
-use Rattle.pcl_base.proofs.Walks.{feasible_bounds, attained_is_least}
-use Rattle.pcl_output.specs.declared.table.RowNumbers.{RowNumbers}
-use Rattle.pcl_output.specs.Tokens.{Token, opening, method, skip, send}
-use Rattle.pcl_output.specs.declared.node.Node.{Node}
-use Rattle.pcl_output.specs.Nodes.{row_at, row_above, Leads, Ends, cost}
-use Rattle.pcl_output.specs.Spelling.{switching, row_cost}
-use Rattle.pcl_output.specs.Table.{node_number, outside, inside, rest}
-use Rattle.pcl_plan.specs.inner.Filling.{skipping, IsReadable, IsRowRight, AreRightFrom}
-use Rattle.pcl_output.specs.inner.WhiteRows.{AreSkippable, IsWhiteRun}
-use Rattle.pcl_output.proofs.Walking.{node}
-use Rattle.pcl_output.proofs.RowsFrom.{length_rows}
-use Rattle.pcl_plan.specs.declared.rows.Rows.{Rows}
-use Rattle.pcl_plan.specs.inner.Rows.{rows_of}
-use Rattle.pcl_output.proofs.TokenCosts.{cost_opening, cost_some, rest_below}
+use Rattle.pcl_plan.proofs.Names.{not, drop_of_length-le, Method, IsRowData, IsLeastLength, Walk, total, IsFeasible, IsLeastCost, feasible_bounds, attained_is_least, RowNumbers, Token, opening, method, skip, send, Node, row_at, row_above, Leads, Ends, cost, switching, row_cost, node_number, outside, inside, rest, skipping, IsReadable, IsRowRight, AreRightFrom, AreSkippable, IsWhiteRun, node, length_rows, Rows, rows_of, cost_opening, cost_some, rest_below, skippable_within, white_to_end, number_past}
 use Rattle.pcl_plan.proofs.LeastTokens.{switch_below, skip_below, row_below, row_is_least, switch_costs, skip_costs, row_costs}
 use Rattle.pcl_plan.proofs.Filled.{readable}
-use Rattle.pcl_output.proofs.WhiteRows.{skippable_within, white_to_end}
-use Rattle.pcl_output.proofs.Tables.{number_past}
 
 -- ---- the whole table
 

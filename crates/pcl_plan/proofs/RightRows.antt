@@ -1,14 +1,6 @@
 -- The numbers after some rows are right, where those after more are.
 use Rattle.std.proofs.Common.{◌≡◌, ℕ, ◌+◌, ◌<◌, ◌≤◌, Bool, true, false, List, [], ◌∷◌, length, drop, refl, sym, ap, subst, ◌∙◌, inl, inr, arith}
-use Rattle.std.proofs.lemmas.Bool.{cases_Bool}
-use Rattle.pcl_base.specs.declared.method.Method.{Method}
-use Rattle.pcl_base.specs.declared.method.Method.TheVariants.{Plain}
-use Rattle.pcl_output.specs.Tokens.{method, AreWhite}
-use Rattle.pcl_output.specs.declared.node.Node.{Node}
-use Rattle.pcl_output.specs.Table.{outside}
-use Rattle.pcl_plan.specs.inner.Filling.{IsRowRight}
-use Rattle.pcl_output.proofs.TokenCosts.{cost_method, cost_some}
-use Rattle.pcl_output.proofs.Walking.{node}
+use Rattle.pcl_plan.proofs.Names.{cases_Bool, Method, Plain, method, AreWhite, Node, outside, IsRowRight, cost_method, cost_some, node}
 
 -- ---- nodes
 

@@ -1,12 +1,7 @@
 -- Which counts of rows are worth skipping.
 use Rattle.std.proofs.Common.{◌≡◌, ℕ, ◌+◌, ◌-◌, ◌^◌, ◌<◌, ◌≤◌, min, List, inl, inr, arith}
-use Rattle.std.proofs.lemmas.Bool.{cases_lt}
-use Rattle.pcl_base.specs.declared.method.Method.{Method}
+use Rattle.pcl_plan.proofs.Names.{cases_lt, Method, RowNumbers, node_number, skipping, IsLeastSkip, IsReadable, count_le, count_above}
 use Rattle.pcl_plan.specs.declared.fill.Skip.{Skip}
-use Rattle.pcl_output.specs.declared.table.RowNumbers.{RowNumbers}
-use Rattle.pcl_output.specs.Table.{node_number}
-use Rattle.pcl_plan.specs.inner.Filling.{skipping, IsLeastSkip, IsReadable}
-use Rattle.pcl_output.proofs.DigitCounts.{count_le, count_above}
 
 -- a skip of some of so many rows
 pub record IsSkipOf (table : List RowNumbers) (row : ℕ) (method : Method) (run : ℕ) (skip : Skip) : Type 0 where

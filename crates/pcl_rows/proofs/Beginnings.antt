@@ -1,12 +1,6 @@
 -- What stands at the front of data.
 use Rattle.std.proofs.Common.{◌≡◌, ℕ, ◌+◌, ◌-◌, ◌<◌, ◌≤◌, min, eqb, Bool, true, false, List, [], ◌∷◌, ◌++◌, length, get_or, take, drop, replicate, refl, sym, ap, ◌∙◌, append_assoc, arith}
-use Rattle.std.proofs.lemmas.List.{append-nil, take_all, take-append-drop, length-append, length-take-le, length-drop, length-replicate, nil_from_length, take_more, drop_all, drop_min}
-use Rattle.std.specs.Prelude.{MatchBool}
-use Rattle.std.proofs.lemmas.Bool.{eqb-true, eqb-false}
-use Rattle.pcl_base.specs.declared.method.Method.{Method}
-use Rattle.pcl_rows.specs.Elements.{IsHead}
-use Rattle.pcl_rows.specs.Heads.{Head, head_bytes, new_count, copies_of, offset_of}
-use Rattle.pcl_rows.specs.inner.Fronts.{Begins, Opens, IsWholeFront, IsCutFront}
+use Rattle.pcl_rows.proofs.Names.{append-nil, take_all, take-append-drop, length-append, length-take-le, length-drop, length-replicate, nil_from_length, take_more, drop_all, drop_min, MatchBool, eqb-true, eqb-false, Method, IsHead, Head, head_bytes, new_count, copies_of, offset_of, Begins, Opens, IsWholeFront, IsCutFront}
 
 pub Begins-cons : (bytes front : List ℕ) (byte : ℕ) → 0 < length bytes → byte ≡ get_or bytes 0 0 → Begins (drop 1 bytes) front
     → Begins bytes (byte ∷ front)

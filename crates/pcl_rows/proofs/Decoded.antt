@@ -1,14 +1,7 @@
 -- The row that is computed element by element is the one that the data's elements make.
 use Rattle.std.proofs.Common.{◌≡◌, ℕ, zero, suc, ◌+◌, ◌*◌, ◌%◌, ◌<◌, ◌≤◌, List, [], ◌∷◌, ◌++◌, length, take, drop, replicate, refl, sym, ap, ◌∙◌, inl, inr, append_assoc, length-append, add-zero, arith}
-use Rattle.std.specs.List.{flat_map}
-use Rattle.std.proofs.lemmas.Bool.{cases_lt}
-use Rattle.std.proofs.lemmas.List.{take-append-le, take_at, drop_at, take_all, drop_all, take-append-drop, length-replicate}
-use Rattle.std.proofs.Math.Seq.{drop-nil}
-use Rattle.pcl_base.specs.declared.method.Method.{Method}
-use Rattle.pcl_rows.specs.Heads.{Head, Far, method_of, IsInRange, head_bytes, new_count, offset_of}
-use Rattle.pcl_rows.specs.Elements.{Element, IsElement, element_bytes, given_by, IsHead}
-use Rattle.pcl_rows.specs.Rows.{base, after_element, IsCutIntoElements, treated, Decodes}
-use Rattle.pcl_rows.specs.Decoding.{Front, further, treated_by, decoded}
+use Rattle.pcl_rows.proofs.Names.{flat_map, cases_lt, take-append-le, take_at, drop_at, take_all, drop_all, take-append-drop, length-replicate, drop-nil, Method, Head, Far, method_of, IsInRange, head_bytes, new_count, offset_of, Element, IsElement, element_bytes, given_by, IsHead, base, after_element, IsCutIntoElements, treated, Decodes, Front, further}
+use Rattle.pcl_rows.specs.Decoding.{treated_by, decoded}
 use Rattle.pcl_rows.proofs.Readings.{after_none}
 use Rattle.pcl_rows.proofs.Spellings.{first_of, front_at, element_at, behind_shorter}
 

@@ -1,14 +1,7 @@
 -- Data after the row's end: they have a reading, whatever they are, and nothing of it counts.
 use Rattle.std.proofs.Common.{◌≡◌, ℕ, zero, suc, ◌+◌, ◌-◌, ◌*◌, ◌/◌, ◌%◌, ◌<◌, ◌≤◌, Bool, true, false, List, [], ◌∷◌, ◌++◌, length, take, drop, get_or, replicate, refl, sym, ap, inl, inr, append_assoc, arith}
-use Rattle.std.proofs.lemmas.Bool.{cases_lt, cases_order}
-use Rattle.std.proofs.lemmas.List.{get_or-drop, take-append-drop, take_at, drop_at, take_all, drop_all, length-append, length-drop, length-replicate, length-take-le}
+use Rattle.pcl_rows.proofs.Names.{cases_lt, cases_order, get_or-drop, take-append-drop, take_at, drop_at, take_all, drop_all, length-append, length-drop, length-replicate, length-take-le, Method, Plain, Runs, Packed, Delta, Head, Count, Literal, Skipped, Repeat, Near, Far, head_bytes, new_count, offset_of, IsCutFront, IsFront, IsPastSkipped, IsHead, given_by, RowFrom}
 use Rattle.std.specs.Prelude.{◌⊎◌}
-use Rattle.pcl_base.specs.declared.method.Method.{Method}
-use Rattle.pcl_base.specs.declared.method.Method.TheVariants.{Plain, Runs, Packed, Delta}
-use Rattle.pcl_rows.specs.Heads.{Head, Count, Literal, Skipped, Repeat, Near, Far, head_bytes, new_count, offset_of}
-use Rattle.pcl_rows.specs.inner.Fronts.{IsCutFront, IsFront, IsPastSkipped}
-use Rattle.pcl_rows.specs.Elements.{IsHead, given_by}
-use Rattle.pcl_rows.specs.Rows.{RowFrom}
 use Rattle.pcl_rows.proofs.Readings.{Fills, Fills-none, Fills-cut, Fills-cons, Fills-plain, IsTreatedTo}
 
 -- ---- numbers that bytes are

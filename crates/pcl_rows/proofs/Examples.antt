@@ -1,9 +1,6 @@
 -- Examples worked out by hand, which the definitions compute.
 use Rattle.std.proofs.Common.{◌≡◌, ℕ, List, [], ◌∷◌, ◌+◌, take, refl}
-use Rattle.pcl_base.specs.declared.method.Method.TheVariants.{Packed, Delta}
-use Rattle.pcl_rows.specs.Heads.{Head, Itself, Count, Literal, Skipped, Repeat, Near, Far, offset_of}
-use Rattle.pcl_rows.specs.Elements.{Element, element_bytes, stop}
-use Rattle.pcl_rows.specs.Rows.{base, after_elements, treated}
+use Rattle.pcl_rows.proofs.Names.{Packed, Delta, Head, Itself, Count, Literal, Skipped, Repeat, Near, Far, offset_of, Element, element_bytes, stop, base, after_elements, treated}
 
 abbrev element : Head → List ℕ → Element
 element head bytes = record { head = head; bytes = bytes }

@@ -1,3 +1,4 @@
+pub mod Names
 pub mod Overlays
 pub mod Beginnings
 pub mod Spellings

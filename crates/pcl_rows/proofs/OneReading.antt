@@ -1,7 +1,6 @@
 -- Data has one reading.
 use Rattle.std.proofs.Common.{◌≡◌, ℕ, List, length, arith}
-use Rattle.pcl_base.specs.declared.method.Method.{Method}
-use Rattle.pcl_rows.specs.Rows.{RowFrom}
+use Rattle.pcl_rows.proofs.Names.{Method, RowFrom}
 use Rattle.pcl_rows.proofs.Decoded.{treated_is}
 
 pub one_row : (method : Method) (bytes old row other : List ℕ) → RowFrom method bytes old row → RowFrom method bytes old other → row ≡ other

@@ -1,11 +1,6 @@
 -- A list over another one from a place on.
 use Rattle.std.proofs.Common.{◌≡◌, ℕ, ◌+◌, ◌-◌, ◌<◌, ◌≤◌, min, List, [], ◌++◌, length, get_or, take, drop, replicate, sym, ap, ◌∙◌, inl, inr, append_assoc, add-zero, arith}
-use Rattle.std.proofs.lemmas.Bool.{cases_lt}
-use Rattle.std.proofs.lemmas.List.{append-nil, take-append-le, take_at, drop_at, drop-drop, take_all, drop_all, take-append-drop, length-append, length-take, length-drop, take-take, length-replicate, take-replicate, length-take-le}
-use Rattle.std.specs.List.{flat_map}
-use Rattle.pcl_base.proofs.Lists.{once_each, flat_more}
-use Rattle.pcl_rows.specs.inner.Fronts.{overlaid}
-use Rattle.std.proofs.Math.Seq.{take-append-add}
+use Rattle.pcl_rows.proofs.Names.{cases_lt, append-nil, take-append-le, take_at, drop_at, drop-drop, take_all, drop_all, take-append-drop, length-append, length-take, length-drop, take-take, length-replicate, take-replicate, length-take-le, flat_map, once_each, flat_more, overlaid, take-append-add}
 
 -- where the new bytes fit
 pub overlaid_within : (old : List ℕ) (place : ℕ) (new : List ℕ) → place + length new ≤ length old

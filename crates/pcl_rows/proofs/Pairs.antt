@@ -1,11 +1,6 @@
 -- Data of method 1, read pair by pair.
 use Rattle.std.proofs.Common.{◌≡◌, ℕ, ◌+◌, ◌*◌, ◌/◌, ◌<◌, ◌≤◌, min, true, false, List, [], ◌∷◌, length, drop, replicate, refl, sym, append-nil, arith, lit<}
-use Rattle.std.specs.Prelude.{slice_index}
-use Rattle.std.proofs.lemmas.List.{drop_more, length-drop, length-replicate, get_or-drop}
-use Rattle.pcl_base.specs.declared.method.Method.TheVariants.{Runs}
-use Rattle.pcl_rows.specs.Heads.{Count}
-use Rattle.pcl_rows.specs.Rows.{RowFrom}
-use Rattle.pcl_rows.specs.inner.Fronts.{IsFront, overlaid}
+use Rattle.pcl_rows.proofs.Names.{slice_index, drop_more, length-drop, length-replicate, get_or-drop, Runs, Count, RowFrom, IsFront, overlaid}
 use Rattle.pcl_rows.proofs.Overlays.{overlaid-nil}
 use Rattle.pcl_rows.proofs.Readings.{IsTreatedTo, treated_more, treated_all}
 

@@ -1,20 +1,8 @@
 -- What a reading of data makes of a row, an element at a time.
 use Rattle.std.proofs.Common.{◌≡◌, ℕ, zero, suc, ◌+◌, ◌-◌, ◌*◌, ◌<◌, ◌≤◌, ◌↔◌, min, Bool, true, false, List, [], ◌∷◌, ◌++◌, length, take, drop, replicate, refl, sym, ap, ◌∙◌, append_assoc, add-zero, arith, zero-add}
-use Rattle.std.specs.Prelude.{MatchBool}
-use Rattle.std.specs.List.{flat_map}
-use Rattle.std.proofs.Math.Seq.{take-add, drop-nil}
-use Rattle.std.proofs.lemmas.List.{take_min, drop_min, take-append-drop, length-append, drop-drop, take_all}
-use Rattle.pcl_base.proofs.Lists.{length-copied}
-use Rattle.pcl_base.specs.declared.method.Method.{Method}
-use Rattle.pcl_base.specs.declared.method.Method.TheVariants.{Plain, Runs, Packed, Delta}
-use Rattle.pcl_rows.specs.Heads.{Head, Itself, Count, Skipped, Near, head_bytes, copies_of, offset_of}
-use Rattle.pcl_rows.specs.Elements.{Element, IsHead, IsElement, AreElements, element_bytes, given_by, reach}
-use Rattle.pcl_rows.specs.Rows.{after_element, base, IsCutIntoElements, treated, RowFrom, Decodes, IsWhole}
-use Rattle.pcl_rows.specs.inner.Fronts.{IsWholeFront, IsCutFront, IsFront, IsPastSkipped, overlaid}
+use Rattle.pcl_rows.proofs.Names.{MatchBool, flat_map, take-add, drop-nil, take_min, drop_min, take-append-drop, length-append, drop-drop, take_all, length-copied, Method, Plain, Runs, Packed, Delta, Head, Itself, Count, Skipped, Near, head_bytes, copies_of, offset_of, Element, IsHead, IsElement, AreElements, element_bytes, given_by, reach, after_element, base, IsCutIntoElements, treated, RowFrom, Decodes, IsWhole, IsWholeFront, IsCutFront, IsFront, IsPastSkipped, overlaid, one-add, Front}
 use Rattle.pcl_rows.proofs.Overlays.{drop-overlaid, take-overlaid}
 use Rattle.pcl_rows.proofs.Spellings.{element_at, behind_shorter, spelling_has_byte, cut_is_not_whole}
-use Rattle.std.proofs.Math.Numerals.{one-add}
-use Rattle.pcl_rows.specs.Decoding.{Front}
 
 -- what data makes of untreated bytes, before what lies past the row is dropped
 pub record Fills (method : Method) (bytes old row : List ℕ) : Type 0 where

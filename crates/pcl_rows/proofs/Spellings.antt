@@ -1,12 +1,6 @@
 -- The element at the front of data: no element begins another.
 use Rattle.std.proofs.Common.{◌≡◌, ℕ, zero, suc, ◌+◌, ◌*◌, ◌/◌, ◌%◌, ◌<◌, ◌==◌, true, false, nat_lt, List, [], ◌∷◌, ◌++◌, length, take, drop, replicate, refl, sym, ap, ◌∙◌, append_assoc, add-zero, arith}
-use Rattle.std.proofs.lemmas.Bool.Decides.{nat_tests}
-use Rattle.std.proofs.lemmas.List.{append-nil, length-append, take_at, drop_at}
-use Rattle.pcl_base.proofs.Lists.{once_each}
-use Rattle.pcl_base.specs.declared.method.Method.{Method}
-use Rattle.pcl_rows.specs.Heads.{Head, Itself, Count, Literal, Skipped, Repeat, Near, Far, method_of, IsInRange, head_bytes, new_count, offset_of}
-use Rattle.pcl_rows.specs.Elements.{Element, IsElement, element_bytes, given_by}
-use Rattle.pcl_rows.specs.Decoding.{Front, literal, further, front_of}
+use Rattle.pcl_rows.proofs.Names.{nat_tests, append-nil, length-append, take_at, drop_at, once_each, Method, Head, Itself, Count, Literal, Skipped, Repeat, Near, Far, method_of, IsInRange, head_bytes, new_count, offset_of, Element, IsElement, element_bytes, given_by, Front, literal, further, front_of}
 
 -- the element there; no data gives nothing
 abbrev pub first_of : Method → List ℕ → Front

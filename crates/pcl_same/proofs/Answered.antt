@@ -1,28 +1,7 @@
 -- What is found of kept pages is so of the pages of the jobs.
 use Rattle.std.proofs.Common.{◌≡◌, ℕ, ◌+◌, ◌<◌, List, [], ◌∷◌, ◌++◌, length, drop, Option, Some, None, refl, ap, arith}
-use Rattle.std.specs.List.{AllByRecursion}
-use Rattle.pcl_base.specs.declared.dpi.Dpi.{Dpi}
-use Rattle.pcl_base.specs.Size.{page_width, page_height}
-use Rattle.pcl_bitmap.specs.Bitmap.{Picture, dot}
-use Rattle.pcl_bitmap.specs.declared.page.Page.{Page}
-use Rattle.pcl_page.specs.Alike.{AreAlike, AllAlike}
-use Rattle.pcl_page.specs.Asks.{Asks, asks_of}
-use Rattle.pcl_page.specs.Jobs.{HasPages, HasAsks}
-use Rattle.pcl_page.specs.Marks.{is_black}
-use Rattle.pcl_page.specs.Performing.{Shows}
-use Rattle.pcl_page.specs.Situation.{Sheet}
-use Rattle.pcl_same.specs.declared.comparison.AskedComparison.{AskedComparison}
-use Rattle.pcl_same.specs.declared.comparison.Difference.{Difference}
-use Rattle.pcl_same.specs.declared.comparison.Difference.TheVariants.{Size, Copies, Dot}
-use Rattle.pcl_same.specs.declared.comparison.PagesDifference.{PagesDifference}
+use Rattle.pcl_same.proofs.Names.{AllByRecursion, Dpi, page_width, page_height, Picture, dot, Page, AreAlike, AllAlike, Asks, asks_of, HasPages, HasAsks, is_black, Shows, Sheet, AskedComparison, Difference, Size, Copies, Dot, PagesDifference, KeptJob, KeptPage, Compare, of_pages, CompareAsks, IsAskedComparison, IsFirstDot, DifferBy, DifferFirst, KeepAll, PagesDiffer, FindAll, IsAlike, IsConcluded, comparison_of, IsKept}
 use Rattle.pcl_same.specs.declared.comparison.PagesDifference.TheVariants as difference
-use Rattle.pcl_same.specs.declared.keeping.KeptJob.{KeptJob}
-use Rattle.pcl_same.specs.declared.keeping.KeptPage.{KeptPage}
-use Rattle.pcl_same.specs.Comparing.{Compare, of_pages, CompareAsks, IsAskedComparison}
-use Rattle.pcl_same.specs.Differing.{IsFirstDot, DifferBy, DifferFirst}
-use Rattle.pcl_same.specs.Kept.{KeepAll}
-use Rattle.pcl_same.specs.inner.Pages.{PagesDiffer, FindAll, IsAlike, IsConcluded, comparison_of}
-use Rattle.pcl_same.specs.Keeping.{IsKept}
 use Rattle.pcl_same.proofs.AskedPages.{OnePages, asked_pages}
 use Rattle.pcl_same.proofs.OneAnswer.{alike_count}
 

@@ -1,31 +1,7 @@
 -- Each page of a job was asked with something.
 use Rattle.std.proofs.Common.{◌≡◌, ℕ, zero, suc, ◌+◌, Bool, true, false, cond, nat_le, List, [], ◌∷◌, length, Option, Some, None, Result, Ok, Err, refl, ap, ◌∙◌, length-append, arith}
-use Rattle.std.specs.Prelude.{is_some}
-use Rattle.pcl_base.specs.declared.dpi.Dpi.{Dpi}
-use Rattle.pcl_base.specs.declared.kind.Kind.{Kind}
-use Rattle.pcl_base.specs.declared.kind.Kind.TheVariants.{TooManyCommands}
-use Rattle.pcl_base.specs.declared.operation.Operation.{Operation}
-use Rattle.pcl_base.specs.declared.operation.Operation.TheVariants.{FillRectangle, ControlFonts, DownloadFont, DownloadCharacter, PrintText, ControlMacros}
-use Rattle.pcl_base.specs.declared.value.Value.{Value}
-use Rattle.pcl_base.specs.Limits.{command_limit, macro_limit}
-use Rattle.pcl_base.specs.Operation.{operation_of}
-use Rattle.pcl_env.specs.declared.effect.Effect.{Effect}
-use Rattle.pcl_env.specs.declared.effect.Effect.TheVariants.{EjectMarked}
-use Rattle.pcl_env.specs.Settings.{Settings, defaults, font_in_use}
-use Rattle.pcl_env.specs.Outcome.{outcome}
-use Rattle.pcl_escape.specs.Said.{Said}
-use Rattle.pcl_fonts.specs.Fields.{Character}
-use Rattle.pcl_page.specs.declared.macros.Action.{Action}
-use Rattle.pcl_page.specs.declared.macros.Action.TheVariants.{End}
-use Rattle.pcl_page.specs.declared.macros.Keeping.{Keeping}
-use Rattle.pcl_page.specs.declared.macros.Keeping.TheVariants.{Kept, Ends, Refused}
-use Rattle.pcl_page.specs.Asks.{Asks}
-use Rattle.pcl_page.specs.Jobs.{HasPages, HasAsks, performance_of}
-use Rattle.pcl_page.specs.Macros.{Run, action_of, keeping_of, definition_ended, acted, managed, counting, defining, after_command, run_of, macro_ended}
-use Rattle.pcl_page.specs.Performing.{Performance, done, unless, then_on, in_order, concluded, and_run, step, commands_left, runs, after_all, end_refusal, ended, after_end, performance, pages_of}
-use Rattle.pcl_page.specs.Raster.{ends_raster}
+use Rattle.pcl_same.proofs.Names.{is_some, Dpi, Kind, TooManyCommands, Operation, FillRectangle, ControlFonts, DownloadFont, DownloadCharacter, PrintText, ControlMacros, Value, command_limit, macro_limit, operation_of, Effect, EjectMarked, Settings, defaults, font_in_use, outcome, Said, Character, Action, End, Keeping, Kept, Ends, Refused, Asks, HasPages, HasAsks, performance_of, Run, action_of, keeping_of, definition_ended, acted, managed, counting, defining, after_command, run_of, macro_ended, Performance, done, unless, then_on, in_order, concluded, and_run, step, commands_left, runs, after_all, end_refusal, ended, after_end, performance, pages_of, ends_raster, is_proportional, prints}
 use Rattle.pcl_page.specs.Situation.{Sheet, Situation, at_begin, ink_of, filled_with, with_font, with_character, font_now, code_printed, codes_printed, drawn, draw_refusal, unless_refused, ◌|>◌, end_raster, is_marked, ejects, turned_page, turned, turned_by, drawn_on, counted, counted_in_limit, prepared, is_ignored, after, after_named, page_refusal, within_page_limit, tried}
-use Rattle.pcl_page.specs.Text.{is_proportional, prints}
 
 -- as many pages were ejected as what they were asked with is known
 abbrev pub Each : Situation → Type 0

@@ -1,13 +1,6 @@
 -- What the two sinks hold that took the pages of the jobs.
 use Rattle.std.proofs.Common.{◌≡◌, List, [], ◌∷◌, ◌++◌, length, drop, Option, refl, sym, ap, subst, ◌∙◌, append_assoc, append-nil}
-use Rattle.std.proofs.lemmas.List.{length-append, drop-drop}
-use Rattle.pcl_base.specs.declared.dpi.Dpi.{Dpi}
-use Rattle.pcl_page.specs.Situation.{Sheet}
-use Rattle.pcl_page.specs.Delivering.{Hands}
-use Rattle.pcl_same.specs.declared.comparison.Difference.{Difference}
-use Rattle.pcl_same.specs.declared.keeping.KeptPage.{KeptPage}
-use Rattle.pcl_same.specs.Kept.{KeepAll}
-use Rattle.pcl_same.specs.inner.Pages.{KeepsMore, Compared, ComparesNext, FindAll}
+use Rattle.pcl_same.proofs.Names.{length-append, drop-drop, Dpi, Sheet, Hands, Difference, KeptPage, KeepAll, KeepsMore, Compared, ComparesNext, FindAll}
 
 -- ---- the first job
 

@@ -1,10 +1,6 @@
 -- What is concluded of what was found of the pages.
 use Rattle.std.proofs.Common.{◌≡◌, ℕ, suc, ◌+◌, ◌<◌, List, [], ◌∷◌, ◌++◌, length, take, drop, get_or, Option, Some, None, refl, arith}
-use Rattle.std.specs.List.{AllByRecursion}
-use Rattle.std.proofs.lemmas.List.{take_more, take-append-drop, length-take-le}
-use Rattle.std.proofs.Math.Seq.{drop-cons}
-use Rattle.pcl_same.specs.declared.comparison.Difference.{Difference}
-use Rattle.pcl_same.specs.inner.Pages.{IsAlike, IsFirstFound}
+use Rattle.pcl_same.proofs.Names.{AllByRecursion, take_more, take-append-drop, length-take-le, drop-cons, Difference, IsAlike, IsFirstFound}
 
 -- nothing is found of one page more
 more_alike : (found : List (Option Difference)) {next : Option Difference} → AllByRecursion IsAlike found → IsAlike next

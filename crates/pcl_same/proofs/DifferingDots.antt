@@ -1,17 +1,6 @@
 -- Rows of bits at which rows differ, painted one by one.
 use Rattle.std.proofs.Common.{◌≡◌, ℕ, ◌+◌, ◌-◌, ◌/◌, ◌%◌, ◌<◌, false, ◌&&◌, ◌||◌, nat_eq, List, length, ◌∙◌, arith, inl, inr, refl}
-use Rattle.std.specs.Prelude.{slice_index, nat_lt}
-use Rattle.std.specs.Int.{bit_at}
-use Rattle.std.specs.Int.Bits.{bit_xor}
-use Rattle.std.proofs.lemmas.Bool.Decides.{nat_tests}
-use Rattle.std.proofs.lemmas.List.{get_or_past}
-use Rattle.std.proofs.lemmas.Nat.Bits.{bit_at_xor, bit_at-lt}
-use Rattle.pcl_base.specs.Size.{page_width, page_height}
-use Rattle.pcl_bitmap.specs.Bitmap.{Picture, bit_of_byte, dot_of_row, dot}
-use Rattle.pcl_bitmap.specs.Dots.{raster_dot}
-use Rattle.pcl_same.specs.DifferingDots.{differ}
-use Rattle.std.proofs.lemmas.Bool.{lt-ltb, cases_lt, le-ltb}
-use Rattle.std.proofs.Math.Bool.{or-false}
+use Rattle.pcl_same.proofs.Names.{slice_index, nat_lt, bit_at, bit_xor, nat_tests, get_or_past, bit_at_xor, bit_at-lt, page_width, page_height, Picture, bit_of_byte, dot_of_row, dot, raster_dot, differ, lt-ltb, cases_lt, le-ltb, or-false}
 
 -- ---- the bits of a row
 

@@ -1,20 +1,8 @@
 -- The first difference of what two jobs ask of the printer.
 use Rattle.std.proofs.Common.{◌≡◌, ℕ, suc, ◌+◌, ◌<◌, List, length, map, take, drop, get_or, Option, Some, None, refl, arith}
-use Rattle.std.specs.Prelude.{MatchOption}
-use Rattle.std.specs.Option.{option_or}
-use Rattle.std.proofs.lemmas.List.{take-append-drop, length-take-le, length-map, take_more_same}
-use Rattle.std.proofs.Math.ListN.{get_or-map}
-use Rattle.std.proofs.Math.Seq.{drop-cons}
-use Rattle.pcl_base.specs.declared.operation.Asking.{Asking}
-use Rattle.pcl_base.specs.declared.operation.Asking.TheVariants.{Sides, OutputBin, MediaType, PaperSource, SheetSide}
-use Rattle.pcl_env.specs.declared.asked.Asked.{Asked}
-use Rattle.pcl_page.specs.Asks.{exit_of}
+use Rattle.pcl_same.proofs.Names.{MatchOption, option_or, take-append-drop, length-take-le, length-map, take_more_same, get_or-map, drop-cons, Asking, Sides, OutputBin, MediaType, PaperSource, SheetSide, Asked, exit_of, ExitDifference, SettingDifference, DifferAt, setting_of, order_of, IsFirstSetting, ExitsDifferBy, IsSettingDifference, IsExitDifference}
 use Rattle.pcl_page.specs.declared.asks.Exit.{Exit as ExitOfCode}
 use Rattle.pcl_same.specs.declared.comparison.AsksDifference.TheVariants as exits
-use Rattle.pcl_same.specs.declared.comparison.ExitDifference.{ExitDifference}
-use Rattle.pcl_same.specs.declared.comparison.SettingDifference.{SettingDifference}
-use Rattle.pcl_same.specs.DifferingAsks.{DifferAt, setting_of, order_of, IsFirstSetting, ExitsDifferBy}
-use Rattle.pcl_same.specs.inner.Asking.{IsSettingDifference, IsExitDifference}
 
 -- ---- settings
 

@@ -1,13 +1,6 @@
 -- The first bit at which bytes differ.
 use Rattle.std.proofs.Common.{◌≡◌, ◌≢◌, ℕ, suc, ◌+◌, ◌-◌, ◌*◌, ◌^◌, ◌<◌, ◌≤◌, refl, ap, ◌∙◌, inl, inr, arith}
-use Rattle.std.specs.Int.{bit_at}
-use Rattle.std.specs.Int.Bits.{bit_xor}
-use Rattle.std.specs.Int.Count.{count_leading_zeros}
-use Rattle.std.proofs.lemmas.Bool.{cases_lt}
-use Rattle.std.proofs.lemmas.Bool.Decides.{nat_tests}
-use Rattle.std.proofs.lemmas.Nat.{xor_of_8, leading_top}
-use Rattle.std.proofs.lemmas.Nat.Bits.{bit_at_xor, bit_at-lt, bit_at-zero, bit_at_above, bit_at_cat_high, same_from_bits_below}
-use Rattle.pcl_same.specs.inner.Rows.{IsFirstBit}
+use Rattle.pcl_same.proofs.Names.{bit_at, bit_xor, count_leading_zeros, cases_lt, nat_tests, xor_of_8, leading_top, bit_at_xor, bit_at-lt, bit_at-zero, bit_at_above, bit_at_cat_high, same_from_bits_below, IsFirstBit}
 
 bits_same : (a b i : ℕ) → bit_at (bit_xor a b) i ≡ 0 → bit_at a i ≡ bit_at b i
 bits_same a b i e = omega (arith, bit_at_xor a b i, bit_at-lt a i, bit_at-lt b i)

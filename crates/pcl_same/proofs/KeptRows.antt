@@ -1,23 +1,7 @@
 -- Rows kept as row data, and rows beside them.
 use Rattle.std.proofs.Common.{◌≡◌, ℕ, zero, suc, ◌+◌, ◌-◌, ◌<◌, ◌≤◌, List, [], ◌∷◌, ◌++◌, length, take, drop, replicate, false, refl, sym, ap, ◌∙◌, inl, inr, add-one, arith}
-use Rattle.std.specs.Prelude.{slice_index}
-use Rattle.std.proofs.lemmas.Bool.{cases_lt}
-use Rattle.std.proofs.lemmas.List.{length-append, length-drop, get_or_append_left, get_or_push, take-append-le, drop-append-le, take-replicate}
-use Rattle.std.proofs.Math.Seq.{take-append_seam, drop-append_seam, take-length}
-use Rattle.pcl_base.specs.declared.dpi.Dpi.{Dpi}
+use Rattle.pcl_same.proofs.Names.{slice_index, cases_lt, length-append, length-drop, get_or_append_left, get_or_push, take-append-le, drop-append-le, take-replicate, take-append_seam, drop-append_seam, take-length, Dpi, Delta, page_width, page_height, page_row_bytes, Picture, IsPicture, row_of, dot_of_row, dot, same_dots, row_small, Decodes, one_row, KeptBitmap, IsFirstDot, piece, row_above, MakesRow, IsFirstDotOfRow, IsPiece, data_of, KeepsPicture}
 use Rattle.pcl_base.specs.declared.size.Size.{Size}
-use Rattle.pcl_base.specs.declared.method.Method.TheVariants.{Delta}
-use Rattle.pcl_base.specs.Size.{page_width, page_height, page_row_bytes}
-use Rattle.pcl_bitmap.specs.Bitmap.{Picture, IsPicture, row_of, dot_of_row, dot}
-use Rattle.pcl_bitmap.proofs.Pictures.{same_dots}
-use Rattle.pcl_base.proofs.PageBounds.{row_small}
-use Rattle.pcl_rows.specs.Rows.{Decodes}
-use Rattle.pcl_rows.proofs.OneReading.{one_row}
-use Rattle.pcl_same.specs.declared.kept_bitmap.KeptBitmap.{KeptBitmap}
-use Rattle.pcl_same.specs.Differing.{IsFirstDot}
-use Rattle.pcl_same.specs.Kept.{piece, row_above, MakesRow}
-use Rattle.pcl_same.specs.inner.Rows.{IsFirstDotOfRow, IsPiece}
-use Rattle.pcl_same.specs.Kept.{data_of, KeepsPicture}
 
 -- ---- rows that are kept one after the other
 

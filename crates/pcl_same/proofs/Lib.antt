@@ -1,3 +1,4 @@
+pub mod Names
 pub mod FirstBits
 pub mod KeptRows
 pub mod Beside

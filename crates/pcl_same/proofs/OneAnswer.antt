@@ -1,20 +1,8 @@
 -- Two jobs have one answer.
 use Rattle.std.proofs.Common.{◌≡◌, ◌≢◌, ℕ, zero, suc, ◌<◌, List, [], ◌∷◌, ◌++◌, length, Bool, Result, Ok, Err, refl, arith}
-use Rattle.pcl_base.specs.declared.dpi.Dpi.{Dpi}
-use Rattle.pcl_base.specs.declared.refusal.Refusal.{Refusal}
-use Rattle.pcl_page.specs.Alike.{AreAlike, AllAlike}
-use Rattle.pcl_page.specs.Jobs.{HasPages}
-use Rattle.pcl_page.specs.Delivering.{IsRefusal}
-use Rattle.pcl_page.specs.Situation.{Sheet}
-use Rattle.pcl_same.specs.declared.comparison.Comparison.{Comparison}
-use Rattle.pcl_same.specs.declared.comparison.Comparison.TheVariants.{Same, Page}
-use Rattle.pcl_same.specs.declared.comparison.Difference.{Difference}
-use Rattle.pcl_same.specs.declared.comparison.Difference.TheVariants.{Size, Copies, Dot}
-use Rattle.pcl_same.specs.declared.fault.Job.TheVariants.{First, Second}
-use Rattle.pcl_same.specs.declared.fault.SameFault.{SameFault}
-use Rattle.pcl_same.specs.declared.fault.SameFault.TheVariants.{Refused, Memory}
-use Rattle.pcl_same.specs.Comparing.{Compare, IsCompared}
-use Rattle.pcl_same.specs.Differing.{IsFirstDot, DifferBy, DifferFirst}
+use Rattle.pcl_same.proofs.Names.{Dpi, Refusal, AreAlike, AllAlike, HasPages, IsRefusal, Sheet, Comparison, Same, Difference, Size, Copies, Dot, First, Second, SameFault, Memory, Compare, IsCompared, IsFirstDot, DifferBy, DifferFirst}
+use Rattle.pcl_same.specs.declared.comparison.Comparison.TheVariants.{Page}
+use Rattle.pcl_same.specs.declared.fault.SameFault.TheVariants.{Refused}
 
 -- ---- one page
 

@@ -1,21 +1,9 @@
 -- Two jobs have one answer, what they ask of the printer with it.
 use Rattle.std.proofs.Common.{◌≡◌, ◌≢◌, ℕ, List, [], ◌∷◌, ◌++◌, length, Result, Err, refl, sym, ap, ◌∙◌, arith}
-use Rattle.std.proofs.lemmas.List.{append_cancel_left}
-use Rattle.pcl_base.specs.declared.dpi.Dpi.{Dpi}
-use Rattle.pcl_base.specs.declared.operation.Asking.{Asking}
-use Rattle.pcl_env.specs.declared.asked.Asked.{Asked}
-use Rattle.pcl_page.specs.Asks.{Asks, Exit as UniversalExit}
-use Rattle.pcl_page.specs.Jobs.{HasAsks}
-use Rattle.pcl_same.specs.declared.comparison.AskedComparison.{AskedComparison}
+use Rattle.pcl_same.proofs.Names.{append_cancel_left, Dpi, Asking, Asked, Asks, HasAsks, AskedComparison, AsksDifference, ExitCount, Exit, ExitDifference, SettingDifference, SameFault, Memory, Compare, of_pages, CompareAsks, IsAskedComparison, IsComparedAsked, DifferAt, setting_of, order_of, IsFirstSetting, ExitsDifferBy, AsksDifferBy}
+use Rattle.pcl_page.specs.Asks.{Exit as UniversalExit}
 use Rattle.pcl_same.specs.declared.comparison.AskedComparison.TheVariants as asked
-use Rattle.pcl_same.specs.declared.comparison.AsksDifference.{AsksDifference}
-use Rattle.pcl_same.specs.declared.comparison.AsksDifference.TheVariants.{Page, ExitCount, Exit}
-use Rattle.pcl_same.specs.declared.comparison.ExitDifference.{ExitDifference}
-use Rattle.pcl_same.specs.declared.comparison.SettingDifference.{SettingDifference}
-use Rattle.pcl_same.specs.declared.fault.SameFault.{SameFault}
-use Rattle.pcl_same.specs.declared.fault.SameFault.TheVariants.{Memory}
-use Rattle.pcl_same.specs.Comparing.{Compare, of_pages, CompareAsks, IsAskedComparison, IsComparedAsked}
-use Rattle.pcl_same.specs.DifferingAsks.{DifferAt, setting_of, order_of, IsFirstSetting, ExitsDifferBy, AsksDifferBy}
+use Rattle.pcl_same.specs.declared.comparison.AsksDifference.TheVariants.{Page}
 use Rattle.pcl_same.proofs.OneAnswer.{neither_below, IsAt, one_place, HasOneMeaning, one_comparison, one_result}
 
 -- ---- lists

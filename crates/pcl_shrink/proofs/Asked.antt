@@ -1,16 +1,7 @@
 -- What a job asks for, written around the texts of its pages, one exit or page more.
 use Rattle.std.proofs.Common.{◌≡◌, ◌≢◌, ℕ, suc, ◌+◌, Bool, true, false, ◌==◌, ◌||◌, if◌then◌else◌, List, [], ◌∷◌, ◌++◌, length, map, take, get_or, ◌<◌, ◌≤◌, refl, sym, ap, subst, append_assoc, append-nil, arith}
-use Rattle.std.proofs.lemmas.Bool.Decides.{nat_tests}
-use Rattle.std.proofs.lemmas.List.{length-append, length-map, length-take-le, map_more}
-use Rattle.std.proofs.lemmas.List.Concat.{flat_map-cons}
-use Rattle.std.proofs.lemmas.Grind.{flat_map-append}
-use Rattle.pcl_env.specs.declared.asked.Asked.{Asked}
-use Rattle.pcl_env.specs.Settings.{nothing_asked}
+use Rattle.pcl_shrink.proofs.Names.{nat_tests, length-append, length-map, length-take-le, map_more, flat_map-cons, flat_map-append, Asked, nothing_asked, Asks, Exit, exit_of, Text, least_of, exit_bytes, exit_text, exits_after, is_exit_after, drops, change_text, asked_at, page_start, is_reset_before, asked_pages}
 use Rattle.pcl_page.specs.declared.asks.Exit.{Exit as ExitOfCode}
-use Rattle.pcl_page.specs.Asks.{Asks, Exit, exit_of}
-use Rattle.pcl_shrink.specs.declared.rasters.Text.{Text}
-use Rattle.pcl_shrink.specs.Texts.{least_of}
-use Rattle.pcl_shrink.specs.Asking.{exit_bytes, exit_text, exits_after, is_exit_after, drops, change_text, asked_at, page_start, is_reset_before, asked_pages}
 
 -- ---- exits
 

@@ -1,13 +1,6 @@
 -- A job of least page texts that asks for nothing is a least raster job.
 use Rattle.std.proofs.Common.{◌≡◌, ℕ, zero, suc, List, [], ◌∷◌, ◌++◌, refl, ap, ◌∙◌, append_assoc}
-use Rattle.pcl_base.specs.declared.dpi.Dpi.{Dpi}
-use Rattle.pcl_env.specs.Settings.{nothing_asked}
-use Rattle.pcl_page.specs.Situation.{Sheet}
-use Rattle.pcl_output.specs.Tokens.{frame_bytes}
-use Rattle.pcl_writer.specs.Appending.{IsWrittenPage}
-use Rattle.pcl_meaning.specs.JobTexts.{PrintEach, nothing_for}
-use Rattle.pcl_shrink.specs.Asking.{asked_at, page_start, asked_pages, asked_job}
-use Rattle.pcl_shrink.specs.Texts.{AreLeastTexts}
+use Rattle.pcl_shrink.proofs.Names.{Dpi, nothing_asked, Sheet, frame_bytes, IsWrittenPage, PrintEach, nothing_for, asked_at, page_start, asked_pages, asked_job, AreLeastTexts}
 
 abbrev pub joined : List (List ℕ) → List ℕ
 joined [] = []

@@ -1,3 +1,4 @@
+pub mod Names
 mod Smaller
 mod LeastJobs
 mod Shorter

@@ -1,9 +1,6 @@
 -- The texts of a job's pages, listed.
 use Rattle.std.proofs.Common.{◌≡◌, ℕ, suc, List, [], ◌∷◌, ◌++◌, length, refl, sym, ap, subst, ◌∙◌, append_assoc, append-nil}
-use Rattle.pcl_base.specs.declared.dpi.Dpi.{Dpi}
-use Rattle.pcl_page.specs.Situation.{Sheet}
-use Rattle.pcl_page.specs.Delivering.{Hands}
-use Rattle.pcl_shrink.specs.Texts.{AreLeastTexts, TakesText}
+use Rattle.pcl_shrink.proofs.Names.{Dpi, Sheet, Hands, AreLeastTexts, TakesText}
 
 pub texts_listed : (dpi : Dpi) (sheets : List Sheet) (old : List (List ℕ)) {new : List (List ℕ)} → Hands TakesText dpi sheets old new
     → (texts : List (List ℕ)) × AreLeastTexts dpi sheets texts × (new ≡ old ++ texts)

@@ -1,19 +1,8 @@
 -- What is answered of a candidate beside a job.
 use Rattle.std.proofs.Common.{◌≡◌, ◌≢◌, ℕ, List, Bool, true, false, Decides, Result, Ok, Err, refl, subst}
-use Rattle.std.proofs.lemmas.Bool.{false≢true}
-use Rattle.pcl_base.specs.declared.dpi.Dpi.{Dpi}
-use Rattle.pcl_base.specs.declared.fault.JobFault.{JobFault}
+use Rattle.pcl_shrink.proofs.Names.{false≢true, Dpi, JobFault, Refusal, IsRefusal, AskedComparison, Same, Second, SameFault, IsAskedComparison, IsComparedAsked, IsComparedBeside, SaysIfSame}
 use Rattle.pcl_base.specs.declared.fault.JobFault.TheVariants as faults
-use Rattle.pcl_base.specs.declared.refusal.Refusal.{Refusal}
-use Rattle.pcl_page.specs.Delivering.{IsRefusal}
-use Rattle.pcl_same.specs.declared.comparison.AskedComparison.{AskedComparison}
-use Rattle.pcl_same.specs.declared.comparison.AskedComparison.TheVariants.{Same}
-use Rattle.pcl_same.specs.declared.fault.Job.TheVariants.{Second}
-use Rattle.pcl_same.specs.declared.fault.SameFault.{SameFault}
 use Rattle.pcl_same.specs.declared.fault.SameFault.TheVariants.{Refused, Memory}
-use Rattle.pcl_same.specs.Comparing.{IsAskedComparison, IsComparedAsked}
-use Rattle.pcl_same.specs.Keeping.{IsComparedBeside}
-use Rattle.pcl_shrink.specs.Looking.{SaysIfSame}
 
 -- two jobs have one answer
 abbrev pub OneAnswer : Type 0

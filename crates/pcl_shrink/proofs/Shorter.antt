@@ -1,19 +1,6 @@
 -- The shorter of the best job so far and a proposal, and what comes of it.
 use Rattle.std.proofs.Common.{◌≡◌, ℕ, ◌<◌, ◌≤◌, List, length, ◌++◌, refl, ap, ◌∙◌, arith}
-use Rattle.pcl_base.specs.declared.dpi.Dpi.{Dpi}
-use Rattle.pcl_page.specs.Asks.{Asks}
-use Rattle.pcl_page.specs.Situation.{Sheet}
-use Rattle.pcl_page.specs.Jobs.{HasPages, HasAsks}
-use Rattle.pcl_same.specs.declared.comparison.AskedComparison.TheVariants.{Same}
-use Rattle.pcl_same.specs.Comparing.{IsAskedComparison}
-use Rattle.pcl_output.specs.Tokens.{frame_bytes}
-use Rattle.pcl_meaning.specs.JobTexts.{nothing_for}
-use Rattle.pcl_meaning.proofs.WrittenJobs.{job_of_texts}
-use Rattle.pcl_shrink.specs.Asking.{asked_job}
-use Rattle.pcl_shrink.specs.Texts.{AreLeastTexts}
-use Rattle.pcl_shrink.specs.Shrinking.{IsSmallerJob}
-use Rattle.pcl_shrink.specs.inner.Best.{IsBest, IsShorter}
-use Rattle.pcl_shrink.specs.inner.Proposals.{IsLimit}
+use Rattle.pcl_shrink.proofs.Names.{Dpi, Asks, Sheet, HasPages, HasAsks, Same, IsAskedComparison, frame_bytes, nothing_for, job_of_texts, asked_job, AreLeastTexts, IsSmallerJob, IsBest, IsShorter, IsLimit}
 use Rattle.pcl_shrink.proofs.Smaller.{OnePages, OneAsks, AskNothing, same_as_raster, proposal_smaller}
 use Rattle.pcl_shrink.proofs.LeastJobs.{joined, print_each, job_of_nothing}
 

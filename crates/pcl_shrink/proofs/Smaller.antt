@@ -1,17 +1,6 @@
 -- Smaller jobs with the same pages, which ask for the same.
 use Rattle.std.proofs.Common.{◌≡◌, ℕ, ◌<◌, List, [], ◌∷◌, length, refl, sym, subst, arith}
-use Rattle.pcl_base.specs.declared.dpi.Dpi.{Dpi}
-use Rattle.pcl_page.specs.Asks.{Asks, asks_of}
-use Rattle.pcl_page.specs.Situation.{Sheet}
-use Rattle.pcl_page.specs.Jobs.{HasPages, HasAsks}
-use Rattle.pcl_page.specs.Alike.{AllAlike}
-use Rattle.pcl_same.specs.declared.comparison.AskedComparison.TheVariants.{Same}
-use Rattle.pcl_same.specs.declared.keeping.KeptJob.{KeptJob}
-use Rattle.pcl_same.specs.Comparing.{IsAskedComparison}
-use Rattle.pcl_same.specs.Keeping.{IsKept}
-use Rattle.pcl_meaning.specs.JobTexts.{nothing_for, IsJobOf}
-use Rattle.pcl_shrink.specs.Shrinking.{PrintsAlike, IsSmallerJob}
-use Rattle.pcl_shrink.specs.inner.Best.{IsBest}
+use Rattle.pcl_shrink.proofs.Names.{Dpi, Asks, asks_of, Sheet, HasPages, HasAsks, AllAlike, Same, KeptJob, IsAskedComparison, IsKept, nothing_for, IsJobOf, PrintsAlike, IsSmallerJob, IsBest}
 
 -- a job has one list of pages, and asks for one thing
 abbrev pub OnePages : Type 0

@@ -1,24 +1,8 @@
 -- A job whose pages are all answered Proved is.
 use Rattle.std.proofs.Common.{◌≡◌, ℕ, List, [], ◌∷◌, ◌++◌, length, Ok, refl, sym, ap, ◌∙◌, append_assoc, arith}
-use Rattle.std.proofs.lemmas.List.{length-append, append_cancel_left, append_cancel_right}
-use Rattle.pcl_base.proofs.Lists.{same_fronts}
-use Rattle.pcl_base.specs.declared.dpi.Dpi.{Dpi}
-use Rattle.pcl_page.specs.Situation.{Sheet}
-use Rattle.pcl_page.specs.Jobs.{HasPages}
-use Rattle.pcl_output.specs.Tokens.{frame_bytes}
-use Rattle.pcl_cert.specs.declared.check.Verdict.{Verdict}
+use Rattle.pcl_tool.proofs.Names.{length-append, append_cancel_left, append_cancel_right, same_fronts, Dpi, Sheet, HasPages, frame_bytes, Verdict, Format, PageProof, certificate_at, certificate_again, pages_same, JobVerdict, AreProved, IsCertifiedJobOf, IsCertifiedBy, AreCompared, IsFirstFailure, IsJobVerdict, text_bytes}
 use Rattle.pcl_cert.specs.declared.fault.CertFault.TheVariants.{Memory}
-use Rattle.pcl_cert.specs.declared.format.Format.{Format}
-use Rattle.pcl_cert.specs.declared.page_proof.PageProof.{PageProof}
-use Rattle.pcl_cert.specs.ReadingCertificates.{certificate_at}
-use Rattle.pcl_cert.proofs.PagesSpelled.{certificate_again}
-use Rattle.pcl_meaning.proofs.SamePages.{pages_same}
-use Rattle.pcl_tool.specs.declared.job_verdict.JobVerdict.{JobVerdict}
 use Rattle.pcl_tool.specs.declared.job_verdict.JobVerdict.TheVariants as job
-use Rattle.pcl_tool.specs.Certified.{AreProved}
-use Rattle.pcl_tool.specs.Minimizing.{IsCertifiedJobOf}
-use Rattle.pcl_tool.specs.LeastJobs.{IsCertifiedBy}
-use Rattle.pcl_tool.specs.JobVerdicts.{AreCompared, IsFirstFailure, IsJobVerdict, text_bytes}
 use Rattle.pcl_tool.proofs.SameVerdicts.{verdict_again}
 
 -- ---- texts as long as their proofs say

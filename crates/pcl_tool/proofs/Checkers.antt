@@ -1,20 +1,8 @@
 -- What the checker of pages has found after the last page.
 use Rattle.std.proofs.Common.{◌≡◌, ℕ, ◌+◌, List, [], ◌∷◌, ◌++◌, length, take, drop, refl, sym, append_assoc, arith}
-use Rattle.std.proofs.lemmas.List.{length-drop, length-take-le, take-append-drop, drop-drop, nil_from_length}
-use Rattle.pcl_base.specs.declared.dpi.Dpi.{Dpi}
-use Rattle.pcl_bitmap.specs.declared.page.Page.{Page}
-use Rattle.pcl_page.specs.Situation.{Sheet}
-use Rattle.pcl_page.specs.Performing.{Shows}
-use Rattle.pcl_page.specs.Delivering.{Hands}
+use Rattle.pcl_tool.proofs.Names.{length-drop, length-take-le, take-append-drop, drop-drop, nil_from_length, Dpi, Page, Sheet, Shows, Hands, PageProof, JobVerdict, Checker, IsAnswered, AreProved, IsFirstFailure, text_bytes, IsFound, FindsNext, TakesPage, proofs_left, answer}
 use Rattle.pcl_cert.specs.declared.check.Verdict.TheVariants as verdicts
-use Rattle.pcl_cert.specs.declared.page_proof.PageProof.{PageProof}
-use Rattle.pcl_tool.specs.declared.job_verdict.JobVerdict.{JobVerdict}
 use Rattle.pcl_tool.specs.declared.job_verdict.JobVerdict.TheVariants as job
-use Rattle.pcl_tool.specs.declared.page_checks.Checker.{Checker}
-use Rattle.pcl_tool.specs.Certified.{IsAnswered, AreProved}
-use Rattle.pcl_tool.specs.JobVerdicts.{IsFirstFailure, text_bytes}
-use Rattle.pcl_tool.specs.inner.PageChecks.{IsFound}
-use Rattle.pcl_tool.specs.inner.CheckerSteps.{FindsNext, TakesPage, proofs_left, answer}
 
 -- what is found wrong stays
 wrong_stays : (found : JobVerdict) (proof : PageProof) (old new : Checker) (page : Page) → (found ≡ job.Proved → ⊥)

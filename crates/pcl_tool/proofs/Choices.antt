@@ -1,23 +1,6 @@
 -- Which page the sink keeps.
 use Rattle.std.proofs.Common.{◌≡◌, ℕ, suc, zero, ◌-◌, ◌≤◌, List, [], ◌∷◌, length, Option, Some, None, Result, Ok, Err, inl, inr, refl, ap, ◌∙◌, arith, eqb, false}
-use Rattle.std.proofs.Math.Numerals.{sub-one}
-use Rattle.std.proofs.lemmas.Bool.Decides.{nat_tests}
-use Rattle.std.specs.Prelude.{slice_get}
-use Rattle.std.proofs.KnownBytes.{Keeps-refl}
-use Rattle.std.specs.Option.{SomeIff, ok_or}
-use Rattle.pcl_base.specs.declared.dpi.Dpi.{Dpi}
-use Rattle.pcl_bitmap.specs.Bitmap.{Picture}
-use Rattle.pcl_bitmap.specs.declared.page.Page.{Page}
-use Rattle.pcl_page.specs.Situation.{Sheet}
-use Rattle.pcl_page.specs.Performing.{Shows}
-use Rattle.pcl_page.specs.Delivering.{Hands}
-use Rattle.pcl_tool.specs.declared.page_preview.Chosen.{Chosen}
-use Rattle.pcl_page.specs.Jobs.{HasPages}
-use Rattle.pcl_tool.specs.declared.fault.Fault.{Fault}
-use Rattle.pcl_tool.specs.declared.fault.Fault.TheVariants.{Refused, Memory, WriteFault, NoSuchPage}
-use Rattle.pcl_tool.specs.Image.{image_of, IsImageWritten}
-use Rattle.pcl_tool.specs.Preview.{HasPage, IsPageDots, IsPreview}
-use Rattle.pcl_tool.specs.inner.Choice.{chosen_after}
+use Rattle.pcl_tool.proofs.Names.{sub-one, nat_tests, slice_get, Keeps-refl, SomeIff, ok_or, Dpi, Picture, Page, Sheet, Shows, Hands, Chosen, HasPages, Fault, Refused, Memory, WriteFault, NoSuchPage, image_of, IsImageWritten, HasPage, IsPageDots, IsPreview, chosen_after}
 
 abbrev pub takes : Chosen → Page → Chosen → Type 0
 takes old page new = new ≡ chosen_after old.skip old page.bitmap

@@ -1,15 +1,6 @@
 -- What writers hold after a filter.
 use Rattle.std.proofs.Common.{ℕ, ◌≤◌, List, length, Option, Result, Ok, Err, inl, inr, arith}
-use Rattle.std.specs.Io.KnownBytes.{Appends}
-use Rattle.std.proofs.KnownBytes.{Keeps-refl}
-use Rattle.pcl_base.specs.declared.dpi.Dpi.{Dpi}
-use Rattle.pcl_meaning.specs.JobTexts.{IsJobOf}
-use Rattle.pcl_cert.specs.declared.format.Format.{Format}
-use Rattle.pcl_tool.specs.declared.fault.Fault.{Fault}
-use Rattle.pcl_tool.specs.declared.fault.Fault.TheVariants.{Refused, Memory, ReadFault, TooLong, WriteFault}
-use Rattle.pcl_tool.specs.Transfer.{IsReadAll, IsWritten}
-use Rattle.pcl_tool.specs.Minimizing.{IsCertifiedJobOf, IsRead, IsFiltered, IsFilteredCert, input_limit}
-use Rattle.pcl_tool.specs.Writing.{IsJobWritten}
+use Rattle.pcl_tool.proofs.Names.{Appends, Keeps-refl, Dpi, IsJobOf, Format, Fault, Refused, Memory, ReadFault, TooLong, WriteFault, IsReadAll, IsWritten, IsCertifiedJobOf, IsRead, IsFiltered, IsFilteredCert, input_limit, IsJobWritten}
 
 -- the job wasn't read whole, and nothing was written
 pub not_read : (dpi : Dpi) (given left out : Option (List ℕ)) (fault : Fault)

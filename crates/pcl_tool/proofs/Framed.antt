@@ -1,9 +1,7 @@
 -- What stands between two resets.
 use Rattle.std.proofs.Common.{◌≡◌, ℕ, List, ◌++◌, Option, Some, None, sym, ◌∙◌}
 use Rattle.std.specs.Prelude.{◌≢◌, MatchOption}
-use Rattle.std.specs.Borrow.{Bor}
-use Rattle.std.proofs.lemmas.List.{append_cancel_left}
-use Rattle.pcl_output.specs.Tokens.{frame_bytes}
+use Rattle.pcl_tool.proofs.Names.{Bor, append_cancel_left, frame_bytes}
 
 -- the front is a reset, and what stands after it ends in one or doesn't
 pub framed_is : {output rest : List ℕ} (texts : Option (Bor (List ℕ))) → output ≡ frame_bytes ++ rest

@@ -1,12 +1,6 @@
 -- The claim holds of what is written with a certificate.
-use Rattle.std.proofs.Common.{ℕ, List}
-use Rattle.pcl_base.specs.declared.dpi.Dpi.{Dpi}
-use Rattle.pcl_cert.specs.declared.format.Format.{Format}
+use Rattle.pcl_tool.proofs.Names.{ℕ, List, Dpi, Format, IsJobVerdict, IsCertifiedBy, IsCertifiedJobOf, TheClaim}
 use Rattle.pcl_tool.specs.declared.job_verdict.JobVerdict.TheVariants.{Proved}
-use Rattle.pcl_tool.specs.JobVerdicts.{IsJobVerdict}
-use Rattle.pcl_tool.specs.LeastJobs.{IsCertifiedBy}
-use Rattle.pcl_tool.specs.Minimizing.{IsCertifiedJobOf}
-use Rattle.pcl_tool.specs.Headline.{TheClaim}
 use Rattle.pcl_tool.proofs.CertifiedJobs.{OnePages, read_again, proved_length, certified_proved, written_certified}
 use Rattle.pcl_tool.proofs.LeastTexts.{written_least, proved_least_job}
 

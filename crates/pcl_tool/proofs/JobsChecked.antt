@@ -1,20 +1,8 @@
 -- What the checker of a job answers after the last page.
-use Rattle.std.proofs.lemmas.Bool.{cases_eq}
+use Rattle.pcl_tool.proofs.Names.{cases_eq, Dpi, Sheet, Hands, HasPages, CertFault, Format, PageProof, Fails, certificate_at, JobVerdict, Checker, AreCompared, IsFramed, IsJobVerdict, BeginsWith, IsBegun, TakesPage, proofs_left, answer}
 use Rattle.std.proofs.Common.{◌≡◌, ℕ, zero, suc, inl, inr, List, length, refl, arith, Ok}
-use Rattle.pcl_base.specs.declared.dpi.Dpi.{Dpi}
-use Rattle.pcl_page.specs.Situation.{Sheet}
-use Rattle.pcl_page.specs.Delivering.{Hands}
-use Rattle.pcl_page.specs.Jobs.{HasPages}
-use Rattle.pcl_cert.specs.declared.fault.CertFault.{CertFault}
 use Rattle.pcl_cert.specs.declared.fault.CertFault.TheVariants.{Memory}
-use Rattle.pcl_cert.specs.declared.format.Format.{Format}
-use Rattle.pcl_cert.specs.declared.page_proof.PageProof.{PageProof}
-use Rattle.pcl_cert.specs.ReadingCertificates.{Fails, certificate_at}
-use Rattle.pcl_tool.specs.declared.job_verdict.JobVerdict.{JobVerdict}
 use Rattle.pcl_tool.specs.declared.job_verdict.JobVerdict.TheVariants as job
-use Rattle.pcl_tool.specs.declared.page_checks.Checker.{Checker}
-use Rattle.pcl_tool.specs.JobVerdicts.{AreCompared, IsFramed, IsJobVerdict}
-use Rattle.pcl_tool.specs.inner.CheckerSteps.{BeginsWith, IsBegun, TakesPage, proofs_left, answer}
 use Rattle.pcl_tool.proofs.Checkers.{stays, none_left, miscounted, IsOutcome, outcome}
 
 -- what is found of as many pages as there are proofs

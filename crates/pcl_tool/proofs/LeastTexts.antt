@@ -1,16 +1,7 @@
 -- Written page texts are least, and so are those that the checker answers Proved.
 use Rattle.std.proofs.Common.{ℕ, List, [], ◌∷◌, arith}
-use Rattle.pcl_base.specs.declared.dpi.Dpi.{Dpi}
-use Rattle.pcl_page.specs.Situation.{Sheet}
-use Rattle.pcl_cert.specs.declared.page_proof.PageProof.{PageProof}
-use Rattle.pcl_cert.proofs.ProvedLeast.{proved_least}
-use Rattle.pcl_writer.specs.Appending.{IsWrittenPage}
-use Rattle.pcl_meaning.specs.JobTexts.{PrintEach, PrintsShortest, IsLeastJobText, IsJobOf}
-use Rattle.pcl_meaning.proofs.SamePages.{least_job}
+use Rattle.pcl_tool.proofs.Names.{Dpi, Sheet, PageProof, proved_least, IsWrittenPage, PrintEach, PrintsShortest, IsLeastJobText, IsJobOf, least_job, AreProved, IsJobVerdict, IsLeastJobOf}
 use Rattle.pcl_tool.specs.declared.job_verdict.JobVerdict.TheVariants as job
-use Rattle.pcl_tool.specs.Certified.{AreProved}
-use Rattle.pcl_tool.specs.JobVerdicts.{IsJobVerdict}
-use Rattle.pcl_tool.specs.LeastJobs.{IsLeastJobOf}
 
 written_texts : (dpi : Dpi) (sheets : List Sheet) (texts : List ℕ) → PrintEach IsWrittenPage dpi sheets texts
     → PrintEach PrintsShortest dpi sheets texts

@@ -1,9 +1,7 @@
 -- What is left after a place of a list.
 use Rattle.std.proofs.Common.{◌≡◌, ℕ, zero, suc, ◌<◌, List, [], ◌∷◌, length, drop, refl, arith}
-use Rattle.pcl_cert.specs.declared.page_proof.PageProof.{PageProof}
-use Rattle.pcl_tool.specs.declared.job_verdict.JobVerdict.{JobVerdict}
+use Rattle.pcl_tool.proofs.Names.{PageProof, JobVerdict, answer}
 use Rattle.pcl_tool.specs.declared.job_verdict.JobVerdict.TheVariants as job
-use Rattle.pcl_tool.specs.inner.CheckerSteps.{answer}
 
 pub answer_more : (k : ℕ) (proofs : List PageProof) (found : JobVerdict) → k < length proofs → answer (drop k proofs) found ≡ job.PageCount
 answer_more zero (proof ∷ proofs) found lt = refl

@@ -1,35 +1,9 @@
 -- The page texts that a sink gathers, and what proves them.
 use Rattle.pcl_cert.specs.declared.check.Verdict.TheVariants as verdicts
 use Rattle.std.proofs.Common.{◌≡◌, ℕ, ◌+◌, ◌^◌, ◌<◌, List, [], ◌∷◌, ◌++◌, Option, Some, None, Ok, Err, length, refl, sym, ap, subst, ◌∙◌, append_assoc, arith}
-use Rattle.std.specs.List.{AllByRecursion}
-use Rattle.std.proofs.lemmas.List.{append-nil, length-append}
-use Rattle.pcl_base.specs.declared.dpi.Dpi.{Dpi}
-use Rattle.pcl_base.specs.declared.fault.JobFault.{JobFault}
+use Rattle.pcl_tool.proofs.Names.{AllByRecursion, append-nil, length-append, Dpi, JobFault, Page, Sheet, Shows, Hands, IsRefusal, HasPages, frame_bytes, IsPlanOf, StepsAndTable, table_of_plan, IsWrittenPage, Format, One, Two, PageProof, IsProof, certificate_bytes, proof_in, HasLeastLists, AreLeastOf, table_proved, table_certified, PrintEach, job_fits, AreProved, IsAnswered, Fault, Output, fault_of, RefusedOrMemory, HasTaken, SoFar, IsOutput, IsProvedIn, Proves, TakesText}
 use Rattle.pcl_base.specs.declared.fault.JobFault.TheVariants.{Refused, Memory}
-use Rattle.pcl_bitmap.specs.declared.page.Page.{Page}
-use Rattle.pcl_page.specs.Situation.{Sheet}
-use Rattle.pcl_page.specs.Performing.{Shows}
-use Rattle.pcl_page.specs.Delivering.{Hands, IsRefusal}
-use Rattle.pcl_page.specs.Jobs.{HasPages}
-use Rattle.pcl_output.specs.Tokens.{frame_bytes}
-use Rattle.pcl_plan.specs.PagePlans.{IsPlanOf}
-use Rattle.pcl_plan.specs.Plans.{StepsAndTable}
-use Rattle.pcl_plan.proofs.Planned.{table_of_plan}
-use Rattle.pcl_writer.specs.Appending.{IsWrittenPage}
-use Rattle.pcl_cert.specs.declared.format.Format.{Format}
-use Rattle.pcl_cert.specs.declared.format.Format.TheVariants.{One, Two}
-use Rattle.pcl_cert.specs.declared.page_proof.PageProof.{PageProof}
-use Rattle.pcl_cert.specs.Certificates.{IsProof, certificate_bytes, proof_in}
-use Rattle.pcl_cert.specs.Checking.{HasLeastLists, AreLeastOf}
-use Rattle.pcl_cert.proofs.TablesProved.{table_proved, table_certified}
-use Rattle.pcl_meaning.specs.JobTexts.{PrintEach}
-use Rattle.pcl_meaning.proofs.Jobs.{job_fits}
-use Rattle.pcl_tool.specs.Certified.{AreProved, IsAnswered}
-use Rattle.pcl_tool.specs.declared.fault.Fault.{Fault}
-use Rattle.pcl_tool.specs.declared.minimizing.Output.{Output}
-use Rattle.pcl_tool.specs.JobFaults.{fault_of, RefusedOrMemory}
-use Rattle.pcl_tool.specs.Watching.{HasTaken}
-use Rattle.pcl_tool.specs.inner.WrittenJobs.{SoFar, IsBegun, IsOutput, IsProvedIn, Proves, TakesText}
+use Rattle.pcl_tool.specs.inner.WrittenJobs.{IsBegun}
 use Rattle.pcl_meaning.proofs.WrittenJobs.{job_of_texts}
 
 -- ---- one page

@@ -2,8 +2,7 @@
 use Rattle.std.proofs.Common.{◌≡◌, length, drop, ap}
 use denote.Struct.Props.{props}
 use Rattle.pcl_tool.specs.declared.job_verdict.JobVerdict.TheVariants as job
-use Rattle.pcl_tool.specs.declared.page_checks.Checker.{Checker}
-use Rattle.pcl_tool.specs.JobVerdicts.{text_bytes}
+use Rattle.pcl_tool.proofs.Names.{Checker, text_bytes}
 
 -- whatever proof it keeps
 pub again : {c : Checker} (kept : c.found ≡ job.Proved → length c.texts.now ≡ text_bytes (drop c.taken c.proofs.now))

@@ -1,21 +1,6 @@
 -- Where a text is answered Proved for one page, it is for each page that shows the same sheet.
 use Rattle.std.proofs.Common.{◌≡◌, ℕ, ◌+◌, ◌*◌, ◌<◌, ◌≤◌, Bool, List, Some, None, length, refl}
-use Rattle.pcl_base.specs.declared.method.Method.{Method}
-use Rattle.pcl_base.specs.Size.{page_height, page_row_bytes}
-use Rattle.pcl_bitmap.specs.declared.page.Page.{Page}
-use Rattle.pcl_output.specs.LeastTexts.{fixed_bytes}
-use Rattle.pcl_output.specs.Nodes.{row_at, row_above, start}
-use Rattle.pcl_output.specs.PageText.{IsPageText, bitmap_rows}
-use Rattle.pcl_output.specs.Table.{node_number}
-use Rattle.pcl_output.specs.declared.table.RowNumbers.{RowNumbers}
-use Rattle.pcl_check.specs.Edges.{IsGoodNumber, IsLeastOfRow}
-use Rattle.pcl_check.specs.Places.{IsGoodPlace}
-use Rattle.pcl_cert.specs.declared.check.Verdict.{Verdict}
-use Rattle.pcl_cert.specs.declared.check.Verdict.TheVariants.{NotGrammar, OtherPage, Rows, Place, Edge, Length, Proved}
-use Rattle.pcl_cert.specs.RowTables.{list_of, number_at_place}
-use Rattle.pcl_cert.specs.PageTables.{table_of}
-use Rattle.pcl_cert.specs.Checking.{Tables, IsVerdict}
-use Rattle.pcl_meaning.proofs.SamePages.{AreSame, moved}
+use Rattle.pcl_tool.proofs.Names.{Method, page_height, page_row_bytes, Page, fixed_bytes, row_at, row_above, start, IsPageText, bitmap_rows, node_number, RowNumbers, IsGoodNumber, IsLeastOfRow, IsGoodPlace, Verdict, NotGrammar, OtherPage, Rows, Place, Edge, Length, Proved, list_of, number_at_place, table_of, Tables, IsVerdict, AreSame, moved}
 
 -- a text that is answered Proved for one is for the other
 proved_again : {page other : Page} {text : List ℕ} (table : List RowNumbers) (tables : Tables) → AreSame page other

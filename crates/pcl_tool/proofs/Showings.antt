@@ -1,22 +1,7 @@
 -- What a sink holds that made images of the pages of a job.
 use Rattle.std.proofs.Common.{◌≡◌, ℕ, suc, zero, List, [], ◌∷◌, ◌++◌, length, Bool, true, false, Option, Result, Ok, Err, refl, sym, ap, subst, ◌∙◌, arith, append_assoc, append-nil, eqb}
 use Rattle.std.specs.Prelude.{◌↔◌}
-use Rattle.std.proofs.Math.Numerals.{sub-one}
-use Rattle.std.proofs.Math.Seq.{take-nil, drop-nil}
-use Rattle.std.proofs.lemmas.Bool.Decides.{nat_tests}
-use Rattle.std.proofs.KnownBytes.{Keeps-refl}
-use Rattle.pcl_base.specs.declared.dpi.Dpi.{Dpi}
-use Rattle.pcl_bitmap.specs.declared.page.Page.{Page}
-use Rattle.pcl_page.specs.Situation.{Sheet}
-use Rattle.pcl_page.specs.Jobs.{HasPages}
-use Rattle.pcl_page.specs.Delivering.{AllShow, Hands}
-use Rattle.pcl_tool.specs.declared.fault.Fault.{Fault}
-use Rattle.pcl_tool.specs.declared.fault.Fault.TheVariants.{Refused, Memory, WriteFault, NoSuchPage}
-use Rattle.pcl_tool.specs.declared.page_images.PageChoice.{PageChoice}
-use Rattle.pcl_tool.specs.declared.page_images.PageChoice.TheVariants.{All, Range}
-use Rattle.pcl_tool.specs.Transfer.{IsWritten}
-use Rattle.pcl_tool.specs.PageImages.{chosen, AreThere, images_of, AreImagesOf, LacksPage, ArePageImages, IsPagesPreview}
-use Rattle.pcl_tool.specs.inner.Showing.{Showing, later, next_image, shown_after, IsMet, IsMetBy}
+use Rattle.pcl_tool.proofs.Names.{sub-one, take-nil, drop-nil, nat_tests, Keeps-refl, Dpi, Page, Sheet, HasPages, AllShow, Hands, Fault, Refused, Memory, WriteFault, NoSuchPage, PageChoice, All, Range, IsWritten, chosen, AreThere, images_of, AreImagesOf, LacksPage, ArePageImages, IsPagesPreview, Showing, later, next_image, shown_after, IsMet, IsMetBy}
 
 abbrev pub shows_next : Showing → Page → Showing → Type 0
 shows_next old page new = new ≡ shown_after old page

@@ -1,12 +1,6 @@
 -- What a writer holds of an image.
 use Rattle.std.proofs.Common.{◌≡◌, ℕ, List, ◌++◌, Option, Result, Ok, Err, append_assoc}
-use Rattle.std.specs.Io.KnownBytes.{Appends}
-use Rattle.std.proofs.KnownBytes.{Appends-trans}
-use Rattle.pcl_bitmap.specs.Bitmap.{Picture}
-use Rattle.pcl_tool.specs.declared.fault.Fault.{Fault}
-use Rattle.pcl_tool.specs.declared.fault.Fault.TheVariants.{WriteFault}
-use Rattle.pcl_tool.specs.Transfer.{IsWritten}
-use Rattle.pcl_tool.specs.Image.{header_of, IsImageWritten}
+use Rattle.pcl_tool.proofs.Names.{Appends, Appends-trans, Picture, Fault, WriteFault, IsWritten, header_of, IsImageWritten}
 
 -- where a write fails nothing else is
 pub stopped_in_header : (old new : Option (List ℕ)) (picture : Picture) {text : List ℕ} (fault : Fault)

@@ -1,14 +1,6 @@
 -- Unfolding only adds items to a list, so the situation at a macro's start is found again at its end.
 use Rattle.std.proofs.Common.{◌≡◌, ℕ, ◌+◌, ◌-◌, zero, suc, Bool, true, false, List, [], ◌∷◌, ◌++◌, length, Option, Some, None, Result, Ok, Err, refl, sym, ap, ◌∙◌, append_assoc, length-append, arith, if◌then◌else◌}
-use Rattle.pcl_base.specs.declared.dpi.Dpi.{Dpi}
-use Rattle.pcl_base.specs.declared.kind.Kind.{Kind}
-use Rattle.pcl_base.specs.declared.refusal.Refusal.{Refusal}
-use Rattle.pcl_escape.specs.Said.{Said}
-use Rattle.pcl_macros.specs.History.{MacroBody}
-use Rattle.pcl_page.specs.declared.macros.Action.{Action}
-use Rattle.pcl_page.specs.Situation.{Situation}
-use Rattle.pcl_page.specs.Macros.{after_command}
-use Rattle.pcl_unfolding.specs.FlatList.{Item, performed, enter, situations, now, ago, Unfolding, goes_on, unless, in_turn, is_kept, control_of, body_run, end_of, commands_in, Bodies, with_body, with_command, add, ended_by, unfolded}
+use Rattle.pcl_unfolding.proofs.Names.{Dpi, Kind, Refusal, Said, MacroBody, Action, Situation, after_command, Item, performed, enter, situations, now, ago, Unfolding, goes_on, unless, in_turn, is_kept, control_of, body_run, end_of, commands_in, Bodies, with_body, with_command, add, ended_by, unfolded}
 
 -- ---- lists that go on
 

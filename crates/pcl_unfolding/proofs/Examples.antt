@@ -1,14 +1,9 @@
 -- Small jobs, unfolded by hand.
 use Rattle.std.proofs.Common.{◌≡◌, ◌*◌, ℕ, List, [], ◌∷◌, refl}
-use Rattle.pcl_base.specs.declared.dpi.Dpi.TheVariants.{Dpi300}
-use Rattle.pcl_base.specs.declared.name.Name.{Name}
-use Rattle.pcl_base.specs.declared.name.Name.TheVariants.{Three}
-use Rattle.pcl_base.specs.declared.value.Sign.TheVariants.{Absent}
+use Rattle.pcl_unfolding.proofs.Names.{Dpi300, Name, Three, Absent, Said, performed, enter, return, now, flat_list}
 use Rattle.pcl_base.specs.Operation.{operation_of}
 use Rattle.pcl_env.specs.Outcome.{outcome}
-use Rattle.pcl_escape.specs.Said.{Said}
 use Rattle.pcl_page.specs.Situation.{after}
-use Rattle.pcl_unfolding.specs.FlatList.{performed, enter, return, now, flat_list}
 
 -- a command with a whole number, whose place in the job says nothing here
 abbrev says : Name → ℕ → Said

@@ -1,3 +1,4 @@
+pub mod Names
 pub mod Added
 pub mod Told
 pub mod Examples

@@ -1,26 +1,8 @@
 -- Performing and unfolding say the same.
 use Rattle.std.proofs.Common.{◌≡◌, ℕ, ◌+◌, ◌-◌, zero, suc, Bool, true, false, List, [], ◌∷◌, length, Option, Some, None, Result, Ok, Err, refl, sym, ap, subst, ◌∙◌, if◌then◌else◌, arith}
 use Rattle.std.specs.Prelude.{◌&&◌}
-use Rattle.std.specs.Option.{option_map}
-use Rattle.pcl_base.specs.declared.dpi.Dpi.{Dpi}
-use Rattle.pcl_base.specs.declared.kind.Kind.{Kind}
-use Rattle.pcl_base.specs.declared.operation.Operation.{Operation}
-use Rattle.pcl_base.specs.declared.operation.Operation.TheVariants.{ControlMacros}
-use Rattle.pcl_base.specs.declared.refusal.Refusal.{Refusal}
-use Rattle.pcl_base.specs.declared.value.Value.{Value}
-use Rattle.pcl_base.specs.Limits.{macro_limit}
-use Rattle.pcl_base.specs.Operation.{operation_of}
-use Rattle.pcl_env.specs.Settings.{Settings, kept}
-use Rattle.pcl_escape.specs.Said.{Said}
-use Rattle.pcl_macros.specs.History.{MacroBody}
-use Rattle.pcl_page.specs.declared.macros.Action.{Action}
-use Rattle.pcl_page.specs.declared.macros.Action.TheVariants.{Call}
-use Rattle.pcl_page.specs.declared.macros.Keeping.{Keeping}
-use Rattle.pcl_page.specs.declared.macros.Keeping.TheVariants.{Ends}
-use Rattle.pcl_page.specs.Situation.{Situation}
-use Rattle.pcl_page.specs.Macros.{Run, run_with, run_by, run_from, macro_ended, keeping_of, counting, defining, after_command}
-use Rattle.pcl_page.specs.Performing.{Performance, done, then_on, unless as unless_performed, in_order, concluded, and_run, step, runs, after_end}
-use Rattle.pcl_unfolding.specs.FlatList.{Item, performed, enter, situations, now, ago, or_as_before, Unfolding, goes_on, unless, in_turn, keeps, control_in, body_run, commands_in, Bodies, with_body, with_command, add, ended_by, unfolded, performed_by, PerformingIsUnfolding}
+use Rattle.pcl_unfolding.proofs.Names.{option_map, Dpi, Kind, Operation, ControlMacros, Refusal, Value, macro_limit, operation_of, Settings, kept, Said, MacroBody, Action, Call, Keeping, Ends, Situation, Run, run_with, run_by, run_from, macro_ended, keeping_of, counting, defining, after_command, Performance, done, then_on, in_order, concluded, and_run, step, runs, after_end, Item, performed, enter, situations, now, ago, or_as_before, Unfolding, goes_on, unless, in_turn, keeps, control_in, body_run, commands_in, Bodies, with_body, with_command, add, ended_by, unfolded, performed_by, PerformingIsUnfolding}
+use Rattle.pcl_page.specs.Performing.{unless as unless_performed}
 use Rattle.pcl_unfolding.proofs.Added.{GoesOn, within, unfolded_adds, looked_back}
 
 -- ---- one after the other

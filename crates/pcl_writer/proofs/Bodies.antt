@@ -1,32 +1,8 @@
 -- The body of a page along the steps of its plan.
 use Rattle.std.proofs.Common.{◌≡◌, ℕ, ◌≤◌, Bool, true, false, List, [], ◌∷◌, ◌++◌, length, drop, refl, sym, ap, subst, ◌∙◌, inl, inr, append_assoc, arith}
-use Rattle.std.proofs.Math.ListN.{drop_of_length-le}
-use Rattle.std.proofs.lemmas.Bool.{cases_lt}
-use Rattle.std.proofs.lemmas.Bool.Decides.{nat_tests}
+use Rattle.pcl_writer.proofs.Names.{drop_of_length-le, cases_lt, nat_tests, flat_map, append-nil, drop_more, flat_map-append, Method, method_code, Picture, IsLeastLength, AppendsLeast, Walk, total, IsFeasible, Step, Skip, Switch, Row, Token, opening, method, skip, send, token_bytes, IsSpelled, bitmap_rows, Node, start, row_at, Leads, Ends, cost, stays_inside, node_after, least_spelling, node_number, StepsAndTable, IsTokenOf, opened, is_last, node, cost_opening, cost_send, least_alone, opened_more, spells_any, step_is_least, sent_is_least, width_of, above, IsBitmapPlan, IsWritable, HasRowData, AppendsRow, AppendsStep, AppendsBody}
 use Rattle.std.specs.Prelude.{not, ◌&&◌, ◌==◌}
-use Rattle.std.specs.List.{flat_map}
-use Rattle.std.proofs.lemmas.List.{append-nil, drop_more}
-use Rattle.std.proofs.lemmas.List.Concat.{flat_map-append}
-use Rattle.pcl_base.specs.declared.method.Method.{Method}
-use Rattle.pcl_base.specs.Method.{method_code}
-use Rattle.pcl_bitmap.specs.Bitmap.{Picture}
-use Rattle.pcl_coders.specs.Coding.{IsLeastLength, AppendsLeast}
-use Rattle.pcl_base.specs.Walks.{Walk, total, IsFeasible}
-use Rattle.pcl_output.specs.declared.step.Step.{Step}
-use Rattle.pcl_output.specs.declared.step.Step.TheVariants.{Skip, Switch, Row}
-use Rattle.pcl_output.specs.Tokens.{Token, opening, method, skip, send, token_bytes, IsSpelled}
-use Rattle.pcl_output.specs.PageText.{bitmap_rows}
-use Rattle.pcl_output.specs.declared.node.Node.{Node}
-use Rattle.pcl_output.specs.Nodes.{start, row_at, Leads, Ends, cost, stays_inside, node_after}
-use Rattle.pcl_output.specs.Spelling.{least_spelling}
-use Rattle.pcl_output.specs.Table.{node_number}
-use Rattle.pcl_plan.specs.Plans.{StepsAndTable, IsTokenOf, opened, is_last, Spells}
-use Rattle.pcl_output.proofs.Walking.{node}
-use Rattle.pcl_output.proofs.TokenCosts.{cost_opening, cost_send}
-use Rattle.pcl_coders.proofs.Lengths.{least_alone}
-use Rattle.pcl_plan.proofs.ReadSteps.{opened_more, spells_any}
-use Rattle.pcl_plan.proofs.LeastWalks.{step_is_least, sent_is_least}
-use Rattle.pcl_writer.specs.inner.Steps.{width_of, above, IsBitmapPlan, IsWritable, HasRowData, AppendsRow, AppendsStep, AppendsBody}
+use Rattle.pcl_plan.specs.Plans.{Spells}
 
 pub page_joined : (old : List ℕ) {one two three : List ℕ} (start body tail : List ℕ) → one ≡ old ++ start → two ≡ one ++ body
     → three ≡ two ++ tail → three ≡ old ++ (start ++ body ++ tail)

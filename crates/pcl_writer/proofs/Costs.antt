@@ -1,15 +1,6 @@
 -- How long a written page text is.
 use Rattle.std.proofs.Common.{◌≡◌, ℕ, ◌+◌, List, length, Result, Ok, Err, ap, ◌∙◌, arith}
-use Rattle.std.specs.Prelude.{OnOk}
-use Rattle.std.proofs.lemmas.List.{length-append}
-use Rattle.pcl_bitmap.specs.declared.page.Page.{Page}
-use Rattle.pcl_output.specs.PageText.{bitmap_rows}
-use Rattle.pcl_plan.specs.PagePlans.{IsPlanOf}
-use Rattle.pcl_plan.specs.Plans.{StepsAndTable}
-use Rattle.pcl_output.specs.Nodes.{start}
-use Rattle.pcl_output.specs.Table.{node_number}
-use Rattle.pcl_output.proofs.Texts.{text_of_least}
-use Rattle.pcl_writer.specs.Appending.{AppendsPage, planned_bytes}
+use Rattle.pcl_writer.proofs.Names.{OnOk, length-append, Page, bitmap_rows, IsPlanOf, StepsAndTable, start, node_number, text_of_least, AppendsPage, planned_bytes}
 
 -- a least text is as long as each other one, and the plan's cost is that of one
 written_cost : (page : Page) (plan : StepsAndTable) (old new : List ℕ) → IsPlanOf page plan → AppendsPage page old new

@@ -1,3 +1,4 @@
+pub mod Names
 pub mod Bodies
 pub mod Starts
 pub mod Costs

@@ -1,11 +1,6 @@
 -- The start of a page text, as it is written.
 use Rattle.std.proofs.Common.{◌≡◌, ℕ, List, [], ◌∷◌, ◌++◌, ◌∙◌, append_assoc}
-use Rattle.std.specs.Prelude.{decimal}
-use Rattle.pcl_base.specs.declared.dpi.Dpi.{Dpi}
-use Rattle.pcl_base.specs.declared.size.Size.{Size}
-use Rattle.pcl_base.specs.Dpi.{dots_per_inch}
-use Rattle.pcl_base.specs.Size.{code_of, page_width}
-use Rattle.pcl_output.specs.Tokens.{start_bytes}
+use Rattle.pcl_writer.proofs.Names.{decimal, Dpi, Size, dots_per_inch, code_of, page_width, start_bytes}
 
 pub five_joined : (old a b c d e : List ℕ) {one two three four five : List ℕ} → one ≡ old ++ a → two ≡ one ++ b → three ≡ two ++ c → four
     ≡ three ++ d → five ≡ four ++ e

@@ -1,5 +1,4 @@
-use Rattle.std.proofs.Common.{arith}
-use Rattle.std.proofs.lemmas.Bool.Decides.{nat_tests}
+use Rattle.pcl_bitmap.proofs.Names.{arith, nat_tests}
 use Rattle.pcl_bitmap.proofs.Bytes.{bit_of_byte-leading, bit_of_byte-all}
 use Rattle.pcl_bitmap.proofs.bits.leading_ones.Goals as goal
 

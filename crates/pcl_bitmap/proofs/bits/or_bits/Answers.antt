@@ -1,6 +1,5 @@
 use Rattle.std.proofs.Common.{◌≡◌, add-zero, arith}
-use Rattle.std.proofs.lemmas.List.{take_rest}
-use Rattle.pcl_bitmap.specs.Bitmap.{dot_of_row}
+use Rattle.pcl_bitmap.proofs.Names.{take_rest, dot_of_row}
 use Rattle.pcl_bitmap.proofs.Runs.{run_dot-joined}
 use Rattle.pcl_bitmap.proofs.bits.or_bits.Goals as goal
 use Rattle.pcl_bitmap.proofs.bits.or_bits.Goals.{then-whole-gt0, else-whole-gt0}

@@ -1,6 +1,5 @@
 use Rattle.std.proofs.Common.{◌≡◌, ℕ, ◌+◌, ◌*◌, ◌≤◌, ◌||◌, length}
-use Rattle.pcl_bitmap.specs.Bitmap.{dot_of_row}
-use Rattle.pcl_bitmap.specs.Dots.{run_dot}
+use Rattle.pcl_bitmap.proofs.Names.{dot_of_row, run_dot}
 use Rattle.pcl_bitmap.proofs.bits.or_bytes.Given as goal
 
 -- the bytes are in place up to byte i of the source

@@ -1,6 +1,5 @@
 use Rattle.std.proofs.Common.{◌≡◌, ℕ, ◌+◌, ◌-◌, ◌*◌, ◌/◌, ◌%◌, ◌<◌, get_or, refl, arith}
-use Rattle.std.proofs.lemmas.Bool.Decides.{nat_tests}
-use Rattle.pcl_bitmap.specs.Bitmap.{dot_of_row}
+use Rattle.pcl_bitmap.proofs.Names.{nat_tests, dot_of_row}
 use Rattle.pcl_bitmap.proofs.Bytes.{shifted_bits}
 use Rattle.pcl_bitmap.proofs.Runs.{part_more}
 use Rattle.pcl_bitmap.proofs.bits.or_pairs.Goals as goal

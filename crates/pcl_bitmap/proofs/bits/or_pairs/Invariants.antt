@@ -1,6 +1,5 @@
 use Rattle.std.proofs.Common.{◌≡◌, ℕ, ◌-◌, ◌*◌, ◌&&◌, ◌||◌}
-use Rattle.pcl_bitmap.specs.Bitmap.{dot_of_row}
-use Rattle.pcl_bitmap.specs.Dots.{in_run}
+use Rattle.pcl_bitmap.proofs.Names.{dot_of_row, in_run}
 use Rattle.pcl_bitmap.proofs.bits.or_pairs.Given as goal
 
 -- the part is in place up to byte i

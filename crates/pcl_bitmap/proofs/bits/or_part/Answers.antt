@@ -1,5 +1,4 @@
-use Rattle.std.proofs.Common.{bit_and, arith}
-use Rattle.pcl_bitmap.specs.Dots.{run_dot}
+use Rattle.pcl_bitmap.proofs.Names.{bit_and, arith, run_dot}
 use Rattle.pcl_bitmap.proofs.Runs.{added_bits, part_more}
 use Rattle.pcl_bitmap.proofs.bits.or_part.Goals as goal
 

@@ -1,5 +1,5 @@
 use Rattle.std.proofs.Common.{◌/◌, arith}
-use Rattle.pcl_bitmap.specs.Bitmap.{dot_of_row}
+use Rattle.pcl_bitmap.proofs.Names.{dot_of_row}
 use Rattle.pcl_bitmap.proofs.Runs.{parts_joined}
 use Rattle.pcl_bitmap.proofs.bits.or_shifted.Goals as goal
 

@@ -1,5 +1,5 @@
 use Rattle.std.proofs.Common.{sym, ap, ◌∙◌}
-use Rattle.pcl_bitmap.specs.Dots.{is_black_ink}
+use Rattle.pcl_bitmap.proofs.Names.{is_black_ink}
 use Rattle.pcl_bitmap.proofs.Bytes.{bit_of_byte-all}
 use Rattle.pcl_bitmap.proofs.fills.eight_dots.Goals as goal
 

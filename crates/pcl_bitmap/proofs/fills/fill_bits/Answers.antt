@@ -1,5 +1,4 @@
-use Rattle.std.proofs.Common.{arith}
-use Rattle.std.proofs.lemmas.Bool.Decides.{nat_tests}
+use Rattle.pcl_bitmap.proofs.Names.{arith, nat_tests}
 use Rattle.pcl_bitmap.proofs.fills.fill_bits.Goals as goal
 
 pub returns-clause-bits : goal.returns-clause-bits

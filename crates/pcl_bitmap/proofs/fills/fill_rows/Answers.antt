@@ -1,5 +1,5 @@
 use Rattle.std.proofs.Common.{◌*◌, ◌+◌, arith}
-use Rattle.pcl_bitmap.specs.Dots.{is_black_ink}
+use Rattle.pcl_bitmap.proofs.Names.{is_black_ink}
 use Rattle.pcl_bitmap.proofs.Inked.{none_inked, row_inked}
 use Rattle.pcl_bitmap.proofs.fills.fill_rows.Goals as goal
 

@@ -1,4 +1,4 @@
-use Rattle.pcl_bitmap.specs.Dots.{is_black_ink}
+use Rattle.pcl_bitmap.proofs.Names.{is_black_ink}
 use Rattle.pcl_bitmap.proofs.Inked.{AreInked}
 use Rattle.pcl_bitmap.proofs.fills.fill_rows.Given as goal
 

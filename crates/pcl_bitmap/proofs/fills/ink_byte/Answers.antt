@@ -1,7 +1,5 @@
 use Rattle.std.proofs.Common.{bit_and, ◌-◌, ap, arith}
-use Rattle.std.proofs.lemmas.Bool.Decides.{nat_tests}
-use Rattle.std.proofs.lemmas.Nat.{and_le_l}
-use Rattle.pcl_bitmap.specs.Dots.{is_black_ink}
+use Rattle.pcl_bitmap.proofs.Names.{nat_tests, and_le_l, is_black_ink}
 use Rattle.pcl_bitmap.proofs.Bytes.{bit_of_byte-or, bit_of_byte-and, bit_of_byte-not}
 use Rattle.pcl_bitmap.proofs.Runs.{mask_bit}
 use Rattle.pcl_bitmap.proofs.fills.ink_byte.Goals as goal

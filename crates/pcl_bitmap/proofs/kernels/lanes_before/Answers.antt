@@ -1,5 +1,5 @@
 use Rattle.std.proofs.Common.{ℕ, ◌∙◌, sym, ap, arith}
-use Rattle.std.specs.Int.{bit_at}
+use Rattle.pcl_bitmap.proofs.Names.{bit_at}
 use Rattle.pcl_bitmap.proofs.KernelLanes.{lanes_same, lanes_differ, whole_mask}
 use Rattle.pcl_bitmap.proofs.kernels.lanes_before.Goals as goal
 

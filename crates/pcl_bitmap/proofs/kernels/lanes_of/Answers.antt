@@ -1,5 +1,5 @@
 use Rattle.std.proofs.Common.{◌<◌, ◌∙◌, sym, arith}
-use Rattle.std.proofs.lemmas.Simd.{get_or-chunk, get_or-replicate}
+use Rattle.pcl_bitmap.proofs.Names.{get_or-chunk, get_or-replicate}
 use Rattle.pcl_bitmap.proofs.kernels.lanes_of.Goals as goal
 
 pub returns-clause-same : goal.returns-clause-same

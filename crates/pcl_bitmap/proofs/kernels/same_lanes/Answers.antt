@@ -1,5 +1,5 @@
 use Rattle.std.proofs.Common.{◌<◌, ◌∙◌, sym, arith}
-use Rattle.std.proofs.lemmas.Simd.{get_or-chunk}
+use Rattle.pcl_bitmap.proofs.Names.{get_or-chunk}
 use Rattle.pcl_bitmap.proofs.kernels.same_lanes.Goals as goal
 
 pub returns-clause-same : goal.returns-clause-same

@@ -1,4 +1,4 @@
-use Rattle.std.proofs.Common.{arith}
+use Rattle.pcl_bitmap.proofs.Names.{arith}
 use Rattle.pcl_bitmap.proofs.KernelLanes.{zeros_more}
 use Rattle.pcl_bitmap.proofs.kernels.trimmed_len.Goals as goal
 

@@ -1,5 +1,5 @@
 use Rattle.std.proofs.Common.{◌≡◌, ◌+◌, ◌-◌, ◌*◌, ◌/◌, ◌%◌, arith}
-use Rattle.std.proofs.lemmas.Bool.Decides.{nat_tests}
+use Rattle.pcl_bitmap.proofs.Names.{nat_tests}
 use Rattle.pcl_bitmap.proofs.Bytes.{shifted_bits}
 use Rattle.pcl_bitmap.proofs.patterns.eight_bits_from.Goals as goal
 

@@ -1,6 +1,5 @@
 use Rattle.std.proofs.Common.{◌≡◌, ◌+◌, ◌*◌, arith}
-use Rattle.std.proofs.lemmas.Bool.Decides.{nat_tests}
-use Rattle.pcl_bitmap.specs.Bitmap.{dot_of_row}
+use Rattle.pcl_bitmap.proofs.Names.{nat_tests, dot_of_row}
 use Rattle.pcl_bitmap.proofs.Bytes.{dot_of_bits}
 use Rattle.pcl_bitmap.proofs.patterns.write_bits.Goals as goal
 

@@ -1,6 +1,6 @@
 use Rattle.std.proofs.Common.{◌≡◌, length, ◌+◌, ◌*◌, ◌%◌, ap, ◌∙◌, arith}
 use Rattle.pcl_bitmap.proofs.Runs.{take_dots}
-use Rattle.pcl_bitmap.specs.Bitmap.{dot_of_row}
+use Rattle.pcl_bitmap.proofs.Names.{dot_of_row}
 use Rattle.pcl_bitmap.proofs.Spread.{spread_dot}
 use Rattle.pcl_bitmap.proofs.patterns.write_dots.Goals as goal
 

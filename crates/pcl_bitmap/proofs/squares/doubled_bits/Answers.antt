@@ -1,8 +1,5 @@
 use Rattle.std.proofs.Common.{◌≡◌, ℕ, ◌+◌, ◌*◌, ◌/◌, ◌%◌, ◌^◌, ◌<◌, ◌≤◌, nat_eq, true, bit_and, bit_or, refl, sym, ap, ◌∙◌, inl, inr, arith}
-use Rattle.std.specs.Int.{bit_at}
-use Rattle.std.proofs.lemmas.Bool.{agree_below, agree_below_at, eqb-true, cases_lt}
-use Rattle.std.proofs.lemmas.Nat.{and_le_r, or_of_16}
-use Rattle.std.proofs.lemmas.Nat.Bits.{bit_at_above}
+use Rattle.pcl_bitmap.proofs.Names.{bit_at, agree_below, agree_below_at, eqb-true, cases_lt, and_le_r, or_of_16, bit_at_above}
 use Rattle.pcl_bitmap.proofs.squares.doubled_bits.Goals as goal
 
 -- what the code makes of a byte

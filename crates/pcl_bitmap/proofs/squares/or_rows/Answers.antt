@@ -1,5 +1,5 @@
 use Rattle.std.proofs.Common.{◌*◌, ◌+◌, ◌-◌, ◌||◌, refl, ◌∙◌, arith}
-use Rattle.pcl_bitmap.specs.Bitmap.{dot_of_row}
+use Rattle.pcl_bitmap.proofs.Names.{dot_of_row}
 use Rattle.pcl_bitmap.proofs.Inked.{none_inked, row_inked, run_or}
 use Rattle.pcl_bitmap.proofs.squares.or_rows.Goals as goal
 

@@ -1,5 +1,5 @@
 use Rattle.std.proofs.Common.{◌-◌, ◌||◌}
-use Rattle.pcl_bitmap.specs.Bitmap.{dot_of_row}
+use Rattle.pcl_bitmap.proofs.Names.{dot_of_row}
 use Rattle.pcl_bitmap.proofs.Inked.{AreInked}
 use Rattle.pcl_bitmap.proofs.squares.or_rows.Given as goal
 

@@ -1,5 +1,5 @@
 use Rattle.std.proofs.Common.{◌-◌, ◌/◌, zero-add, arith}
-use Rattle.std.proofs.lemmas.Bool.Decides.{nat_tests}
+use Rattle.pcl_bitmap.proofs.Names.{nat_tests}
 use Rattle.pcl_bitmap.proofs.Spread.{spread_count}
 use Rattle.pcl_bitmap.proofs.squares.paint_squares.Goals as goal
 

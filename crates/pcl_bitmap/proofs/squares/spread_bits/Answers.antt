@@ -1,7 +1,5 @@
 use Rattle.std.proofs.Common.{◌≡◌, ◌/◌, sym, ◌∙◌, arith}
-use Rattle.std.proofs.lemmas.Bool.Decides.{nat_tests}
-use Rattle.std.specs.Int.{bit_at}
-use Rattle.std.proofs.lemmas.Nat.Bits.{shr_and_one, bit_at-lt, bit_at_above}
+use Rattle.pcl_bitmap.proofs.Names.{nat_tests, bit_at, shr_and_one, bit_at-lt, bit_at_above}
 use Rattle.pcl_bitmap.proofs.Spread.{spread_set}
 use Rattle.pcl_bitmap.proofs.squares.spread_bits.Goals as goal
 use Rattle.pcl_bitmap.proofs.squares.spread_bits.Goals.{then-byte-i-eq1, else-byte-i-eq1}

@@ -1,5 +1,5 @@
 use Rattle.std.proofs.Common.{◌≡◌, ℕ}
-use Rattle.std.specs.Int.{bit_at}
+use Rattle.pcl_bitmap.proofs.Names.{bit_at}
 use Rattle.pcl_bitmap.proofs.Spread.{spread_bit}
 use Rattle.pcl_bitmap.proofs.squares.spread_bits.Given as goal
 

@@ -1,6 +1,5 @@
 use Rattle.std.proofs.Common.{◌≡◌, ◌+◌, ◌-◌, ◌*◌, ◌/◌, ◌^◌, bit_and, arith}
-use Rattle.std.proofs.lemmas.Bool.Decides.{nat_tests}
-use Rattle.pcl_bitmap.specs.Bitmap.{bit_of_byte}
+use Rattle.pcl_bitmap.proofs.Names.{nat_tests, bit_of_byte}
 use Rattle.pcl_bitmap.proofs.Bytes.{dot_of_bits}
 use Rattle.pcl_bitmap.proofs.Spread.{part_bits}
 use Rattle.pcl_bitmap.proofs.squares.spread_byte.Goals as goal

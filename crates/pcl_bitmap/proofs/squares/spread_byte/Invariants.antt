@@ -1,6 +1,5 @@
 use Rattle.std.proofs.Common.{◌≡◌, ℕ, ◌+◌, ◌-◌, ◌*◌, ◌/◌, if◌then◌else◌}
-use Rattle.pcl_bitmap.specs.Bitmap.{bit_of_byte, dot_of_row}
-use Rattle.pcl_bitmap.specs.Dots.{in_run}
+use Rattle.pcl_bitmap.proofs.Names.{bit_of_byte, dot_of_row, in_run}
 use Rattle.pcl_bitmap.proofs.squares.spread_byte.Given as goal
 
 -- the parts before are in place

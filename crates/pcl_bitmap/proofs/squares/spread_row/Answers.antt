@@ -1,6 +1,5 @@
 use Rattle.std.proofs.Common.{◌+◌, ◌-◌, ◌*◌, ◌/◌, ap, ◌∙◌, if◌then◌else◌, arith}
-use Rattle.pcl_bitmap.specs.Bitmap.{bit_of_byte, dot_of_row}
-use Rattle.pcl_bitmap.specs.Dots.{in_run}
+use Rattle.pcl_bitmap.proofs.Names.{bit_of_byte, dot_of_row, in_run}
 use Rattle.pcl_bitmap.proofs.Spread.{spread_more}
 use Rattle.pcl_bitmap.proofs.squares.spread_row.Goals as goal
 

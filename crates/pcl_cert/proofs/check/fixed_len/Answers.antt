@@ -1,7 +1,5 @@
 use Rattle.std.proofs.Common.{ap, ◌∙◌, arith}
-use Rattle.pcl_base.specs.Size.{code_of}
-use Rattle.pcl_output.specs.Spelling.{digit_count}
-use Rattle.pcl_output.proofs.DigitCounts.{count_of_some}
+use Rattle.pcl_cert.proofs.Names.{code_of, digit_count, count_of_some}
 use Rattle.pcl_cert.proofs.FixedParts.{fixed_length}
 use Rattle.pcl_cert.proofs.check.fixed_len.Goals as goal
 

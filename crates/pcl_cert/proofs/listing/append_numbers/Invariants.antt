@@ -1,6 +1,5 @@
 use Rattle.std.proofs.Common.{◌≡◌, ◌++◌, take}
-use Rattle.std.specs.Int.{w16, to_be_bytes}
-use Rattle.std.specs.List.{flat_map}
+use Rattle.pcl_cert.proofs.Names.{w16, to_be_bytes, flat_map}
 use Rattle.pcl_cert.proofs.listing.append_numbers.Given as goal
 
 abbrev pub invariant-loop-number : goal.invariant-loop-number

@@ -1,5 +1,5 @@
 use Rattle.std.proofs.Common.{◌-◌, get_or, arith}
-use Rattle.std.proofs.lemmas.Bool.{ne_eqb}
+use Rattle.pcl_cert.proofs.Names.{ne_eqb}
 use Rattle.pcl_cert.proofs.KeptLists.{trimmed_is}
 use Rattle.pcl_cert.proofs.listing.trimmed.Goals.{then-loop-len-test+else-numbers-len-eq0, else-loop-len-test}
 use Rattle.pcl_cert.proofs.listing.trimmed.Goals as goal

@@ -1,5 +1,5 @@
 use Rattle.std.proofs.Common.{◌≡◌, ◌<◌, ◌≤◌, ℕ, length}
-use Rattle.std.specs.Prelude.{slice_index}
+use Rattle.pcl_cert.proofs.Names.{slice_index}
 use Rattle.pcl_cert.proofs.listing.trimmed.Given as goal
 
 abbrev pub decreases-loop-len : goal.decreases-loop-len

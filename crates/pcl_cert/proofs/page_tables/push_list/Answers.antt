@@ -1,4 +1,4 @@
-use Rattle.std.proofs.lemmas.Result.{on_ok_weaker}
+use Rattle.pcl_cert.proofs.Names.{on_ok_weaker}
 use Rattle.pcl_cert.proofs.KeptLists.{row_more}
 use Rattle.pcl_cert.proofs.page_tables.push_list.Goals as goal
 

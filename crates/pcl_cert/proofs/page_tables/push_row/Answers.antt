@@ -1,9 +1,5 @@
 use Rattle.std.proofs.Common.{◌≡◌, ◌∙◌, sym, ap, length, ℕ}
-use Rattle.pcl_base.specs.Size.{page_height, page_row_bytes}
-use Rattle.pcl_output.specs.Nodes.{row_at}
-use Rattle.pcl_output.specs.PageText.{bitmap_rows}
-use Rattle.pcl_output.proofs.RowsFrom.{row_of_bytes}
-use Rattle.std.proofs.lemmas.Result.{on_ok_weaker}
+use Rattle.pcl_cert.proofs.Names.{page_height, page_row_bytes, row_at, bitmap_rows, row_of_bytes, on_ok_weaker}
 use Rattle.pcl_cert.proofs.KeptLists.{one_row_more}
 use Rattle.pcl_cert.proofs.page_tables.push_row.Goals as goal
 

@@ -1,5 +1,5 @@
 use Rattle.std.proofs.Common.{◌≡◌, arith, refl}
-use Rattle.pcl_base.specs.Size.{page_height}
+use Rattle.pcl_cert.proofs.Names.{page_height}
 use Rattle.pcl_cert.proofs.KeptLists.{all_rows}
 use Rattle.pcl_cert.proofs.page_tables.row_tables.Goals as goal
 

@@ -1,4 +1,4 @@
-use Rattle.pcl_cert.specs.inner.Listing.{HoldsRowsOf}
+use Rattle.pcl_cert.proofs.Names.{HoldsRowsOf}
 use Rattle.pcl_cert.proofs.page_tables.row_tables.Given as goal
 
 abbrev pub invariant-loop-row : goal.invariant-loop-row

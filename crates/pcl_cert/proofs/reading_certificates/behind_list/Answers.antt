@@ -1,6 +1,5 @@
 use Rattle.std.proofs.Common.{◌≡◌, ◌*◌, ◌∙◌, true, false, take, drop, List, ℕ, arith, refl}
-use Rattle.pcl_cert.specs.CertificateFields.{ends_in_zero}
-use Rattle.pcl_cert.specs.RowTables.{numbers_from}
+use Rattle.pcl_cert.proofs.Names.{ends_in_zero, numbers_from}
 use Rattle.pcl_cert.proofs.Lists.{list_checked}
 use Rattle.pcl_cert.proofs.reading_certificates.behind_list.Goals as goal
 

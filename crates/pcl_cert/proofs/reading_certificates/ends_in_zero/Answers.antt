@@ -1,4 +1,4 @@
-use Rattle.std.proofs.Common.{refl, arith}
+use Rattle.pcl_cert.proofs.Names.{refl, arith}
 use Rattle.pcl_cert.proofs.Numbers.{end_of_numbers, no_numbers_end}
 use Rattle.pcl_cert.proofs.reading_certificates.ends_in_zero.Goals as goal
 

@@ -1,6 +1,4 @@
-use Rattle.std.proofs.Common.{arith}
-use Rattle.std.proofs.lemmas.Result.{err_from_is_err_and}
-use Rattle.pcl_cert.specs.ReadingCertificates.{list_at}
+use Rattle.pcl_cert.proofs.Names.{arith, err_from_is_err_and, list_at}
 use Rattle.pcl_cert.proofs.Loops.{fails, ends}
 use Rattle.pcl_cert.proofs.PagesRead.{lists_are_many}
 use Rattle.pcl_cert.proofs.Lists.{next_list, behind_ok, behind_fails}

@@ -1,4 +1,4 @@
-use Rattle.std.proofs.lemmas.Result.{err_from_is_err_and}
+use Rattle.pcl_cert.proofs.Names.{err_from_is_err_and}
 use Rattle.pcl_cert.proofs.Loops.{goes_on, fails, ends}
 use Rattle.pcl_cert.proofs.PagesRead.{proofs_are_many}
 use Rattle.pcl_cert.proofs.reading_certificates.proofs_at.Goals as goal

@@ -1,4 +1,4 @@
-use Rattle.pcl_cert.specs.ReadingCertificates.{proofs_at}
+use Rattle.pcl_cert.proofs.Names.{proofs_at}
 use Rattle.pcl_cert.proofs.Loops.{Stands}
 use Rattle.pcl_cert.proofs.reading_certificates.proofs_at.Given as goal
 

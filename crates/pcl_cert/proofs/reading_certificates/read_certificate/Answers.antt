@@ -1,4 +1,4 @@
-use Rattle.std.proofs.Common.{arith}
+use Rattle.pcl_cert.proofs.Names.{arith}
 use Rattle.pcl_cert.proofs.PagesSpelled.{is_found, certificate_again}
 use Rattle.pcl_cert.proofs.reading_certificates.read_certificate.Goals as goal
 

@@ -1,6 +1,5 @@
 use Rattle.std.proofs.Common.{◌∷◌, [], arith}
-use Rattle.std.proofs.lemmas.Result.{err_from_is_err_and}
-use Rattle.std.proofs.lemmas.List.{length-append}
+use Rattle.pcl_cert.proofs.Names.{err_from_is_err_and, length-append}
 use Rattle.pcl_cert.proofs.Loops.{goes_on, fails, ends}
 use Rattle.pcl_cert.proofs.PagesRead.{tables_are_many}
 use Rattle.pcl_cert.proofs.reading_certificates.table_at.Goals as goal

@@ -1,5 +1,5 @@
 use Rattle.std.proofs.Common.{◌≡◌, ◌+◌, length}
-use Rattle.pcl_cert.specs.ReadingCertificates.{table_at}
+use Rattle.pcl_cert.proofs.Names.{table_at}
 use Rattle.pcl_cert.proofs.Loops.{Stands}
 use Rattle.pcl_cert.proofs.reading_certificates.table_at.Given as goal
 

@@ -1,7 +1,5 @@
 use Rattle.std.proofs.Common.{◌≡◌, ◌++◌, take}
-use Rattle.std.specs.List.{flat_map}
-use Rattle.pcl_cert.specs.Certificates.{list_bytes}
-use Rattle.pcl_cert.specs.TablesModel.{lists_within}
+use Rattle.pcl_cert.proofs.Names.{flat_map, list_bytes, lists_within}
 use Rattle.pcl_cert.proofs.tables.append_lists.Given as goal
 
 abbrev pub invariant-loop-start : goal.invariant-loop-start

@@ -1,7 +1,5 @@
 use Rattle.std.proofs.Common.{◌≡◌, ℕ, ◌+◌, ◌/◌, ◌<◌, ◌≤◌, List, length, get_or, set, sym, ◌∙◌, arith, below_more}
-use Rattle.std.proofs.lemmas.List.{ext_get_or, get_or-set_same, get_or-set_other, get_or_past, length-set}
-use Rattle.pcl_cert.specs.RowTables.{numbers_from}
-use Rattle.pcl_cert.specs.PageTables.{table_of}
+use Rattle.pcl_cert.proofs.Names.{ext_get_or, get_or-set_same, get_or-set_other, get_or_past, length-set, numbers_from, table_of}
 use Rattle.pcl_cert.proofs.Numbers.{length_numbers, number_within}
 use Rattle.pcl_cert.proofs.KeptLists.{table_length, table_number}
 use Rattle.pcl_cert.proofs.tables.copy_numbers.Goals as goal

@@ -1,5 +1,5 @@
 use Rattle.std.proofs.Common.{◌≡◌, ℕ, ◌<◌, ◌/◌, length, get_or}
-use Rattle.pcl_cert.specs.RowTables.{numbers_from}
+use Rattle.pcl_cert.proofs.Names.{numbers_from}
 use Rattle.pcl_cert.proofs.tables.copy_numbers.Given as goal
 
 abbrev pub invariant-loop-place : goal.invariant-loop-place

@@ -1,6 +1,5 @@
 use Rattle.std.proofs.Common.{◌≡◌, ◌+◌, ◌-◌, ◌*◌, ◌≤◌, ℕ, List, sym, drop, length, arith}
-use Rattle.std.proofs.lemmas.List.{length-drop}
-use Rattle.pcl_cert.specs.TablesModel.{count_of}
+use Rattle.pcl_cert.proofs.Names.{length-drop, count_of}
 use Rattle.pcl_cert.proofs.FieldsRead.{rest_bytes}
 use Rattle.pcl_cert.proofs.Numbers.{list_spelled}
 use Rattle.pcl_cert.proofs.tables.list_at.Goals as goal

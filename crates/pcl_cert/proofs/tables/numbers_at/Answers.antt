@@ -1,6 +1,5 @@
 use Rattle.std.proofs.Common.{◌≡◌, ◌+◌, ◌-◌, ◌*◌, ◌/◌, ℕ, List, length, take, drop, arith, refl}
-use Rattle.std.proofs.lemmas.List.{length-drop, length-take-le, drop-drop}
-use Rattle.pcl_cert.specs.TablesModel.{count_of}
+use Rattle.pcl_cert.proofs.Names.{length-drop, length-take-le, drop-drop, count_of}
 use Rattle.pcl_cert.proofs.Numbers.{numbers_of_front}
 use Rattle.pcl_cert.proofs.tables.numbers_at.Goals as goal
 

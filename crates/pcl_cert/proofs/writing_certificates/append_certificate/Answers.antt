@@ -1,9 +1,5 @@
 use Rattle.std.proofs.Common.{◌≡◌, ◌++◌, List, ℕ, take, length, ◌∙◌, append_assoc}
-use Rattle.std.specs.Int.{w32, to_be_bytes}
-use Rattle.std.specs.List.{flat_map}
-use Rattle.pcl_base.proofs.Lists.{front_stays}
-use Rattle.pcl_cert.specs.Certificates.{proof_bytes, proofs_in}
-use Rattle.pcl_cert.specs.CertificateFields.{magic}
+use Rattle.pcl_cert.proofs.Names.{w32, to_be_bytes, flat_map, front_stays, proof_bytes, proofs_in, magic}
 use Rattle.pcl_cert.proofs.Written.{proof_is}
 use Rattle.pcl_cert.proofs.writing_certificates.append_certificate.Goals as goal
 

@@ -1,8 +1,5 @@
 use Rattle.std.proofs.Common.{◌≡◌, ◌++◌, length, take}
-use Rattle.std.specs.Int.{w32, to_be_bytes}
-use Rattle.std.specs.List.{flat_map}
-use Rattle.pcl_cert.specs.Certificates.{proof_bytes, proofs_in}
-use Rattle.pcl_cert.specs.CertificateFields.{magic}
+use Rattle.pcl_cert.proofs.Names.{w32, to_be_bytes, flat_map, proof_bytes, proofs_in, magic}
 use Rattle.pcl_cert.proofs.writing_certificates.append_certificate.Given as goal
 
 abbrev pub invariant-loop-proof : goal.invariant-loop-proof

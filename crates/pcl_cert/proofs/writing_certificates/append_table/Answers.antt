@@ -1,7 +1,5 @@
 use Rattle.std.proofs.Common.{take, append_assoc, arith, length, ◌<◌}
-use Rattle.pcl_base.proofs.Lists.{flat_more, front_stays}
-use Rattle.pcl_output.specs.Table.{no_numbers}
-use Rattle.pcl_cert.specs.Certificates.{row_bytes, table_bytes}
+use Rattle.pcl_cert.proofs.Names.{flat_more, front_stays, no_numbers, row_bytes, table_bytes}
 use Rattle.pcl_cert.proofs.writing_certificates.append_table.Goals as goal
 
 pub returns-in_err-append_row-clause-front : goal.returns-in_err-append_row-clause-front

@@ -1,5 +1,5 @@
 use Rattle.std.proofs.Common.{◌≡◌, ◌+◌, ◌∙◌, arith, refl}
-use Rattle.std.proofs.lemmas.Nat.{from_be_bytes-to_be_bytes_4}
+use Rattle.pcl_cert.proofs.Names.{from_be_bytes-to_be_bytes_4}
 use Rattle.pcl_cert.proofs.Counted.{count_there, count_put}
 use Rattle.pcl_cert.proofs.writing_certificates.count_page.Goals as goal
 

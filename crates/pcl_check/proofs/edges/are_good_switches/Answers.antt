@@ -1,12 +1,5 @@
 use Rattle.std.proofs.Common.{◌≡◌, ℕ, ◌+◌, ◌≤◌, true, min, arith}
-use Rattle.pcl_base.specs.declared.method.Method.{Method}
-use Rattle.pcl_base.specs.declared.method.Method.TheVariants.{Plain, Runs, Packed, Delta}
-use Rattle.std.specs.Prelude.{not}
-use Rattle.pcl_output.specs.declared.node.Node.{Node}
-use Rattle.pcl_output.specs.Table.{rest, node_number}
-use Rattle.pcl_output.proofs.TokenCosts.{rest_below, best_end}
-use Rattle.pcl_output.proofs.Switching.{switch_cost, switching_is}
-use Rattle.pcl_check.specs.Edges.{number_at, AreGoodSwitches}
+use Rattle.pcl_check.proofs.Names.{Method, Plain, Runs, Packed, Delta, not, Node, rest, node_number, rest_below, best_end, switch_cost, switching_is, number_at, AreGoodSwitches}
 use Rattle.pcl_check.proofs.edges.are_good_switches.Goals as goal
 
 -- a number that a switch to no method undercuts

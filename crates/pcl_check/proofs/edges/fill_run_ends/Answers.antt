@@ -1,17 +1,5 @@
 use Rattle.std.proofs.Common.{◌≡◌, ℕ, ◌+◌, ◌-◌, ◌<◌, ◌≤◌, List, length, set, sym, ◌∙◌, inl, inr, arith}
-use Rattle.std.specs.Prelude.{slice_index}
-use Rattle.std.proofs.Math.ListN.{length-set}
-use Rattle.std.proofs.lemmas.Bool.{cases_eq, iff_false}
-use Rattle.std.proofs.lemmas.List.{get_or-set_same, get_or-set_other}
-use Rattle.pcl_output.specs.Tokens.{IsWhite}
-use Rattle.pcl_output.specs.Nodes.{row_at}
-use Rattle.pcl_output.specs.inner.WhiteRows.{IsWhiteRun}
-use Rattle.pcl_output.proofs.WhiteRows.{run_more, run_none, run_end}
-use Rattle.pcl_check.specs.inner.EdgePasses.{AreRunEnds}
-use Rattle.std.proofs.lemmas.List.Elements.{All-from_recursion, recursion_from_All}
-use Rattle.pcl_base.specs.Size.{page_height, page_row_bytes}
-use Rattle.pcl_output.specs.PageText.{bitmap_rows}
-use Rattle.pcl_output.proofs.RowsFrom.{length_rows, row_of_bytes}
+use Rattle.pcl_check.proofs.Names.{slice_index, length-set, cases_eq, iff_false, get_or-set_same, get_or-set_other, IsWhite, row_at, IsWhiteRun, run_more, run_none, run_end, AreRunEnds, All-from_recursion, recursion_from_All, page_height, page_row_bytes, bitmap_rows, length_rows, row_of_bytes}
 use Rattle.pcl_check.proofs.edges.fill_run_ends.Goals as goal
 use Rattle.pcl_check.proofs.edges.fill_run_ends.Goals.{then-is_blank, else-is_blank}
 

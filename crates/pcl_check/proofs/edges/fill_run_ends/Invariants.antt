@@ -1,5 +1,4 @@
-use Rattle.pcl_output.specs.PageText.{bitmap_rows}
-use Rattle.pcl_check.specs.inner.EdgePasses.{AreRunEnds}
+use Rattle.pcl_check.proofs.Names.{bitmap_rows, AreRunEnds}
 use Rattle.pcl_check.proofs.edges.fill_run_ends.Given as goal
 
 abbrev pub invariant-loop-row : goal.invariant-loop-row

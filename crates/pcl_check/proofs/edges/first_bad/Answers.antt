@@ -1,17 +1,5 @@
 use Rattle.std.proofs.Common.{◌≡◌, ℕ, ◌+◌, ◌-◌, ◌<◌, ◌≤◌, List, length, sym, arith, Bool, true, false, drop, refl}
-use Rattle.std.specs.Prelude.{slice_index}
-use Rattle.pcl_output.proofs.WhiteRows.{white_below, white_front, skippable_within, white_to_end, ink_left}
-use Rattle.pcl_check.specs.inner.EdgePasses.{AreRunEnds, AreEnds, Both, IsGoodBy, IsGoodIn}
-use Rattle.pcl_base.specs.declared.method.Method.{Method}
-use Rattle.pcl_base.specs.declared.method.Method.TheVariants.{Plain, Runs, Packed, Delta}
-use Rattle.pcl_output.specs.declared.node.Node.{Node}
-use Rattle.pcl_check.specs.Edges.{IsGoodNumber}
-use Rattle.pcl_base.specs.Size.{page_height, page_row_bytes}
-use Rattle.pcl_bitmap.specs.declared.page.Page.{Page}
-use Rattle.pcl_output.specs.PageText.{bitmap_rows}
-use Rattle.pcl_output.specs.Table.{node_number}
-use Rattle.pcl_output.proofs.RowsFrom.{length_rows}
-use Rattle.pcl_base.proofs.PageBounds.{height_small}
+use Rattle.pcl_check.proofs.Names.{slice_index, white_below, white_front, skippable_within, white_to_end, ink_left, AreRunEnds, AreEnds, Both, IsGoodBy, IsGoodIn, Method, Plain, Runs, Packed, Delta, Node, IsGoodNumber, page_height, page_row_bytes, Page, bitmap_rows, node_number, length_rows, height_small}
 use Rattle.pcl_check.proofs.Found.{first_of_four, finds_too}
 use Rattle.pcl_check.proofs.edges.first_bad.Goals as goal
 

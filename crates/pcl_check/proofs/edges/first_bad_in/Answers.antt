@@ -1,10 +1,5 @@
 use Rattle.std.proofs.Common.{◌≡◌, ℕ, ◌-◌, Bool, true, false, List, length, refl, sym, arith}
-use Rattle.pcl_base.specs.declared.method.Method.{Method}
-use Rattle.pcl_output.specs.declared.node.Node.{Node}
-use Rattle.pcl_check.specs.Edges.{AreGoodSwitches}
-use Rattle.pcl_check.specs.inner.EdgePasses.{At, Both, IsGoodStart, IsGoodSending, AreGoodSkipsTo, IsGoodIn}
-use Rattle.pcl_base.specs.Size.{page_height}
-use Rattle.pcl_output.specs.Table.{node_number}
+use Rattle.pcl_check.proofs.Names.{Method, Node, AreGoodSwitches, At, Both, IsGoodStart, IsGoodSending, AreGoodSkipsTo, IsGoodIn, page_height, node_number}
 use Rattle.pcl_check.proofs.Found.{first_of_four, finds_too}
 use Rattle.pcl_check.proofs.edges.first_bad_in.Goals as goal
 

@@ -1,7 +1,5 @@
 use Rattle.std.proofs.Common.{ℕ, ◌<◌}
-use Rattle.pcl_base.specs.Size.{page_height}
-use Rattle.pcl_output.specs.Table.{node_number}
-use Rattle.pcl_check.specs.inner.EdgePasses.{IsGoodSending}
+use Rattle.pcl_check.proofs.Names.{page_height, node_number, IsGoodSending}
 use Rattle.pcl_check.proofs.edges.first_bad_sending.Given as goal
 
 abbrev pub invariant-loop-row : goal.invariant-loop-row

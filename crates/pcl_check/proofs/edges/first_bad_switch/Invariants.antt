@@ -1,6 +1,5 @@
 use Rattle.std.proofs.Common.{ℕ, ◌<◌}
-use Rattle.pcl_output.specs.Table.{node_number}
-use Rattle.pcl_check.specs.Edges.{AreGoodSwitches}
+use Rattle.pcl_check.proofs.Names.{node_number, AreGoodSwitches}
 use Rattle.pcl_check.proofs.edges.first_bad_switch.Given as goal
 
 abbrev pub invariant-loop-row : goal.invariant-loop-row

@@ -1,6 +1,5 @@
 use Rattle.std.proofs.Common.{◌≡◌, ◌≤◌, ◌+◌, ◌-◌, ℕ, length, sym, arith}
-use Rattle.pcl_coders.proofs.Ends.{AreSameFrom, same_past, same_before, ends_by, ends_at}
-use Rattle.pcl_check.specs.inner.PlacePasses.{IsGoodEnd}
+use Rattle.pcl_check.proofs.Names.{AreSameFrom, same_past, same_before, ends_by, ends_at, IsGoodEnd}
 use Rattle.pcl_check.proofs.PlacesFound.{found_good, found_bad, found_all}
 use Rattle.pcl_check.proofs.places.first_bad_end.Goals as goal
 use Rattle.pcl_check.proofs.places.first_bad_end.Goals.{else-place-row-via-then-place-row+else-old-place, else-place-row-via-else-place-row}

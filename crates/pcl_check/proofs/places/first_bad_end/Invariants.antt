@@ -1,7 +1,6 @@
 use Rattle.std.proofs.Common.{◌≤◌, length}
-use Rattle.pcl_check.specs.inner.PlacePasses.{IsGoodEnd}
+use Rattle.pcl_check.proofs.Names.{IsGoodEnd, AreSameFrom}
 use Rattle.pcl_check.proofs.PlacesFound.{FindsFrom}
-use Rattle.pcl_coders.proofs.Ends.{AreSameFrom}
 use Rattle.pcl_check.proofs.places.first_bad_end.Given as goal
 
 abbrev pub invariant-loop-place : goal.invariant-loop-place

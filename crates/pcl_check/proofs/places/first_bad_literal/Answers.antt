@@ -1,5 +1,5 @@
 use Rattle.std.proofs.Common.{◌≡◌, ◌-◌, length, arith}
-use Rattle.pcl_check.specs.inner.PlacePasses.{IsNotUndercut, AreGoodLiterals}
+use Rattle.pcl_check.proofs.Names.{IsNotUndercut, AreGoodLiterals}
 use Rattle.pcl_check.proofs.PlacesFound.{finds_place_too}
 use Rattle.pcl_check.proofs.PlaceKinds.{literals_by_window, window_by_literals}
 use Rattle.pcl_check.proofs.places.first_bad_literal.Goals as goal

@@ -1,7 +1,4 @@
-use Rattle.std.proofs.Common.{ℕ, length}
-use Rattle.pcl_rows.specs.Rows.{base}
-use Rattle.pcl_check.specs.Places.{IsGoodPlace}
-use Rattle.pcl_check.specs.inner.PlacePasses.{IsGoodEnd, AreGoodSteps, first_found_place}
+use Rattle.pcl_check.proofs.Names.{ℕ, length, base, IsGoodPlace, IsGoodEnd, AreGoodSteps, first_found_place}
 use Rattle.pcl_check.proofs.PlacesFound.{And, finds_both, finds_place_too}
 use Rattle.pcl_check.proofs.PlaceSteps.{table_of_good, finds_table}
 use Rattle.pcl_check.proofs.places.first_bad_place.Goals as goal

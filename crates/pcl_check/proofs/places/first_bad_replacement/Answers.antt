@@ -1,5 +1,5 @@
 use Rattle.std.proofs.Common.{◌≡◌, ℕ, ◌-◌, length, arith}
-use Rattle.pcl_check.specs.inner.PlacePasses.{IsNotUndercut, AreGoodReplacements}
+use Rattle.pcl_check.proofs.Names.{IsNotUndercut, AreGoodReplacements}
 use Rattle.pcl_check.proofs.PlacesFound.{first_of_four, finds_place_too}
 use Rattle.pcl_check.proofs.PlaceKinds.{AreKeptStarts, replacements_by_windows, kept_starts}
 use Rattle.pcl_check.proofs.places.first_bad_replacement.Goals as goal

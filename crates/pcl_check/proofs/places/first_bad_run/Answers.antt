@@ -1,5 +1,5 @@
 use Rattle.std.proofs.Common.{◌≡◌, ◌-◌, length, arith}
-use Rattle.pcl_check.specs.inner.PlacePasses.{IsNotUndercut, AreGoodRuns}
+use Rattle.pcl_check.proofs.Names.{IsNotUndercut, AreGoodRuns}
 use Rattle.pcl_check.proofs.PlacesFound.{finds_place_too}
 use Rattle.pcl_check.proofs.PlaceKinds.{runs_by_window, window_by_runs}
 use Rattle.pcl_check.proofs.places.first_bad_run.Goals as goal

@@ -1,6 +1,5 @@
 use Rattle.std.proofs.Common.{◌≡◌, ◌-◌, length, arith}
-use Rattle.pcl_base.specs.declared.method.Method.TheVariants.{Plain, Runs, Packed, Delta}
-use Rattle.pcl_check.specs.inner.PlacePasses.{IsGoodByte, AreGoodRuns, AreGoodLiterals, AreGoodReplacements, AreGoodSteps, first_found_place}
+use Rattle.pcl_check.proofs.Names.{Plain, Runs, Packed, Delta, IsGoodByte, AreGoodRuns, AreGoodLiterals, AreGoodReplacements, AreGoodSteps, first_found_place}
 use Rattle.pcl_check.proofs.PlacesFound.{And, finds_both, finds_place_too}
 use Rattle.pcl_check.proofs.PlaceSteps.{steps_plain, steps_runs, steps_packed, steps_delta, bytes_of_steps, runs_of_steps, literals_of_steps, repeats_of_steps, replacements_of_steps}
 use Rattle.pcl_check.proofs.places.first_bad_step.Goals as goal

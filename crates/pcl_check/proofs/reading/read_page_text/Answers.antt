@@ -1,20 +1,7 @@
 use Rattle.std.proofs.Common.{◌≡◌, ℕ, ◌<◌, Bool, true, false, IsTrue, List, ◌++◌, length, take, Some, refl, sym, ap, ◌∙◌, append_assoc, arith, ◌==◌}
 use Rattle.std.specs.Prelude.{◌↔◌}
-use Rattle.std.specs.List.{flat_map}
-use Rattle.std.proofs.lemmas.List.{take_all, append_cancel_left, append_assoc}
-use Rattle.pcl_base.specs.declared.dpi.Dpi.{Dpi}
-use Rattle.pcl_base.specs.declared.size.Size.{Size}
-use Rattle.pcl_base.specs.Size.{page_height, page_row_bytes, code_of}
-use Rattle.pcl_bitmap.specs.Bitmap.{Picture}
-use Rattle.pcl_output.specs.Tokens.{token_bytes, start_bytes, end_bytes}
-use Rattle.pcl_output.specs.PageText.{IsPageText, bitmap_rows}
-use Rattle.pcl_output.proofs.RowsFrom.{length_rows}
-use Rattle.pcl_check.specs.declared.reading.start.Start.{Start}
-use Rattle.pcl_check.specs.inner.Reading.{IsStart, RestPrints, body_of, IsBodyVerdict, raster_start}
+use Rattle.pcl_check.proofs.Names.{flat_map, take_all, append_cancel_left, append_assoc, Dpi, Size, page_height, page_row_bytes, code_of, Picture, token_bytes, start_bytes, end_bytes, IsPageText, bitmap_rows, length_rows, Start, IsStart, RestPrints, body_of, IsBodyVerdict, raster_start, Page, Decides-eqb, the_type}
 use Rattle.pcl_check.proofs.Beginnings.{start_is, code_few, size_coded, size_read, same_size, IsSize, BeginsAs}
-use Rattle.pcl_bitmap.specs.declared.page.Page.{Page}
-use Rattle.std.proofs.lemmas.Bool.Decides.{Decides-eqb}
-use Rattle.pcl_base.specs.contracts.size.Size.{the_type}
 use denote.Enum.Bare.{sameb, same_true, true_same}
 use Rattle.pcl_check.proofs.reading.read_page_text.Goals as goal
 use Rattle.pcl_check.proofs.reading.read_page_text.Goals.{then-eq, else-eq}

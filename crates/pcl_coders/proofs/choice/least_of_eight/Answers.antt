@@ -1,4 +1,4 @@
-use Rattle.std.proofs.Common.{arith}
+use Rattle.pcl_coders.proofs.Names.{arith}
 use Rattle.pcl_coders.proofs.Prefixes.{least_min_one, least_min_next}
 use Rattle.pcl_coders.proofs.choice.least_of_eight.Goals as goal
 

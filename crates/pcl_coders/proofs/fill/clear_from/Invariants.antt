@@ -1,5 +1,5 @@
 use Rattle.std.proofs.Common.{◌≡◌, ℕ, ◌<◌, ◌≤◌}
-use Rattle.std.specs.Prelude.{slice_index}
+use Rattle.pcl_coders.proofs.Names.{slice_index}
 use Rattle.pcl_coders.proofs.fill.clear_from.Given as goal
 
 abbrev pub invariant-loop-place : goal.invariant-loop-place

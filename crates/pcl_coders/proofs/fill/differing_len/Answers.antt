@@ -1,4 +1,4 @@
-use Rattle.std.proofs.Common.{sym}
+use Rattle.pcl_coders.proofs.Names.{sym}
 use Rattle.pcl_coders.proofs.Ends.{first_end_by}
 use Rattle.pcl_coders.proofs.fill.differing_len.Goals as goal
 

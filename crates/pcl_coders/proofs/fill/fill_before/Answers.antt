@@ -1,7 +1,5 @@
 use Rattle.std.proofs.Common.{sym, subst, ◌∙◌}
-use Rattle.pcl_base.specs.declared.method.Method.{Method}
-use Rattle.pcl_rows.specs.Rows.{base}
-use Rattle.pcl_coders.specs.inner.Filling.{AreRightFrom, IsFirstEnd}
+use Rattle.pcl_coders.proofs.Names.{Method, base, AreRightFrom, IsFirstEnd}
 use Rattle.pcl_coders.proofs.fill.fill_before.Goals as goal
 
 pub fill_delta-requires : goal.fill_delta-requires

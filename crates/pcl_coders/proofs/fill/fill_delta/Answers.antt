@@ -1,8 +1,5 @@
 use Rattle.std.proofs.Common.{◌≡◌, ◌<◌, ◌≤◌, ◌+◌, ◌-◌, ◌*◌, ℕ, length, set, ◌∙◌, subst, arith}
-use Rattle.std.proofs.lemmas.List.{take_rest}
-use Rattle.pcl_base.specs.declared.method.Method.TheVariants.{Delta}
-use Rattle.pcl_coders.specs.inner.Filling.{AreRightFrom}
-use Rattle.pcl_coders.specs.inner.Replacement.{replacement_bytes}
+use Rattle.pcl_coders.proofs.Names.{take_rest, Delta, AreRightFrom, replacement_bytes}
 use Rattle.pcl_coders.proofs.Places.{IsNextStart, begun_right, place_done, delta_place, next_start_set, next_start_stays, next_start_here, last_differs}
 use Rattle.pcl_coders.proofs.fill.fill_delta.Goals as goal
 use Rattle.pcl_coders.proofs.fill.fill_delta.Goals.{then-old-place, else-old-place}

@@ -1,6 +1,5 @@
 use Rattle.std.proofs.Common.{◌<◌}
-use Rattle.pcl_base.specs.declared.method.Method.TheVariants.{Delta}
-use Rattle.pcl_coders.specs.inner.Filling.{AreRightFrom}
+use Rattle.pcl_coders.proofs.Names.{Delta, AreRightFrom}
 use Rattle.pcl_coders.proofs.Places.{IsNextStart}
 use Rattle.pcl_coders.proofs.fill.fill_delta.Given as goal
 

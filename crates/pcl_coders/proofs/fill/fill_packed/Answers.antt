@@ -1,7 +1,5 @@
 use Rattle.std.proofs.Common.{◌≡◌, ◌<◌, ◌+◌, ◌-◌, ℕ, length, refl, ◌∙◌, subst, arith}
-use Rattle.pcl_base.specs.declared.method.Method.TheVariants.{Packed}
-use Rattle.pcl_bitmap.specs.Kernels.{IsRunEnd}
-use Rattle.pcl_coders.specs.inner.Filling.{AreRightFrom, HasLiteralEnd, white_like}
+use Rattle.pcl_coders.proofs.Names.{Packed, IsRunEnd, AreRightFrom, HasLiteralEnd, white_like}
 use Rattle.pcl_coders.proofs.Places.{begun_right, place_done, IsRunFrom, run_next}
 use Rattle.pcl_coders.proofs.Literals.{has_no_literal, has_literal, end_of_set, packed_place}
 use Rattle.pcl_coders.proofs.fill.fill_packed.Goals as goal

@@ -1,5 +1,4 @@
-use Rattle.pcl_base.specs.declared.method.Method.TheVariants.{Packed}
-use Rattle.pcl_coders.specs.inner.Filling.{AreRightFrom, HasLiteralEnd, white_like}
+use Rattle.pcl_coders.proofs.Names.{Packed, AreRightFrom, HasLiteralEnd, white_like}
 use Rattle.pcl_coders.proofs.Places.{IsRunFrom}
 use Rattle.pcl_coders.proofs.fill.fill_packed.Given as goal
 

@@ -1,8 +1,5 @@
 use Rattle.std.proofs.Common.{drop, ◌≡◌, ◌<◌, ◌+◌, ◌-◌, ℕ, length, ◌∙◌, subst, arith}
-use Rattle.std.specs.Prelude.{slice_index}
-use Rattle.std.proofs.lemmas.List.{length-drop, get_or-drop}
-use Rattle.pcl_base.specs.declared.method.Method.TheVariants.{Plain}
-use Rattle.pcl_coders.specs.inner.Filling.{AreRightFrom, white_like}
+use Rattle.pcl_coders.proofs.Names.{slice_index, length-drop, get_or-drop, Plain, AreRightFrom, white_like}
 use Rattle.pcl_coders.proofs.Choices.{plain_choice}
 use Rattle.pcl_coders.proofs.Places.{begun_right, place_done}
 use Rattle.pcl_coders.proofs.fill.fill_plain.Goals as goal

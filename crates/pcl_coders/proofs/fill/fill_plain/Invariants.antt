@@ -1,5 +1,4 @@
-use Rattle.pcl_base.specs.declared.method.Method.TheVariants.{Plain}
-use Rattle.pcl_coders.specs.inner.Filling.{AreRightFrom, white_like}
+use Rattle.pcl_coders.proofs.Names.{Plain, AreRightFrom, white_like}
 use Rattle.pcl_coders.proofs.fill.fill_plain.Given as goal
 
 abbrev pub invariant-loop-place : goal.invariant-loop-place

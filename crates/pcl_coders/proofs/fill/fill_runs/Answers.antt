@@ -1,7 +1,5 @@
 use Rattle.std.proofs.Common.{◌≡◌, ◌<◌, ◌+◌, ◌-◌, ℕ, min, length, refl, ◌∙◌, subst, arith}
-use Rattle.pcl_base.specs.declared.method.Method.TheVariants.{Runs}
-use Rattle.pcl_bitmap.specs.Kernels.{IsRunEnd}
-use Rattle.pcl_coders.specs.inner.Filling.{AreRightFrom, white_like}
+use Rattle.pcl_coders.proofs.Names.{Runs, IsRunEnd, AreRightFrom, white_like}
 use Rattle.pcl_coders.proofs.Places.{begun_right, place_done, runs_place, IsRunFrom, run_next}
 use Rattle.pcl_coders.proofs.fill.fill_runs.Goals as goal
 use Rattle.pcl_coders.proofs.fill.fill_runs.Goals.{then-place-end+then-row-place, else-place-end, else-place-end-via-then-place-end+else-row-place, else-place-end-via-else-place-end}

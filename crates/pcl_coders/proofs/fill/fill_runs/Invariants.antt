@@ -1,5 +1,4 @@
-use Rattle.pcl_base.specs.declared.method.Method.TheVariants.{Runs}
-use Rattle.pcl_coders.specs.inner.Filling.{AreRightFrom, white_like}
+use Rattle.pcl_coders.proofs.Names.{Runs, AreRightFrom, white_like}
 use Rattle.pcl_coders.proofs.Places.{IsRunFrom}
 use Rattle.pcl_coders.proofs.fill.fill_runs.Given as goal
 

@@ -1,4 +1,4 @@
-use Rattle.std.proofs.Common.{inl, inr, arith}
+use Rattle.pcl_coders.proofs.Names.{inl, inr, arith}
 use Rattle.pcl_coders.proofs.Literals.{next_is_end}
 use Rattle.pcl_coders.proofs.fill.literal_end.Goals as goal
 use Rattle.pcl_coders.proofs.fill.literal_end.Goals.{else-best-place-via-then-best-place+else-best-from, else-best-place-via-else-best-place}

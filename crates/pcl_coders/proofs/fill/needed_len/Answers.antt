@@ -1,4 +1,4 @@
-use Rattle.std.proofs.Common.{inl, inr}
+use Rattle.pcl_coders.proofs.Names.{inl, inr}
 use Rattle.pcl_coders.proofs.Ends.{first_end_of_trimmed}
 use Rattle.pcl_coders.proofs.fill.needed_len.Goals as goal
 

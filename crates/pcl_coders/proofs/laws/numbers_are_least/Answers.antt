@@ -1,4 +1,4 @@
-use Rattle.pcl_base.proofs.Walks.{attained_is_least}
+use Rattle.pcl_coders.proofs.Names.{attained_is_least}
 use Rattle.pcl_coders.proofs.laws.numbers_are_least.Goals as goal
 
 pub returns : goal.returns

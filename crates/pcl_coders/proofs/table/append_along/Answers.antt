@@ -1,5 +1,5 @@
 use Rattle.std.proofs.Common.{ℕ, take, ap, ◌∙◌}
-use Rattle.std.proofs.lemmas.Result.{on_ok_weaker, on_err_weaker}
+use Rattle.pcl_coders.proofs.Names.{on_ok_weaker, on_err_weaker}
 use Rattle.pcl_coders.proofs.Filling.{appends_least}
 use Rattle.pcl_coders.proofs.Tables.{right_of_least}
 use Rattle.pcl_coders.proofs.table.append_along.Goals as goal

@@ -1,9 +1,5 @@
 use Rattle.std.proofs.Common.{◌≡◌, arith, rules}
-use Rattle.std.proofs.lemmas.List.{take_rest}
-use Rattle.std.specs.Prelude.{slice_index}
-use Rattle.pcl_rows.specs.Elements.{element_bytes}
-use Rattle.std.specs.List.{flat_map}
-use Rattle.pcl_base.proofs.Lists.{front_stays}
+use Rattle.pcl_coders.proofs.Names.{take_rest, slice_index, element_bytes, flat_map, front_stays}
 use Rattle.pcl_coders.proofs.Along.{right_from_drop}
 use Rattle.pcl_coders.proofs.Filling.{appended_more, appended_all}
 use Rattle.pcl_coders.proofs.table.append_steps.Goals as goal

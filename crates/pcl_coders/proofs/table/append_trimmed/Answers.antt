@@ -1,6 +1,5 @@
-use Rattle.std.proofs.Common.{List, ℕ, sym, subst}
+use Rattle.pcl_coders.proofs.Names.{List, ℕ, sym, subst, AppendsLeast}
 use Rattle.pcl_base.specs.declared.method.Method.TheVariants as methods
-use Rattle.pcl_coders.specs.Coding.{AppendsLeast}
 use Rattle.pcl_coders.proofs.Tables.{plain_appended}
 use Rattle.pcl_coders.proofs.table.append_trimmed.Goals as goal
 

@@ -1,5 +1,5 @@
 use Rattle.std.proofs.Common.{length, take, ap, ◌∙◌, inl, inr}
-use Rattle.std.proofs.lemmas.List.{take-replicate}
+use Rattle.pcl_coders.proofs.Names.{take-replicate}
 use Rattle.pcl_coders.proofs.table.base_row.Goals as goal
 
 pub returns-in-Plain : goal.returns-in-Plain

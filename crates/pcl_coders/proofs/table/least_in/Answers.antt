@@ -1,5 +1,5 @@
 use Rattle.std.proofs.Common.{subst, sym, ◌∙◌}
-use Rattle.pcl_coders.specs.Coding.{IsLeastLength}
+use Rattle.pcl_coders.proofs.Names.{IsLeastLength}
 use Rattle.pcl_coders.proofs.Filling.{table_is_least, first_is_least}
 use Rattle.pcl_coders.proofs.table.least_in.Goals as goal
 

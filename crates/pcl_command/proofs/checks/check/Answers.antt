@@ -1,18 +1,5 @@
 use Rattle.std.proofs.Common.{◌≡◌, ◌∙◌, List, ℕ, Option, Result, Ok, Err, inl, inr, subst}
-use Rattle.std.specs.Global.{Vec}
-use Rattle.std.proofs.lemmas.Result.{err_from_is_err_and}
-use Rattle.std.proofs.KnownBytes.{Keeps-refl}
-use Rattle.pcl_base.specs.declared.dpi.Dpi.{Dpi}
-use Rattle.pcl_tool.specs.declared.fault.Fault.{Fault}
-use Rattle.pcl_tool.specs.declared.fault.Fault.TheVariants.{Refused, Memory, ReadFault, TooLong, WriteFault}
-use Rattle.pcl_tool.specs.declared.job_verdict.CheckAnswer.{CheckAnswer}
-use Rattle.pcl_tool.specs.Transfer.{AppendsFront, IsWritten}
-use Rattle.pcl_request.specs.declared.request.CheckedFiles.{CheckedFiles}
-use Rattle.pcl_command.specs.Files.{FileAct}
-use Rattle.pcl_command.specs.Resolutions.{IsSeenAt}
-use Rattle.pcl_command.specs.Verdicts.{answer_line_of}
-use Rattle.pcl_command.specs.Checks.{AreRead, IsAnswer, IsCheckRun, IsCheckedBeside, IsFileRead, IsUnread}
-use Rattle.pcl_request.specs.Requests.{performed}
+use Rattle.pcl_command.proofs.Names.{Vec, err_from_is_err_and, Keeps-refl, Dpi, Fault, Refused, Memory, ReadFault, TooLong, WriteFault, CheckAnswer, AppendsFront, IsWritten, CheckedFiles, FileAct, IsSeenAt, answer_line_of, AreRead, IsAnswer, IsCheckRun, IsCheckedBeside, IsFileRead, IsUnread, performed}
 use Rattle.pcl_command.proofs.FileReads.{read_fault}
 use Rattle.pcl_command.proofs.checks.check.Goals as goal
 

@@ -1,4 +1,4 @@
-use Rattle.std.proofs.Common.{inr}
+use Rattle.pcl_command.proofs.Names.{inr}
 use Rattle.pcl_command.proofs.checks.read_file.Goals as goal
 
 pub returns-in-Ok : goal.returns-in-Ok

@@ -1,24 +1,6 @@
 use Rattle.std.proofs.Common.{◌≡◌, ◌∙◌, List, ℕ, Option, Result, Ok, Err, inl, inr, refl, sym, subst}
-use Rattle.std.specs.Global.{Vec}
-use Rattle.std.proofs.lemmas.Result.{err_from_is_err_and}
-use Rattle.std.proofs.KnownBytes.{Keeps-refl}
-use Rattle.pcl_base.specs.declared.dpi.Dpi.{Dpi}
-use Rattle.pcl_tool.specs.declared.fault.Fault.{Fault}
-use Rattle.pcl_tool.specs.declared.fault.Fault.TheVariants.{Refused, Memory, ReadFault, TooLong, WriteFault}
-use Rattle.pcl_tool.specs.Transfer.{AppendsFront, IsWritten}
-use Rattle.pcl_same.specs.declared.comparison.AskedComparison.{AskedComparison}
-use Rattle.pcl_same.specs.declared.comparison.Comparison.{Comparison}
-use Rattle.pcl_same.specs.declared.fault.SameFault.{SameFault}
+use Rattle.pcl_command.proofs.Names.{Vec, err_from_is_err_and, Keeps-refl, Dpi, Fault, Refused, Memory, ReadFault, TooLong, WriteFault, AppendsFront, IsWritten, AskedComparison, Comparison, SameFault, IsComparison, IsCompared, of_pages, FileAct, AreSeenAt, IsFileRead, ComparedFiles, Failed, comparison_line_of, AreSeen, IsOneUnread, IsComparisonFor, IsComparedAndDrawn, IsCompareRun, compare_fault_of, dotted_page, IsDrawn}
 use Rattle.pcl_same.specs.declared.fault.SameFault.TheVariants as same
-use Rattle.pcl_same.specs.Comparing.{IsComparison, IsCompared, of_pages}
-use Rattle.pcl_command.specs.Files.{FileAct}
-use Rattle.pcl_command.specs.Resolutions.{AreSeenAt}
-use Rattle.pcl_command.specs.Checks.{IsFileRead}
-use Rattle.pcl_request.specs.declared.request.ComparedFiles.{ComparedFiles}
-use Rattle.pcl_command.specs.declared.comparisons.CompareFault.TheVariants.{Failed}
-use Rattle.pcl_command.specs.ComparisonLines.{comparison_line_of}
-use Rattle.pcl_command.specs.Comparisons.{AreSeen, IsOneUnread, IsComparisonFor, IsComparedAndDrawn, IsCompareRun, compare_fault_of}
-use Rattle.pcl_command.specs.DifferenceImages.{dotted_page, IsDrawn}
 use Rattle.pcl_command.proofs.FileReads.{read_fault}
 use Rattle.pcl_command.proofs.ComparedFor.{by_pages}
 use Rattle.pcl_command.proofs.Drawn.{drawn_fault}

@@ -1,4 +1,4 @@
-use Rattle.std.proofs.lemmas.Result.{err_from_is_err_and}
+use Rattle.pcl_command.proofs.Names.{err_from_is_err_and}
 use Rattle.pcl_command.proofs.SamePages.{both_number, page_fails, same_size}
 use Rattle.pcl_command.proofs.difference_images.differing_page.Goals as goal
 

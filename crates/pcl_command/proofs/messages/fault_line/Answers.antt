@@ -1,9 +1,5 @@
 use Rattle.std.proofs.Common.{◌≡◌, ◌∙◌, ◌++◌, List, ℕ, ap, append_assoc}
-use Rattle.std.specs.Prelude.{codes, decimal}
-use Rattle.std.specs.Global.{Vec}
-use Rattle.pcl_base.specs.Refusal.{refusal_text}
-use Rattle.pcl_tool.specs.declared.fault.Fault.{Fault}
-use Rattle.pcl_command.specs.Messages.{text_of, line_of}
+use Rattle.pcl_command.proofs.Names.{codes, decimal, Vec, refusal_text, Fault, text_of, line_of}
 use Rattle.pcl_command.proofs.messages.fault_line.Goals as goal
 use Rattle.pcl_command.proofs.messages.fault_line.Goals.{in-Refused+in_ok-extend_from_slice-in-Refused+in_ok-write_text-in-Refused, in-NoSuchPage+in_ok-extend_from_slice-in-NoSuchPage+in_ok-extend_from_slice-in-NoSuchPage-2, in-ReadFault+in_ok-extend_from_slice-in-ReadFault, in-TooLong+in_ok-extend_from_slice-in-TooLong, in-WriteFault+in_ok-extend_from_slice-in-WriteFault, in-Memory+in_ok-extend_from_slice-in-Memory}
 

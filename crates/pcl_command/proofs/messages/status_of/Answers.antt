@@ -1,4 +1,4 @@
-use Rattle.std.proofs.Common.{rules}
+use Rattle.pcl_command.proofs.Names.{rules}
 use Rattle.pcl_command.proofs.messages.status_of.Goals as goal
 
 pub returns-in-Refused : goal.returns-in-Refused

@@ -1,4 +1,4 @@
-use Rattle.std.proofs.Common.{inr}
+use Rattle.pcl_command.proofs.Names.{inr}
 use Rattle.pcl_command.proofs.running.certify.Goals as goal
 
 pub returns : goal.returns

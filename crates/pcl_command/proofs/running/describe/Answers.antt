@@ -1,8 +1,4 @@
-use Rattle.std.proofs.Common.{List, ℕ, Err, subst}
-use Rattle.std.proofs.lemmas.Result.{err_from_is_err_and}
-use Rattle.pcl_page.specs.Delivering.{IsRefusal}
-use Rattle.pcl_pages.specs.Describing.{IsDescribed}
-use Rattle.pcl_command.specs.Runs.{TellsOfPages}
+use Rattle.pcl_command.proofs.Names.{List, ℕ, Err, subst, err_from_is_err_and, IsRefusal, IsDescribed, TellsOfPages}
 use Rattle.pcl_command.proofs.Told.{told, untold, undescribed}
 use Rattle.pcl_command.proofs.running.describe.Goals as goal
 

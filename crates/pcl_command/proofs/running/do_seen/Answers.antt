@@ -1,4 +1,4 @@
-use Rattle.std.proofs.Common.{Some, inr}
+use Rattle.pcl_command.proofs.Names.{Some, inr}
 use Rattle.pcl_command.proofs.running.do_seen.Goals as goal
 
 pub returns-in-Given : goal.returns-in-Given

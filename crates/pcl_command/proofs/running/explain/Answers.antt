@@ -1,5 +1,4 @@
-use Rattle.pcl_explain.specs.Findings.{Explains}
-use Rattle.pcl_command.specs.Runs.{NeverRefuses}
+use Rattle.pcl_command.proofs.Names.{Explains, NeverRefuses}
 use Rattle.pcl_command.proofs.Told.{told}
 use Rattle.pcl_command.proofs.running.explain.Goals as goal
 

@@ -1,5 +1,4 @@
-use Rattle.std.proofs.Common.{List, ℕ, subst}
-use Rattle.pcl_tool.specs.PageImages.{IsPagesPreview}
+use Rattle.pcl_command.proofs.Names.{List, ℕ, subst, IsPagesPreview}
 use Rattle.pcl_command.proofs.Shown.{shown}
 use Rattle.pcl_command.proofs.running.show.Goals as goal
 

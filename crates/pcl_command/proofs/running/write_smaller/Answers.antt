@@ -1,7 +1,4 @@
-use Rattle.std.proofs.Common.{List, ℕ, Err, subst}
-use Rattle.std.proofs.lemmas.Result.{err_from_is_err_and}
-use Rattle.pcl_page.specs.Delivering.{IsRefusal}
-use Rattle.pcl_shrink.specs.Shrinking.{IsSmallerJob, IsShrunk}
+use Rattle.pcl_command.proofs.Names.{List, ℕ, Err, subst, err_from_is_err_and, IsRefusal, IsSmallerJob, IsShrunk}
 use Rattle.pcl_command.proofs.Told.{told, untold, unshrunk}
 use Rattle.pcl_command.proofs.running.write_smaller.Goals as goal
 

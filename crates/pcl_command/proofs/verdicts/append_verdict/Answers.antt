@@ -1,9 +1,6 @@
 use Rattle.std.proofs.Common.{◌≡◌, ◌++◌, ◌∙◌, ℕ, Bool, List, Result, Ok, Err, sym, ap, append_assoc}
 use Rattle.std.specs.Prelude.{OnOk, is_ok, if◌then◌else◌, codes}
-use Rattle.std.specs.Borrow.{Bor}
-use Rattle.pcl_base.specs.declared.method.Method.{Method}
-use Rattle.pcl_cert.specs.declared.check.Verdict.TheVariants.{Edge}
-use Rattle.pcl_command.specs.Verdicts.{numbers_text, side_text, verdict_text}
+use Rattle.pcl_command.proofs.Names.{Bor, Method, Edge, numbers_text, side_text, verdict_text}
 use Rattle.pcl_command.proofs.verdicts.append_verdict.Goals as goal
 use Rattle.pcl_command.proofs.verdicts.append_verdict.Goals.{then-inside, else-inside}
 

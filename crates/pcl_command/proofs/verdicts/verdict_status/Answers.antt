@@ -1,7 +1,5 @@
 use Rattle.std.proofs.Common.{◌≡◌, arith}
-use Rattle.pcl_tool.specs.declared.job_verdict.JobVerdict.{JobVerdict}
-use Rattle.pcl_tool.specs.declared.job_verdict.JobVerdict.TheVariants.{Proved}
-use Rattle.pcl_command.specs.Checks.{verdict_status_for}
+use Rattle.pcl_command.proofs.Names.{JobVerdict, Proved, verdict_status_for}
 use Rattle.pcl_command.proofs.verdicts.verdict_status.Goals as goal
 
 not_proved : (verdict : JobVerdict) → (verdict ≡ Proved → ⊥) → 1 ≡ verdict_status_for verdict

@@ -1,5 +1,5 @@
 use Rattle.std.proofs.Common.{◌≡◌, ◌+◌, drop}
-use Rattle.pcl_escape.specs.inner.Lines.{line_len}
+use Rattle.pcl_escape.proofs.Names.{line_len}
 use Rattle.pcl_escape.proofs.exit.line_len.Given as goal
 
 -- no LF so far

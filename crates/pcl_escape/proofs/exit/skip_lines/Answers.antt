@@ -1,6 +1,5 @@
 use Rattle.std.proofs.Common.{◌≡◌, Bool, true, if◌then◌else◌, ◌≤◌, ◌+◌, ◌-◌, length, Ok, Err, sym, ap, ◌∙◌, arith}
-use Rattle.pcl_escape.specs.Exit.{names_language, names_pcl}
-use Rattle.pcl_escape.specs.inner.Lines.{lines_at}
+use Rattle.pcl_escape.proofs.Names.{names_language, names_pcl, lines_at}
 use Rattle.pcl_escape.proofs.Lines.{IsCut, at_other_bytes, at_other_line, at_asking_line}
 use Rattle.pcl_escape.proofs.Squeezed.{slice_names_language, slice_names_pcl}
 use Rattle.pcl_escape.proofs.exit.skip_lines.Goals as goal

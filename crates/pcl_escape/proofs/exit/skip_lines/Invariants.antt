@@ -1,5 +1,5 @@
 use Rattle.std.proofs.Common.{◌≡◌, ◌+◌, ◌-◌, ◌≤◌, length}
-use Rattle.pcl_escape.specs.inner.Lines.{lines_at}
+use Rattle.pcl_escape.proofs.Names.{lines_at}
 use Rattle.pcl_escape.proofs.exit.skip_lines.Given as goal
 
 -- what is still to be skipped is what there was to be skipped

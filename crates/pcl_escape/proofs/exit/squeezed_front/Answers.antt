@@ -1,6 +1,5 @@
 use Rattle.std.proofs.Common.{◌≡◌, ◌<◌, List, ℕ, [], ◌∷◌, ◌++◌, length, take, get_or, sym, ap, ◌∙◌}
-use Rattle.std.proofs.lemmas.Grind.{take_at_read}
-use Rattle.pcl_escape.specs.Exit.{squeezed}
+use Rattle.pcl_escape.proofs.Names.{take_at_read, squeezed}
 use Rattle.pcl_escape.proofs.Squeezed.{blank_step, full_step, push_step}
 use Rattle.pcl_escape.proofs.exit.squeezed_front.Goals as goal
 use Rattle.pcl_escape.proofs.exit.squeezed_front.Goals.{then-not-is_white_space+then-not-is_full, else-not-is_white_space, else-not-is_white_space-via-then-not-is_white_space+else-not-is_full, else-not-is_white_space-via-else-not-is_white_space}

@@ -1,5 +1,5 @@
 use Rattle.std.proofs.Common.{◌≡◌, take}
-use Rattle.pcl_escape.specs.Exit.{squeezed}
+use Rattle.pcl_escape.proofs.Names.{squeezed}
 use Rattle.pcl_escape.proofs.exit.squeezed_front.Given as goal
 
 -- the front of what the line says so far

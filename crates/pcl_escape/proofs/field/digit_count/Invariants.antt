@@ -1,6 +1,5 @@
 use Rattle.std.proofs.Common.{◌≡◌, ◌+◌, drop}
-use Rattle.std.specs.List.{prefix_len}
-use Rattle.pcl_base.specs.Digits.{is_digit}
+use Rattle.pcl_escape.proofs.Names.{prefix_len, is_digit}
 use Rattle.pcl_escape.proofs.field.digit_count.Given as goal
 
 -- all so far are digits

@@ -1,5 +1,5 @@
 use Rattle.std.proofs.Common.{◌≡◌, min, take}
-use Rattle.pcl_base.specs.Digits.{number_of}
+use Rattle.pcl_escape.proofs.Names.{number_of}
 use Rattle.pcl_escape.proofs.field.number.Given as goal
 
 -- the number of the digits so far, up to the limit

@@ -1,5 +1,5 @@
 use Rattle.std.proofs.Common.{ℕ, List, take, drop, ap, ◌∙◌}
-use Rattle.std.proofs.lemmas.List.{take_min, drop_min}
+use Rattle.pcl_escape.proofs.Names.{take_min, drop_min}
 use Rattle.pcl_escape.proofs.item.bytes_in.Goals as goal
 
 pub returns : goal.returns

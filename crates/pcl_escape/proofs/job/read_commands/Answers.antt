@@ -1,5 +1,4 @@
-use Rattle.std.proofs.Common.{sym, subst}
-use Rattle.pcl_escape.specs.Pieces.{IsReading}
+use Rattle.pcl_escape.proofs.Names.{sym, subst, IsReading}
 use Rattle.pcl_escape.proofs.Runs.{reading_of, fault_of_scan}
 use Rattle.pcl_escape.proofs.job.read_commands.Goals as goal
 

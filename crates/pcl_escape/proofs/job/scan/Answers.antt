@@ -1,5 +1,5 @@
 use Rattle.std.proofs.Common.{◌-◌, length, arith, refl, sym, ◌∙◌}
-use Rattle.pcl_escape.specs.inner.Scan.{step_view}
+use Rattle.pcl_escape.proofs.Names.{step_view}
 use Rattle.pcl_escape.proofs.Loop.{one_more, stops_at, is_done}
 use Rattle.pcl_escape.proofs.Places.{step_placed}
 use Rattle.pcl_escape.proofs.job.scan.Given.{Over}

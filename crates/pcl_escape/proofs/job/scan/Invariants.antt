@@ -1,5 +1,5 @@
 use Rattle.std.proofs.Common.{◌≡◌, ◌≤◌, length}
-use Rattle.pcl_escape.specs.inner.Scan.{outcome_of}
+use Rattle.pcl_escape.proofs.Names.{outcome_of}
 use Rattle.pcl_escape.proofs.Loop.{so_far}
 use Rattle.pcl_escape.proofs.Places.{IsEndOf}
 use Rattle.pcl_escape.proofs.job.scan.Given as goal

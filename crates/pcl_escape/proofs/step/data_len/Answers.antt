@@ -1,7 +1,5 @@
 use Rattle.std.proofs.Common.{◌≡◌, ◌≢◌, nat_abs, refl, sym, arith}
-use Rattle.std.proofs.lemmas.Bool.{lt-ltb, le-ltb}
-use Rattle.pcl_base.specs.Operation.{operation_of}
-use Rattle.pcl_escape.specs.Checks.{operation_checks}
+use Rattle.pcl_escape.proofs.Names.{lt-ltb, le-ltb, operation_of, operation_checks}
 use Rattle.pcl_escape.proofs.Data.{through_bits, counts, counted, counted_checks}
 use Rattle.pcl_escape.proofs.step.data_len.Goals as goal
 use Rattle.pcl_escape.proofs.step.data_len.Goals.{After-whole-in-Some-3}

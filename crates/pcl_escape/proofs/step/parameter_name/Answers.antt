@@ -1,4 +1,4 @@
-use Rattle.std.proofs.Common.{rules}
+use Rattle.pcl_escape.proofs.Names.{rules}
 use Rattle.pcl_escape.proofs.step.parameter_name.Goals as goal
 
 pub returns-in-Some : goal.returns-in-Some

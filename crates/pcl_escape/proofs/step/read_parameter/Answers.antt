@@ -1,7 +1,7 @@
 use Rattle.std.proofs.Common.{◌≡◌, false, refl, length}
 use Rattle.pcl_escape.specs.Checks.{parameter_checks}
-use Rattle.pcl_escape.specs.Field.{spelled, field_value, in_range}
-use Rattle.pcl_escape.specs.inner.Scan.{parameter_at, checked_at}
+use Rattle.pcl_escape.proofs.Names.{spelled, field_value, in_range, checked_at}
+use Rattle.pcl_escape.specs.inner.Scan.{parameter_at}
 use Rattle.pcl_escape.proofs.Parameters.{nothing_behind, not_given, given, some_if}
 use Rattle.pcl_escape.proofs.step.read_parameter.Goals as goal
 use Rattle.pcl_escape.proofs.step.read_parameter.Goals.{After-parameter_name-name}

@@ -1,5 +1,5 @@
-use Rattle.std.proofs.Common.{refl, ap, arith}
-use Rattle.pcl_escape.specs.inner.Scan.{said_of, ungrouped_at}
+use Rattle.pcl_escape.proofs.Names.{refl, ap, arith, said_of}
+use Rattle.pcl_escape.specs.inner.Scan.{ungrouped_at}
 use Rattle.pcl_escape.proofs.Lines.{lines_within}
 use Rattle.pcl_escape.proofs.Steps.{parameter_shorter}
 use Rattle.pcl_escape.proofs.step.read_ungrouped.Goals as goal

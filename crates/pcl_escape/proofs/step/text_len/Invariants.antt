@@ -1,6 +1,5 @@
 use Rattle.std.proofs.Common.{◌≡◌, ◌+◌, drop}
-use Rattle.std.specs.List.{prefix_len}
-use Rattle.pcl_escape.specs.Letter.{is_text}
+use Rattle.pcl_escape.proofs.Names.{prefix_len, is_text}
 use Rattle.pcl_escape.proofs.step.text_len.Given as goal
 
 -- all so far are text

@@ -1,9 +1,6 @@
 use Rattle.std.proofs.Common.{◌≡◌, ◌-◌, sym, ◌∙◌, arith}
-use Rattle.std.proofs.lemmas.List.{take-replicate}
-use Rattle.pcl_base.specs.Size.{page_height, page_row_bytes}
-use Rattle.pcl_output.specs.PageText.{bitmap_rows}
+use Rattle.pcl_output.proofs.Names.{take-replicate, page_height, page_row_bytes, bitmap_rows, row_small}
 use Rattle.pcl_output.proofs.RowsFrom.{row_of_bytes}
-use Rattle.pcl_base.proofs.PageBounds.{row_small}
 use Rattle.pcl_output.proofs.Walking.{row_above_is}
 use Rattle.pcl_output.proofs.bitmap_rows.row_above.Goals as goal
 

@@ -1,5 +1,5 @@
 use Rattle.std.proofs.Common.{sym, ap, ◌∙◌, arith}
-use Rattle.pcl_output.specs.Spelling.{digit_count}
+use Rattle.pcl_output.proofs.Names.{digit_count}
 use Rattle.pcl_output.proofs.DigitCounts.{count_is, count_of_none}
 use Rattle.pcl_output.proofs.costs.digits.Goals as goal
 

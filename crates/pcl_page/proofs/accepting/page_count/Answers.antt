@@ -1,4 +1,4 @@
-use Rattle.std.proofs.Common.{arith}
+use Rattle.pcl_page.proofs.Names.{arith}
 use Rattle.pcl_page.proofs.Jobs.{accepted_pages, has_pages}
 use Rattle.pcl_page.proofs.Counts.{all_counted}
 use Rattle.pcl_page.proofs.accepting.page_count.Goals as goal

@@ -1,7 +1,5 @@
 use Rattle.std.proofs.Common.{◌≡◌, ◌∙◌, List, ℕ, sym, inl, inr}
-use Rattle.pcl_base.specs.declared.dpi.Dpi.{Dpi}
-use Rattle.pcl_base.specs.declared.refusal.Refusal.{Refusal}
-use Rattle.pcl_page.specs.Delivering.{IsStopped}
+use Rattle.pcl_page.proofs.Names.{Dpi, Refusal, IsStopped}
 use Rattle.pcl_page.proofs.job.one_meaning.Goals as goal
 
 pub returns-clause-pages : goal.returns-clause-pages

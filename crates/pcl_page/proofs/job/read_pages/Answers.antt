@@ -1,4 +1,4 @@
-use Rattle.std.proofs.Common.{[]}
+use Rattle.pcl_page.proofs.Names.{[]}
 use Rattle.pcl_page.proofs.Jobs.{accepted_pages, has_pages, all_shown}
 use Rattle.pcl_page.proofs.job.read_pages.Goals as goal
 

@@ -1,4 +1,4 @@
-use Rattle.std.proofs.Common.{arith}
+use Rattle.pcl_page.proofs.Names.{arith}
 use Rattle.pcl_page.proofs.Pads.{cleared_whole, cleared_last}
 use Rattle.pcl_page.proofs.raster.clear_past.Goals as goal
 

@@ -1,6 +1,5 @@
 use Rattle.std.proofs.Common.{◌∙◌, ap}
-use Rattle.pcl_rows.proofs.Decoded.{decoded_is}
-use Rattle.pcl_page.specs.Raster.{cleared_past}
+use Rattle.pcl_page.proofs.Names.{decoded_is, cleared_past}
 use Rattle.pcl_page.proofs.raster.decode_within.Goals as goal
 
 pub returns : goal.returns

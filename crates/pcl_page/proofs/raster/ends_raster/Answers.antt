@@ -1,4 +1,4 @@
-use Rattle.std.proofs.Common.{rules}
+use Rattle.pcl_page.proofs.Names.{rules}
 use Rattle.pcl_page.proofs.raster.ends_raster.Goals as goal
 
 -- each other command by itself

@@ -1,7 +1,5 @@
 use Rattle.std.proofs.Common.{rules, FitsSigned, to_z, of_z, ◌∙◌, ◌-ℤ◌, ◌*ℤ◌, pos, ℤ, ap, arith}
-use Rattle.std.proofs.lemmas.Int.{to_z_pos, to_z-of_z}
-use Rattle.std.specs.Int.{w16, w32}
-use Rattle.pcl_base.specs.Dpi.{fineness}
+use Rattle.pcl_page.proofs.Names.{to_z_pos, to_z-of_z, w16, w32, fineness}
 use Rattle.pcl_page.proofs.text.above.Goals as goal
 
 pub returns : goal.returns

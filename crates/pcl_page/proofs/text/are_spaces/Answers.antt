@@ -1,6 +1,4 @@
-use Rattle.std.proofs.Common.{nat_le, rules, tests}
-use Rattle.std.proofs.lemmas.Iterator.{YieldsList-from_slice}
-use Rattle.std.proofs.lemmas.Iterator.Search.{all_from_yields_List}
+use Rattle.pcl_page.proofs.Names.{nat_le, rules, tests, YieldsList-from_slice, all_from_yields_List}
 use Rattle.pcl_page.proofs.text.are_spaces.Goals as goal
 
 pub returns : goal.returns

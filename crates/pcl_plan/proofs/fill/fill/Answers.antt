@@ -1,9 +1,6 @@
 use Rattle.std.proofs.Common.{◌≡◌, ◌+◌, ◌-◌, ◌<◌, ℕ, length, sym, subst, ◌∙◌, arith}
-use Rattle.pcl_plan.specs.inner.Rows.{rows_of}
-use Rattle.pcl_plan.specs.inner.Filling.{AreRightFrom}
-use Rattle.pcl_output.proofs.RowsFrom.{length_rows, no_rows}
+use Rattle.pcl_plan.proofs.Names.{rows_of, AreRightFrom, length_rows, no_rows, run_end, white_to_end}
 use Rattle.pcl_plan.proofs.Filled.{IsPut, put_white, put_inked, put_last}
-use Rattle.pcl_output.proofs.WhiteRows.{run_end, white_to_end}
 use Rattle.pcl_plan.proofs.fill.fill.Goals as goal
 use Rattle.pcl_plan.proofs.fill.fill.Goals.{then-row-run, else-row-run}
 

@@ -1,6 +1,4 @@
-use Rattle.pcl_plan.specs.inner.Rows.{rows_of}
-use Rattle.pcl_output.specs.inner.WhiteRows.{IsWhiteRun}
-use Rattle.pcl_plan.specs.inner.Filling.{AreRightFrom}
+use Rattle.pcl_plan.proofs.Names.{rows_of, IsWhiteRun, AreRightFrom}
 use Rattle.pcl_plan.proofs.fill.fill.Given as goal
 
 abbrev pub invariant-loop-row : goal.invariant-loop-row

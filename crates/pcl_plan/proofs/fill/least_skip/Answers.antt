@@ -1,6 +1,4 @@
-use Rattle.std.proofs.Common.{ap, arith}
-use Rattle.pcl_output.specs.Table.{node_number}
-use Rattle.pcl_plan.specs.inner.Filling.{skipping}
+use Rattle.pcl_plan.proofs.Names.{ap, arith, node_number, skipping}
 use Rattle.pcl_plan.proofs.Skips.{skip_is, better_is, least_skip_is}
 use Rattle.pcl_plan.proofs.fill.least_skip.Goals as goal
 

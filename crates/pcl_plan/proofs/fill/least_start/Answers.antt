@@ -1,5 +1,5 @@
 use Rattle.std.proofs.Common.{◌+◌, false, arith}
-use Rattle.pcl_output.proofs.Walking.{node}
+use Rattle.pcl_plan.proofs.Names.{node}
 use Rattle.pcl_plan.proofs.fill.least_start.Goals as goal
 
 pub overflow_add-sent : goal.overflow_add-sent

@@ -1,4 +1,4 @@
-use Rattle.pcl_base.specs.declared.method.Method.TheVariants.{Plain, Runs, Packed, Delta}
+use Rattle.pcl_plan.proofs.Names.{Plain, Runs, Packed, Delta}
 use Rattle.pcl_plan.proofs.fill.least_starts.Goals as goal
 
 pub least_start-requires-clause-bytes : goal.least_start-requires-clause-bytes

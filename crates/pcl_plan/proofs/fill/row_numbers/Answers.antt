@@ -1,14 +1,5 @@
 use Rattle.std.proofs.Common.{◌+◌, ◌<◌, ℕ, List, false, arith}
-use Rattle.pcl_output.specs.Table.{by_method}
-use Rattle.pcl_plan.specs.inner.Rows.{rows_of}
-use Rattle.pcl_plan.specs.declared.rows.Rows.{Rows}
-use Rattle.pcl_output.specs.declared.table.RowNumbers.{RowNumbers}
-use Rattle.pcl_plan.specs.inner.Filling.{IsReadable, AreRightFrom}
-use Rattle.pcl_output.specs.inner.WhiteRows.{IsWhiteRun}
-use Rattle.pcl_output.proofs.RowsFrom.{length_rows}
-use Rattle.pcl_output.proofs.Walking.{node}
-use Rattle.pcl_coders.proofs.Lengths.{length_small}
-use Rattle.pcl_output.proofs.TokenCosts.{row_cost_small}
+use Rattle.pcl_plan.proofs.Names.{by_method, rows_of, Rows, RowNumbers, IsReadable, AreRightFrom, IsWhiteRun, length_rows, node, length_small, row_cost_small}
 use Rattle.pcl_plan.proofs.Filled.{readable, direct_of_start}
 use Rattle.pcl_plan.proofs.fill.row_numbers.Goals as goal
 

@@ -1,7 +1,5 @@
 use Rattle.std.proofs.Common.{◌≡◌, true, false, subst, arith}
-use Rattle.std.specs.Prelude.{IsTrue}
-use Rattle.pcl_output.proofs.RowsFrom.{length_rows}
-use Rattle.pcl_output.proofs.WhiteRows.{run_more, run_none}
+use Rattle.pcl_plan.proofs.Names.{IsTrue, length_rows, run_more, run_none}
 use Rattle.pcl_plan.proofs.fill.white_run.Goals as goal
 
 pub overflow_add-result : goal.overflow_add-result

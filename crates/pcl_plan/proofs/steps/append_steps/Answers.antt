@@ -1,5 +1,4 @@
-use Rattle.std.proofs.Common.{arith}
-use Rattle.pcl_output.proofs.RowsFrom.{length_rows}
+use Rattle.pcl_plan.proofs.Names.{arith, length_rows}
 use Rattle.pcl_plan.proofs.Reading.{right_table, row_left}
 use Rattle.pcl_plan.proofs.ReadSteps.{read_more, read_less, read_all}
 use Rattle.pcl_plan.proofs.steps.append_steps.Goals as goal

@@ -1,5 +1,4 @@
-use Rattle.pcl_output.specs.Table.{node_number}
-use Rattle.pcl_plan.specs.inner.Rows.{rows_of}
+use Rattle.pcl_plan.proofs.Names.{node_number, rows_of}
 use Rattle.pcl_plan.proofs.ReadSteps.{IsReadTo}
 use Rattle.pcl_plan.proofs.steps.append_steps.Given as goal
 

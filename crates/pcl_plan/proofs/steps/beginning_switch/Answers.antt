@@ -1,4 +1,4 @@
-use Rattle.pcl_base.specs.declared.method.Method.TheVariants.{Plain, Runs, Packed, Delta}
+use Rattle.pcl_plan.proofs.Names.{Plain, Runs, Packed, Delta}
 use Rattle.pcl_plan.proofs.steps.beginning_switch.Goals as goal
 
 pub switch_number-requires-clause-small : goal.switch_number-requires-clause-small

@@ -1,9 +1,5 @@
 use Rattle.std.proofs.Common.{ℕ, ◌+◌, ◌<◌, length, false, sym, ◌∙◌, arith}
-use Rattle.pcl_coders.proofs.Lengths.{length_small}
-use Rattle.pcl_plan.specs.declared.rows.Rows.{Rows}
-use Rattle.pcl_plan.specs.inner.Rows.{rows_of}
-use Rattle.pcl_output.proofs.RowsFrom.{length_rows}
-use Rattle.pcl_output.proofs.Walking.{node}
+use Rattle.pcl_plan.proofs.Names.{length_small, Rows, rows_of, length_rows, node}
 use Rattle.pcl_plan.proofs.Reading.{right_table, readable_run, skip_bound, small_number, row_begins}
 use Rattle.pcl_plan.proofs.Filled.{skippable}
 use Rattle.pcl_plan.proofs.steps.best_step.Goals as goal

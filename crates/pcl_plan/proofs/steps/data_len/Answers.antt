@@ -1,5 +1,4 @@
-use Rattle.std.proofs.Common.{arith}
-use Rattle.pcl_output.proofs.TokenCosts.{row_cost_small}
+use Rattle.pcl_plan.proofs.Names.{arith, row_cost_small}
 use Rattle.pcl_plan.proofs.DataLengths.{cost_of_none, cost_of_some}
 use Rattle.pcl_plan.proofs.steps.data_len.Goals as goal
 

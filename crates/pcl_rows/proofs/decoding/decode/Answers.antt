@@ -1,4 +1,4 @@
-use Rattle.pcl_base.specs.declared.method.Method.TheVariants.{Plain, Runs, Packed, Delta}
+use Rattle.pcl_rows.proofs.Names.{Plain, Runs, Packed, Delta}
 use Rattle.pcl_rows.proofs.Readings.{row_of_plain, decodes_from}
 use Rattle.pcl_rows.proofs.decoding.decode.Goals as goal
 

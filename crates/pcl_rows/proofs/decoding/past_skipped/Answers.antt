@@ -1,5 +1,4 @@
-use Rattle.std.proofs.Common.{ℕ, List}
-use Rattle.std.proofs.lemmas.List.{take-append-drop, take_rest}
+use Rattle.pcl_rows.proofs.Names.{ℕ, List, take-append-drop, take_rest}
 use Rattle.pcl_rows.proofs.decoding.past_skipped.Goals as goal
 
 pub returns-in-Packed : goal.returns-in-Packed

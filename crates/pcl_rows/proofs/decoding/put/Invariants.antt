@@ -1,5 +1,5 @@
 use Rattle.std.proofs.Common.{◌≡◌, ◌+◌, length, min, replicate, flat_map, take}
-use Rattle.pcl_rows.specs.inner.Fronts.{overlaid}
+use Rattle.pcl_rows.proofs.Names.{overlaid}
 use Rattle.pcl_rows.proofs.decoding.put.Given as goal
 
 abbrev pub invariant-loop-byte : goal.invariant-loop-byte

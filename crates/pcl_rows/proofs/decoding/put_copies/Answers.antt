@@ -1,5 +1,5 @@
 use Rattle.std.proofs.Common.{◌≡◌, ◌+◌, ◌-◌, length, take, drop, sym, arith}
-use Rattle.std.proofs.lemmas.List.{length-take, length-drop, drop-drop}
+use Rattle.pcl_rows.proofs.Names.{length-take, length-drop, drop-drop}
 use Rattle.pcl_rows.proofs.Overlays.{overlaid_copies}
 use Rattle.pcl_rows.proofs.decoding.put_copies.Goals as goal
 

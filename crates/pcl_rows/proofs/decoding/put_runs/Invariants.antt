@@ -1,5 +1,5 @@
 use Rattle.std.proofs.Common.{◌≤◌, ◌*◌, length, drop}
-use Rattle.pcl_base.specs.declared.method.Method.TheVariants.{Runs}
+use Rattle.pcl_rows.proofs.Names.{Runs}
 use Rattle.pcl_rows.proofs.Readings.{IsTreatedTo}
 use Rattle.pcl_rows.proofs.decoding.put_runs.Given as goal
 

@@ -1,6 +1,5 @@
 use Rattle.std.proofs.Common.{◌≡◌, ◌<◌, length, [], sym, ◌∙◌, arith}
-use Rattle.std.proofs.lemmas.Bool.{eqb-true, eqb-false}
-use Rattle.std.proofs.lemmas.List.{nil_from_length}
+use Rattle.pcl_rows.proofs.Names.{eqb-true, eqb-false, nil_from_length}
 use Rattle.pcl_rows.proofs.Readings.{treated_more, treated_all, treated_none, treated_skipped, past_skipped_length, rest_shorter}
 use Rattle.pcl_rows.proofs.Ends.{rest_bytes, skipped_bytes, treated_full}
 use Rattle.pcl_rows.proofs.decoding.treat.Goals as goal

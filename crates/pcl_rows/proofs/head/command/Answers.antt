@@ -1,6 +1,5 @@
 use Rattle.std.proofs.Common.{ℕ, ◌+◌, ◌*◌, ◌++◌, ◌∷◌, [], List, replicate, refl, arith}
-use Rattle.std.proofs.lemmas.List.{take_rest, length-append, length-replicate}
-use Rattle.pcl_rows.specs.Heads.{Near, Far}
+use Rattle.pcl_rows.proofs.Names.{take_rest, length-append, length-replicate, Near, Far}
 use Rattle.pcl_rows.proofs.Beginnings.{Begins-one, Begins-cons, opens_with}
 use Rattle.pcl_rows.proofs.head.command.Goals as goal
 

@@ -1,5 +1,5 @@
 use Rattle.std.proofs.Common.{refl, sym, ◌∙◌, arith}
-use Rattle.pcl_rows.specs.Heads.{Literal, Repeat, Skipped}
+use Rattle.pcl_rows.proofs.Names.{Literal, Repeat, Skipped}
 use Rattle.pcl_rows.proofs.Beginnings.{Begins-one, opens_with}
 use Rattle.pcl_rows.proofs.head.control.Goals as goal
 

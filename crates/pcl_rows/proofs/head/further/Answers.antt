@@ -1,5 +1,5 @@
 use Rattle.std.proofs.Common.{length, ◌≡◌, refl, arith}
-use Rattle.std.proofs.lemmas.List.{take_all}
+use Rattle.pcl_rows.proofs.Names.{take_all}
 use Rattle.pcl_rows.proofs.Beginnings.{Begins-further, Begins-full}
 use Rattle.pcl_rows.proofs.head.further.Goals as goal
 

@@ -1,4 +1,4 @@
-use Rattle.pcl_rows.specs.Rows.{base}
+use Rattle.pcl_rows.proofs.Names.{base}
 use Rattle.pcl_rows.proofs.OneReading.{one_row}
 use Rattle.pcl_rows.proofs.laws.data_makes_one_row.Goals as goal
 

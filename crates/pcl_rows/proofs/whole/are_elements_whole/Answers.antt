@@ -1,6 +1,5 @@
 use Rattle.std.proofs.Common.{◌<◌, length, sym, refl, ◌∙◌, arith}
-use Rattle.std.proofs.lemmas.Bool.{eqb-false}
-use Rattle.pcl_rows.specs.Rows.{IsWhole}
+use Rattle.pcl_rows.proofs.Names.{eqb-false, IsWhole}
 use Rattle.pcl_rows.proofs.Readings.{whole_more, whole_past, whole_cut}
 use Rattle.pcl_rows.proofs.whole.are_elements_whole.Goals as goal
 use Rattle.pcl_rows.proofs.whole.are_elements_whole.Goals.{then-not-front-via-then-not-front, then-not-front-via-else-not-front+then-room-stop}

@@ -1,5 +1,5 @@
 use Rattle.std.proofs.Common.{◌↔◌, length}
-use Rattle.pcl_rows.specs.Rows.{IsWhole}
+use Rattle.pcl_rows.proofs.Names.{IsWhole}
 use Rattle.pcl_rows.proofs.whole.are_elements_whole.Given as goal
 
 abbrev pub invariant-loop-rest : goal.invariant-loop-rest

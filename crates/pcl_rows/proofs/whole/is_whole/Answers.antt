@@ -1,4 +1,4 @@
-use Rattle.std.proofs.Common.{length, leb-true, le-leb}
+use Rattle.pcl_rows.proofs.Names.{length, leb-true, le-leb}
 use Rattle.pcl_rows.proofs.Readings.{plain_is_whole}
 use Rattle.pcl_rows.proofs.whole.is_whole.Goals as goal
 

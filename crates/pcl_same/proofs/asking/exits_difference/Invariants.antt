@@ -1,5 +1,5 @@
 use Rattle.std.proofs.Common.{◌≡◌, take, map}
-use Rattle.pcl_page.specs.Asks.{exit_of}
+use Rattle.pcl_same.proofs.Names.{exit_of}
 use Rattle.pcl_same.proofs.asking.exits_difference.Given as goal
 
 abbrev pub invariant-loop-place : goal.invariant-loop-place

@@ -1,6 +1,4 @@
-use Rattle.std.proofs.Common.{arith}
-use Rattle.pcl_env.specs.Settings.{nothing_asked}
-use Rattle.pcl_same.specs.DifferingAsks.{IsFirstSetting}
+use Rattle.pcl_same.proofs.Names.{arith, nothing_asked, IsFirstSetting}
 use Rattle.pcl_same.proofs.FirstAsked.{differ_here}
 use Rattle.pcl_same.proofs.asking.page_difference.Goals as goal
 

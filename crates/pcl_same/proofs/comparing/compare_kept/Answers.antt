@@ -1,6 +1,5 @@
 use Rattle.std.proofs.Common.{◌≡◌, length, ap, ◌∙◌, arith}
-use Rattle.pcl_page.proofs.Jobs.{accepted_pages, has_pages}
-use Rattle.pcl_same.specs.inner.Pages.{Compared}
+use Rattle.pcl_same.proofs.Names.{accepted_pages, has_pages, Compared}
 use Rattle.pcl_same.proofs.Answered.{beside_kept}
 use Rattle.pcl_same.proofs.Beside.{found_all}
 use Rattle.pcl_same.proofs.comparing.compare_kept.Goals as goal

@@ -1,5 +1,5 @@
 use Rattle.std.proofs.Common.{◌≡◌, length, arith}
-use Rattle.std.proofs.Math.Seq.{take-length}
+use Rattle.pcl_same.proofs.Names.{take-length}
 use Rattle.pcl_same.proofs.Concluded.{next_alike, first_found}
 use Rattle.pcl_same.proofs.comparing.pages_difference.Goals as goal
 

@@ -1,6 +1,4 @@
-use Rattle.std.proofs.Common.{take}
-use Rattle.std.specs.List.{AllByRecursion}
-use Rattle.pcl_same.specs.inner.Pages.{IsAlike}
+use Rattle.pcl_same.proofs.Names.{take, AllByRecursion, IsAlike}
 use Rattle.pcl_same.proofs.comparing.pages_difference.Given as goal
 
 abbrev pub invariant-loop-before : goal.invariant-loop-before

@@ -1,4 +1,4 @@
-use Rattle.std.proofs.Common.{arith}
+use Rattle.pcl_same.proofs.Names.{arith}
 use Rattle.pcl_same.proofs.DifferingDots.{row_of_bits}
 use Rattle.pcl_same.proofs.images.differing_bits.Goals as goal
 

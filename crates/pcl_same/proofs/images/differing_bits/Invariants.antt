@@ -1,6 +1,5 @@
 use Rattle.std.proofs.Common.{◌≡◌, ℕ, ◌<◌, length}
-use Rattle.std.specs.Prelude.{slice_index}
-use Rattle.std.specs.Int.Bits.{bit_xor}
+use Rattle.pcl_same.proofs.Names.{slice_index, bit_xor}
 use Rattle.pcl_same.proofs.images.differing_bits.Given as goal
 
 abbrev pub invariant-loop-place : goal.invariant-loop-place

@@ -1,4 +1,4 @@
-use Rattle.pcl_page.proofs.Jobs.{accepted_pages, has_pages}
+use Rattle.pcl_same.proofs.Names.{accepted_pages, has_pages}
 use Rattle.pcl_same.proofs.Beside.{all_kept}
 use Rattle.pcl_same.proofs.keeping.keep_job.Goals as goal
 

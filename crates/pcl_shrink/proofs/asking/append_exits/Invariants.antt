@@ -1,6 +1,5 @@
 use Rattle.std.proofs.Common.{◌≡◌, ◌++◌, take, map}
-use Rattle.pcl_page.specs.Asks.{exit_of}
-use Rattle.pcl_shrink.specs.Asking.{exits_after, is_exit_after}
+use Rattle.pcl_shrink.proofs.Names.{exit_of, exits_after, is_exit_after}
 use Rattle.pcl_shrink.proofs.asking.append_exits.Given as goal
 
 -- the exits so far are written, and it is known whether there is one

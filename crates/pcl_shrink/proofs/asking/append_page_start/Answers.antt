@@ -1,6 +1,5 @@
 use Rattle.std.proofs.Common.{◌≡◌, suc, Bool, ◌||◌, subst, arith}
-use Rattle.pcl_page.specs.Asks.{asks_of}
-use Rattle.pcl_shrink.specs.Asking.{is_reset_before}
+use Rattle.pcl_shrink.proofs.Names.{asks_of, is_reset_before}
 use Rattle.pcl_shrink.proofs.Asked.{starts_later, resets_later}
 use Rattle.pcl_shrink.proofs.asking.append_page_start.Goals as goal
 

@@ -1,4 +1,4 @@
-use Rattle.pcl_page.proofs.Jobs.{accepted_pages, has_pages}
+use Rattle.pcl_shrink.proofs.Names.{accepted_pages, has_pages}
 use Rattle.pcl_shrink.proofs.letter_jobs.after_pages.Goals as goal
 
 pub returns : goal.returns

@@ -1,8 +1,4 @@
-use Rattle.std.proofs.Common.{length, arith}
-use Rattle.std.proofs.lemmas.List.{length-map}
-use Rattle.pcl_page.specs.Asks.{asks_of}
-use Rattle.pcl_shrink.specs.declared.rasters.Text.{Text}
-use Rattle.pcl_shrink.specs.Texts.{least_of}
+use Rattle.pcl_shrink.proofs.Names.{length, arith, length-map, asks_of, Text, least_of}
 use Rattle.pcl_shrink.proofs.Listed.{as_many_texts}
 use Rattle.pcl_shrink.proofs.proposals.propose.Goals as goal
 

@@ -1,6 +1,5 @@
 use Rattle.std.proofs.Common.{ap, ◌∙◌, ◌++◌, List, ℕ}
-use Rattle.pcl_page.specs.Asks.{asks_of}
-use Rattle.pcl_shrink.specs.declared.rasters.Text.{Text}
+use Rattle.pcl_shrink.proofs.Names.{asks_of, Text}
 use Rattle.pcl_shrink.proofs.Asked.{appended_page}
 use Rattle.pcl_shrink.proofs.raster_jobs.asked_job.Goals as goal
 

@@ -1,7 +1,5 @@
 use Rattle.std.proofs.Common.{◌≡◌, take}
-use Rattle.pcl_page.specs.Asks.{asks_of}
-use Rattle.pcl_shrink.specs.Asking.{asked_pages}
-use Rattle.pcl_shrink.specs.Texts.{least_of}
+use Rattle.pcl_shrink.proofs.Names.{asks_of, asked_pages, least_of}
 use Rattle.pcl_shrink.proofs.raster_jobs.asked_job.Given as goal
 
 -- the pages so far are written

@@ -1,7 +1,5 @@
 use Rattle.std.proofs.Common.{ap, length, ◌++◌, ◌∙◌, List, ℕ, arith}
-use Rattle.pcl_page.specs.Asks.{asks_of}
-use Rattle.pcl_shrink.specs.declared.rasters.Text.{Text}
-use Rattle.pcl_shrink.specs.Asking.{page_start}
+use Rattle.pcl_shrink.proofs.Names.{asks_of, Text, page_start}
 use Rattle.pcl_shrink.proofs.Asked.{counted_page}
 use Rattle.pcl_shrink.proofs.raster_jobs.asked_len.Goals as goal
 

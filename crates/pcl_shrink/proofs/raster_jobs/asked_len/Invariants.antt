@@ -1,7 +1,5 @@
 use Rattle.std.proofs.Common.{◌≤◌, length, take}
-use Rattle.pcl_page.specs.Asks.{asks_of}
-use Rattle.pcl_shrink.specs.Asking.{asked_pages}
-use Rattle.pcl_shrink.specs.Texts.{least_of}
+use Rattle.pcl_shrink.proofs.Names.{asks_of, asked_pages, least_of}
 use Rattle.pcl_shrink.proofs.raster_jobs.asked_len.Given as goal
 
 -- no more is counted than the pages so far take

@@ -1,5 +1,5 @@
 use Rattle.std.proofs.Common.{◌∙◌, List, ℕ, ◌++◌, sym, ap, subst}
-use Rattle.pcl_writer.specs.Appending.{IsWrittenPage}
+use Rattle.pcl_shrink.proofs.Names.{IsWrittenPage}
 use Rattle.pcl_shrink.proofs.rasters.least_text.Goals as goal
 
 pub returns : goal.returns

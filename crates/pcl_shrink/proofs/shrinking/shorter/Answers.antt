@@ -1,4 +1,4 @@
-use Rattle.std.proofs.Common.{arith}
+use Rattle.pcl_shrink.proofs.Names.{arith}
 use Rattle.pcl_shrink.proofs.Looked.{says_same, says_unlike}
 use Rattle.pcl_shrink.proofs.Shorter.{stays_shorter, stays_unlike, takes_proposal}
 use Rattle.pcl_shrink.proofs.shrinking.shorter.Goals as goal

@@ -1,5 +1,5 @@
 use Rattle.std.proofs.Common.{◌∙◌, ap, length, subst, sym}
-use Rattle.pcl_shrink.specs.Shrinking.{IsSmallerJob}
+use Rattle.pcl_shrink.proofs.Names.{IsSmallerJob}
 use Rattle.pcl_shrink.proofs.Smaller.{input_best}
 use Rattle.pcl_shrink.proofs.shrinking.shrink.Goals as goal
 

@@ -1,5 +1,4 @@
-use Rattle.std.proofs.Common.{arith}
-use Rattle.pcl_shrink.specs.Texts.{least_of}
+use Rattle.pcl_shrink.proofs.Names.{arith, least_of}
 use Rattle.pcl_shrink.proofs.Shorter.{limited_job, raster_job}
 use Rattle.pcl_shrink.proofs.shrinking.within.Goals as goal
 

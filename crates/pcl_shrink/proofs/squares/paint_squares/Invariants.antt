@@ -1,5 +1,5 @@
 use Rattle.std.proofs.Common.{◌≡◌}
-use Rattle.pcl_bitmap.specs.Bitmap.{IsPicture}
+use Rattle.pcl_shrink.proofs.Names.{IsPicture}
 use Rattle.pcl_shrink.proofs.squares.paint_squares.Given as goal
 
 abbrev pub invariant-loop-y : goal.invariant-loop-y

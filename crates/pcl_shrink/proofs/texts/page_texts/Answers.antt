@@ -1,6 +1,4 @@
-use Rattle.std.proofs.Common.{ap, sym, subst}
-use Rattle.pcl_page.proofs.Jobs.{accepted_pages, has_pages}
-use Rattle.pcl_shrink.specs.Texts.{AreLeastTexts, least_of}
+use Rattle.pcl_shrink.proofs.Names.{ap, sym, subst, accepted_pages, has_pages, AreLeastTexts, least_of}
 use Rattle.pcl_shrink.proofs.Listed.{texts_from_none}
 use Rattle.pcl_shrink.proofs.texts.page_texts.Goals as goal
 

@@ -1,8 +1,5 @@
 use Rattle.std.proofs.Common.{◌≡◌, List, ℕ}
-use Rattle.std.proofs.lemmas.Result.{err_from_is_err_and}
-use Rattle.pcl_base.specs.declared.dpi.Dpi.{Dpi}
-use Rattle.pcl_base.specs.declared.size.Size.{Size}
-use Rattle.pcl_tool.specs.Image.{header_of}
+use Rattle.pcl_tool.proofs.Names.{err_from_is_err_and, Dpi, Size, header_of}
 use Rattle.pcl_tool.proofs.Writes.{stopped_in_header, rows_written}
 use Rattle.pcl_tool.proofs.image.write_image.Goals as goal
 

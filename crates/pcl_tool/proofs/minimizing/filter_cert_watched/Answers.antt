@@ -1,6 +1,4 @@
-use Rattle.std.proofs.Common.{List, ℕ, Err, subst}
-use Rattle.std.proofs.lemmas.Result.{err_from_is_err_and}
-use Rattle.pcl_tool.specs.Transfer.{IsWritten}
+use Rattle.pcl_tool.proofs.Names.{List, ℕ, Err, subst, err_from_is_err_and, IsWritten}
 use Rattle.pcl_tool.proofs.Filtered.{stopped_in_job, filtered_cert}
 use Rattle.pcl_tool.proofs.minimizing.filter_cert_watched.Goals as goal
 

@@ -1,4 +1,4 @@
-use Rattle.std.proofs.lemmas.Result.{err_from_is_err_and}
+use Rattle.pcl_tool.proofs.Names.{err_from_is_err_and}
 use Rattle.pcl_tool.proofs.Filtered.{filtered, not_read, not_performed}
 use Rattle.pcl_tool.proofs.minimizing.filter_watched.Goals as goal
 

@@ -1,7 +1,5 @@
 use Rattle.std.proofs.Common.{◌∙◌, ◌++◌, refl, ap}
-use Rattle.std.proofs.lemmas.Result.{err_from_is_err_and}
-use Rattle.pcl_output.specs.Tokens.{frame_bytes}
-use Rattle.pcl_tool.specs.inner.WrittenJobs.{SoFar, TakesText}
+use Rattle.pcl_tool.proofs.Names.{err_from_is_err_and, frame_bytes, SoFar, TakesText}
 use Rattle.pcl_tool.proofs.Proved.{not_taken, not_written, written_output}
 use Rattle.pcl_tool.proofs.minimizing.write_again.Goals as goal
 

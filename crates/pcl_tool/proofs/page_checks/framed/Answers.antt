@@ -1,7 +1,4 @@
-use Rattle.std.proofs.Common.{Some}
-use Rattle.std.proofs.lemmas.Slice.Eq.{strip_prefix_is, strip_suffix_is}
-use Rattle.std.proofs.lemmas.Bool.Decides.{Decides-eqb}
-use Rattle.pcl_output.specs.Tokens.{frame_bytes}
+use Rattle.pcl_tool.proofs.Names.{Some, strip_prefix_is, strip_suffix_is, Decides-eqb, frame_bytes}
 use Rattle.pcl_tool.proofs.Framed.{framed_is}
 use Rattle.pcl_tool.proofs.page_checks.framed.Goals as goal
 

@@ -1,5 +1,5 @@
 use Rattle.std.proofs.Common.{◌≡◌, ◌+◌, drop}
-use Rattle.pcl_tool.specs.JobVerdicts.{text_bytes}
+use Rattle.pcl_tool.proofs.Names.{text_bytes}
 use Rattle.pcl_tool.proofs.page_checks.have_length.Given as goal
 
 abbrev pub invariant-loop-proof : goal.invariant-loop-proof

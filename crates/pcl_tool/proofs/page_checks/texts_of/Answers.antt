@@ -1,6 +1,5 @@
-use Rattle.std.proofs.Common.{List, ℕ, length, refl, ap, arith, length-append}
-use Rattle.std.proofs.lemmas.Bool.{false≢true}
-use Rattle.pcl_tool.specs.JobVerdicts.{IsFramed}
+use Rattle.pcl_tool.proofs.Names.{List, ℕ, length, refl, ap, arith, false≢true, IsFramed}
+use Rattle.std.proofs.Common.{length-append}
 use Rattle.pcl_tool.proofs.page_checks.texts_of.Goals as goal
 
 pub returns-then-have_length : goal.returns-then-have_length

@@ -1,4 +1,4 @@
-use Rattle.std.proofs.Common.{refl}
+use Rattle.pcl_tool.proofs.Names.{refl}
 use Rattle.pcl_tool.proofs.page_checks.verdict_on.Goals as goal
 
 pub returns-in-Proved : goal.returns-in-Proved

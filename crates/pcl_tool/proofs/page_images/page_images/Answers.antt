@@ -1,6 +1,4 @@
-use Rattle.std.proofs.Common.{refl, sym, ap}
-use Rattle.pcl_page.proofs.Jobs.{has_pages}
-use Rattle.pcl_tool.specs.inner.Showing.{Showing}
+use Rattle.pcl_tool.proofs.Names.{refl, sym, ap, has_pages, Showing}
 use Rattle.pcl_tool.proofs.Showings.{all_made, met_by, one_lacks, unmet_by}
 use Rattle.pcl_tool.proofs.page_images.page_images.Goals as goal
 

@@ -1,4 +1,4 @@
-use Rattle.std.proofs.lemmas.Result.{err_from_is_err_and}
+use Rattle.pcl_tool.proofs.Names.{err_from_is_err_and}
 use Rattle.pcl_tool.proofs.Showings.{none_shown, all_shown}
 use Rattle.pcl_tool.proofs.page_images.preview_pages.Goals as goal
 

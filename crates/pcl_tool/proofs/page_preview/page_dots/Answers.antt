@@ -1,5 +1,4 @@
-use Rattle.std.proofs.Common.{refl}
-use Rattle.pcl_page.proofs.Jobs.{has_pages}
+use Rattle.pcl_tool.proofs.Names.{refl, has_pages}
 use Rattle.pcl_tool.proofs.Choices.{dots_kept}
 use Rattle.pcl_tool.proofs.page_preview.page_dots.Goals as goal
 

@@ -1,4 +1,4 @@
-use Rattle.std.proofs.lemmas.Result.{err_from_is_err_and}
+use Rattle.pcl_tool.proofs.Names.{err_from_is_err_and}
 use Rattle.pcl_tool.proofs.Choices.{unseen, previewed}
 use Rattle.pcl_tool.proofs.page_preview.preview.Goals as goal
 

@@ -1,7 +1,5 @@
 use Rattle.std.proofs.Common.{◌++◌, ℕ, take, length-append, arith}
-use Rattle.std.proofs.KnownBytes.{Consumes-kept, Consumes-trans}
-use Rattle.std.proofs.lemmas.Result.{err_from_is_err_and}
-use Rattle.std.proofs.lemmas.List.{length-take}
+use Rattle.pcl_tool.proofs.Names.{Consumes-kept, Consumes-trans, err_from_is_err_and, length-take}
 use Rattle.pcl_tool.proofs.reading.read_all.Goals as goal
 
 pub returns-in_default : goal.returns-in_default

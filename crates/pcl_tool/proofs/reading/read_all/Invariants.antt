@@ -1,5 +1,5 @@
 use Rattle.std.proofs.Common.{◌≤◌, ◌-◌, ◌+◌, vec_len}
-use Rattle.std.specs.Io.KnownBytes.{Consumes}
+use Rattle.pcl_tool.proofs.Names.{Consumes}
 use Rattle.pcl_tool.proofs.reading.read_all.Given as goal
 
 -- the bytes so far are those that the reader gave, and at most one is past the limit

@@ -1,6 +1,4 @@
-use Rattle.std.proofs.Common.{[], sym}
-use Rattle.std.proofs.lemmas.List.{append-nil}
-use Rattle.std.proofs.KnownBytes.{Appends-kept}
+use Rattle.pcl_tool.proofs.Names.{[], sym, append-nil, Appends-kept}
 use Rattle.pcl_tool.proofs.writing.write_all.Goals as goal
 
 pub returns-in-Ok : goal.returns-in-Ok

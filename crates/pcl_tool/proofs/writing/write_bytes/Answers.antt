@@ -1,6 +1,5 @@
 use Rattle.std.proofs.Common.{◌≡◌, ◌++◌, List, ℕ, take, drop, append_assoc}
-use Rattle.std.proofs.KnownBytes.{Appends-kept, Appends-trans}
-use Rattle.std.proofs.lemmas.List.{take-append-drop, take_rest}
+use Rattle.pcl_tool.proofs.Names.{Appends-kept, Appends-trans, take-append-drop, take_rest}
 use Rattle.pcl_tool.proofs.writing.write_bytes.Goals as goal
 
 -- a prefix of the bytes, and more of the rest after it

@@ -1,5 +1,5 @@
 use Rattle.std.proofs.Common.{◌≡◌, ◌++◌, List, ℕ, length}
-use Rattle.std.specs.Io.KnownBytes.{Appends}
+use Rattle.pcl_tool.proofs.Names.{Appends}
 use Rattle.pcl_tool.proofs.writing.write_bytes.Given as goal
 
 -- a prefix of the bytes was written, and the rest is left

@@ -1,16 +1,6 @@
 use Rattle.std.proofs.Common.{◌+◌, [], sym, arith}
-use Rattle.std.specs.Prelude.{slice_index_or}
-use Rattle.std.specs.List.{flat_map}
-use Rattle.pcl_output.specs.Tokens.{token_bytes}
-use Rattle.std.proofs.Math.ListN.{drop_of_length-le}
-use Rattle.std.proofs.lemmas.List.{append-nil, drop_more}
-use Rattle.pcl_base.proofs.Lists.{joined_front}
-use Rattle.pcl_base.specs.Size.{page_height}
-use Rattle.pcl_output.specs.declared.step.Step.TheVariants.{Skip}
-use Rattle.pcl_output.proofs.RowsFrom.{length_rows}
-use Rattle.pcl_writer.specs.inner.Steps.{width_of}
+use Rattle.pcl_writer.proofs.Names.{slice_index_or, flat_map, token_bytes, drop_of_length-le, append-nil, drop_more, joined_front, page_height, Skip, length_rows, width_of, height_small}
 use Rattle.pcl_writer.proofs.Bodies.{begin, writable, written_more, written_all, ends_at}
-use Rattle.pcl_base.proofs.PageBounds.{height_small}
 use Rattle.pcl_writer.proofs.body.append_body.Goals as goal
 
 pub loop-i-init : goal.loop-i-init

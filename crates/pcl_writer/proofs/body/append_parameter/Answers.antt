@@ -1,11 +1,4 @@
-use Rattle.std.proofs.Common.{refl, arith}
-use Rattle.std.proofs.lemmas.Result.{on_ok_weaker}
-use Rattle.pcl_base.specs.Method.{method_code}
-use Rattle.pcl_base.specs.Size.{page_height}
-use Rattle.pcl_output.specs.Tokens.{method, skip, send}
-use Rattle.pcl_output.specs.Spelling.{least_spelling}
-use Rattle.pcl_output.proofs.RowsFrom.{length_rows}
-use Rattle.pcl_writer.specs.inner.Steps.{width_of}
+use Rattle.pcl_writer.proofs.Names.{refl, arith, on_ok_weaker, method_code, page_height, method, skip, send, least_spelling, length_rows, width_of}
 use Rattle.pcl_writer.proofs.body.append_parameter.Goals as goal
 
 pub append_row-requires-clause-row : goal.append_row-requires-clause-row

@@ -1,11 +1,5 @@
 use Rattle.std.proofs.Common.{◌++◌, ◌∷◌, [], ◌∙◌, ℕ, List, sym, ap, append_assoc, arith}
-use Rattle.std.proofs.lemmas.Result.{on_ok_weaker}
-use Rattle.pcl_base.proofs.Lists.{front_stays}
-use Rattle.pcl_base.specs.Size.{page_height}
-use Rattle.pcl_output.specs.Spelling.{least_spelling}
-use Rattle.pcl_output.proofs.RowsFrom.{row_of_bytes}
-use Rattle.pcl_base.proofs.PageBounds.{row_small}
-use Rattle.pcl_writer.specs.inner.Steps.{width_of}
+use Rattle.pcl_writer.proofs.Names.{on_ok_weaker, front_stays, page_height, least_spelling, row_of_bytes, row_small, width_of}
 use Rattle.pcl_writer.proofs.Bodies.{appended_row}
 use Rattle.pcl_writer.proofs.body.append_row.Goals as goal
 

@@ -1,5 +1,5 @@
 use Rattle.std.proofs.Common.{◌∙◌, append_assoc}
-use Rattle.std.proofs.lemmas.Result.{on_ok_weaker}
+use Rattle.pcl_writer.proofs.Names.{on_ok_weaker}
 use Rattle.pcl_writer.proofs.Bodies.{opened_bytes}
 use Rattle.pcl_writer.proofs.body.append_step.Goals as goal
 

@@ -1,22 +1,6 @@
 use Rattle.std.proofs.Common.{◌≡◌, ◌+◌, ◌++◌, ◌∙◌, ℕ, false, length, refl, sym, subst, arith}
-use Rattle.std.specs.List.{flat_map, AllByRecursion}
-use Rattle.pcl_base.specs.declared.dpi.Dpi.{Dpi}
-use Rattle.pcl_base.specs.declared.size.Size.{Size}
-use Rattle.pcl_base.specs.declared.method.Method.TheVariants.{Plain}
-use Rattle.pcl_base.specs.Size.{page_height, page_row_bytes}
-use Rattle.pcl_base.specs.Walks.{Walk}
-use Rattle.pcl_bitmap.specs.declared.page.Page.{Page}
-use Rattle.pcl_output.specs.Tokens.{start_bytes, end_bytes, token_bytes}
-use Rattle.pcl_output.specs.PageText.{IsRowOf, PrintsPage, bitmap_rows}
-use Rattle.pcl_output.specs.Nodes.{start, Leads, Ends}
-use Rattle.pcl_output.specs.LeastTexts.{fixed_bytes, IsLeastText}
-use Rattle.pcl_output.specs.Table.{node_number}
-use Rattle.pcl_plan.specs.Plans.{IsPlan}
-use Rattle.pcl_output.proofs.RowsFrom.{length_rows, bitmap_rows_are}
-use Rattle.pcl_output.proofs.Texts.{widths, prints_of_walk, text_length, text_of_least}
-use Rattle.pcl_plan.proofs.LeastWalks.{few_commands}
+use Rattle.pcl_writer.proofs.Names.{flat_map, AllByRecursion, Dpi, Size, Plain, page_height, page_row_bytes, Walk, Page, start_bytes, end_bytes, token_bytes, IsRowOf, PrintsPage, bitmap_rows, start, Leads, Ends, fixed_bytes, IsLeastText, node_number, IsPlan, length_rows, bitmap_rows_are, widths, prints_of_walk, text_length, text_of_least, few_commands, height_small, height_some}
 use Rattle.pcl_writer.proofs.Bodies.{page_joined}
-use Rattle.pcl_base.proofs.PageBounds.{height_small, height_some}
 use Rattle.pcl_writer.proofs.text.append_page.Goals as goal
 
 -- of the bitmap's size and resolution, and so of the page's

@@ -1,5 +1,5 @@
 use Rattle.std.proofs.Common.{◌∙◌, ℕ, take, ap}
-use Rattle.pcl_base.proofs.Results.{on_err}
+use Rattle.pcl_writer.proofs.Names.{on_err}
 use Rattle.pcl_writer.proofs.Costs.{cost_on_ok}
 use Rattle.pcl_writer.proofs.text.write_page.Goals as goal
 

@@ -1,4 +1,4 @@
-use Rattle.std.proofs.Common.{rules}
+use Rattle.pcl_base.proofs.Names.{rules}
 use Rattle.pcl_base.proofs.dpi.Dpi.dots.Goals as goal
 
 pub returns-in-Dpi300 : goal.returns-in-Dpi300

@@ -1,4 +1,4 @@
-use Rattle.std.proofs.Common.{rules}
+use Rattle.pcl_base.proofs.Names.{rules}
 use Rattle.pcl_base.proofs.kind.Kind.name.Goals as goal
 
 pub returns-in-BadSequence : goal.returns-in-BadSequence

@@ -1,4 +1,4 @@
-use Rattle.std.proofs.Common.{rules}
+use Rattle.pcl_base.proofs.Names.{rules}
 use Rattle.pcl_base.proofs.name.Name.write_text.Goals as goal
 
 pub returns-in-One-eq32 : goal.returns-in-One-eq32

@@ -1,4 +1,4 @@
-use Rattle.std.proofs.Common.{rules}
+use Rattle.pcl_base.proofs.Names.{rules}
 use Rattle.pcl_base.proofs.operation.Operation.with_name.Goals as goal
 
 pub returns-in-Three-eq38-eq97-eq82 : goal.returns-in-Three-eq38-eq97-eq82

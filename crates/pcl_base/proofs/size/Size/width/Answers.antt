@@ -1,4 +1,4 @@
-use Rattle.std.proofs.Common.{rules}
+use Rattle.pcl_base.proofs.Names.{rules}
 use Rattle.pcl_base.proofs.size.Size.width.Goals as goal
 
 pub returns : goal.returns

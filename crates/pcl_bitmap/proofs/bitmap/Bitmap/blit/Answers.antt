@@ -1,10 +1,5 @@
 use Rattle.std.proofs.Common.{◌≡◌, ℕ, w32, ◌≤◌, ◌+◌, ◌*◌, ◌/◌, ◌||◌, length, ap, inl, inr, ◌⊎◌, arith}
-use Rattle.std.proofs.lemmas.List.{with_items_is}
-use Rattle.std.proofs.lemmas.Int.{to_z-of_z}
-use Rattle.std.specs.Vec.{with_items}
-use Rattle.pcl_base.specs.Size.{page_width, page_height}
-use Rattle.pcl_bitmap.specs.Dots.{pattern_dot}
-use Rattle.pcl_base.proofs.PageBounds.{width_small}
+use Rattle.pcl_bitmap.proofs.Names.{with_items_is, to_z-of_z, with_items, page_width, page_height, pattern_dot, width_small}
 use Rattle.pcl_bitmap.proofs.Pictures.{lent_room}
 use Rattle.pcl_bitmap.proofs.Inked.{IsDrawn, drawn}
 use Rattle.pcl_bitmap.proofs.Cut.{line_or, seen_pattern, seen_row, pattern_off}

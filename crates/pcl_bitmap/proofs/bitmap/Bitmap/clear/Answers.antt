@@ -1,5 +1,5 @@
 use Rattle.std.proofs.Common.{refl, replicate, ap, ◌∙◌, arith}
-use Rattle.pcl_base.specs.Size.{page_height, page_row_bytes}
+use Rattle.pcl_bitmap.proofs.Names.{page_height, page_row_bytes}
 use Rattle.pcl_bitmap.proofs.Pictures.{blank_from_zeros, blank_is_picture}
 use Rattle.pcl_bitmap.proofs.OneInk.{nothing_inked}
 use Rattle.pcl_bitmap.proofs.bitmap.Bitmap.clear.Goals as goal

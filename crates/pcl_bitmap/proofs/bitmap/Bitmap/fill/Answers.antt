@@ -1,9 +1,5 @@
 use Rattle.std.proofs.Common.{◌≡◌, ℕ, ◌<◌, ◌+◌, if◌then◌else◌, sym, ap, ◌∙◌, arith}
-use Rattle.std.proofs.lemmas.List.{with_items_is}
-use Rattle.std.specs.Vec.{with_items}
-use Rattle.pcl_base.specs.Size.{page_width, page_height}
-use Rattle.pcl_bitmap.specs.Bitmap.{dot}
-use Rattle.pcl_bitmap.specs.Dots.{is_black_ink, rectangle_dot}
+use Rattle.pcl_bitmap.proofs.Names.{with_items_is, with_items, page_width, page_height, dot, is_black_ink, rectangle_dot}
 use Rattle.pcl_bitmap.proofs.Pictures.{picture_of, lent_room}
 use Rattle.pcl_bitmap.proofs.Inked.{IsDrawn, drawn, clipped}
 use Rattle.pcl_bitmap.proofs.OneInk.{has_ink}

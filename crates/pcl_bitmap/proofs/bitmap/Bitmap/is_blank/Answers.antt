@@ -1,4 +1,4 @@
-use Rattle.pcl_base.specs.Size.{page_width}
+use Rattle.pcl_bitmap.proofs.Names.{page_width}
 use Rattle.pcl_bitmap.proofs.Pages.{zeros_from_white, white_from_zeros}
 use Rattle.pcl_bitmap.proofs.bitmap.Bitmap.is_blank.Goals as goal
 

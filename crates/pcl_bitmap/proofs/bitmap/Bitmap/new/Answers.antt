@@ -1,5 +1,5 @@
 use Rattle.std.proofs.Common.{ap, ◌∙◌}
-use Rattle.pcl_bitmap.specs.Bitmap.{Picture, dot}
+use Rattle.pcl_bitmap.proofs.Names.{Picture, dot}
 use Rattle.pcl_bitmap.proofs.Pictures.{blank_from_zeros, blank_dots, blank_is_picture}
 use Rattle.pcl_bitmap.proofs.OneInk.{nothing_inked}
 use Rattle.pcl_bitmap.proofs.bitmap.Bitmap.new.Goals as goal

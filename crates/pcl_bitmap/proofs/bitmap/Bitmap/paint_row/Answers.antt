@@ -1,10 +1,5 @@
 use Rattle.std.proofs.Common.{◌+◌, ◌-◌, ◌*◌, ◌/◌, ◌||◌, ap, ◌∙◌, arith}
-use Rattle.std.proofs.lemmas.List.{with_items_is}
-use Rattle.std.specs.Vec.{with_items}
-use Rattle.pcl_base.specs.Size.{page_width, page_height}
-use Rattle.pcl_bitmap.specs.Bitmap.{dot_of_row}
-use Rattle.pcl_bitmap.specs.Dots.{raster_dot}
-use Rattle.pcl_base.proofs.PageBounds.{width_small}
+use Rattle.pcl_bitmap.proofs.Names.{with_items_is, with_items, page_width, page_height, dot_of_row, raster_dot, width_small}
 use Rattle.pcl_bitmap.proofs.Pictures.{lent_room}
 use Rattle.pcl_bitmap.proofs.Inked.{IsDrawn, drawn}
 use Rattle.pcl_bitmap.proofs.Spread.{squares_dot}

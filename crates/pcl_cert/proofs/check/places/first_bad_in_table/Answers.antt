@@ -1,15 +1,5 @@
 use Rattle.std.proofs.Common.{◌≡◌, ◌+◌, ◌<◌, ℕ, List, length, sym, ◌∙◌, arith, refl, take, replicate, ◌≤◌}
-use Rattle.std.proofs.lemmas.List.{length-take-le, length-replicate}
-use Rattle.pcl_base.specs.declared.method.Method.{Method}
-use Rattle.pcl_base.specs.Size.{page_height, page_row_bytes}
-use Rattle.pcl_bitmap.specs.Bitmap.{row_of}
-use Rattle.pcl_bitmap.specs.declared.page.Page.{Page}
-use Rattle.pcl_output.specs.PageText.{bitmap_rows}
-use Rattle.pcl_output.specs.Nodes.{row_above}
-use Rattle.pcl_output.proofs.RowsFrom.{row_of_bytes}
-use Rattle.pcl_base.proofs.PageBounds.{row_small}
-use Rattle.pcl_cert.specs.RowTables.{list_of}
-use Rattle.pcl_cert.specs.PageTables.{table_of}
+use Rattle.pcl_cert.proofs.Names.{length-take-le, length-replicate, Method, page_height, page_row_bytes, row_of, Page, bitmap_rows, row_above, row_of_bytes, row_small, list_of, table_of}
 use Rattle.pcl_cert.proofs.RowPlaces.{IsRowOfTables, none_bad, some_bad}
 use Rattle.pcl_cert.proofs.check.places.first_bad_in_table.Goals as goal
 

@@ -1,5 +1,5 @@
 use Rattle.std.proofs.Common.{sym, ap, ◌∙◌, arith}
-use Rattle.std.specs.Prelude.{option_copied}
+use Rattle.pcl_cert.proofs.Names.{option_copied}
 use Rattle.pcl_cert.proofs.RowPlaces.{rows_on, rows_end}
 use Rattle.pcl_cert.proofs.check.places.first_bad_row_place.Goals as goal
 

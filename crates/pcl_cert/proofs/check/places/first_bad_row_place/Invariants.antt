@@ -1,7 +1,5 @@
 use Rattle.std.proofs.Common.{ℕ, ◌<◌, ◌≤◌}
-use Rattle.pcl_base.specs.declared.method.Method.{Method}
-use Rattle.pcl_base.specs.Size.{page_row_bytes}
-use Rattle.pcl_cert.specs.Checking.{IsGoodInTables}
+use Rattle.pcl_cert.proofs.Names.{Method, page_row_bytes, IsGoodInTables}
 use Rattle.pcl_cert.proofs.check.places.first_bad_row_place.Given as goal
 
 -- the numbers of the rows so far are good

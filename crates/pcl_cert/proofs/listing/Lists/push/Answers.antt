@@ -1,5 +1,5 @@
 use Rattle.std.proofs.Common.{[], ◌∷◌, arith, ◌++◌, ◌∙◌, ap, append_assoc, ℕ}
-use Rattle.std.proofs.lemmas.Result.{on_ok_weaker}
+use Rattle.pcl_cert.proofs.Names.{on_ok_weaker}
 use Rattle.pcl_cert.proofs.KeptLists.{list_more}
 use Rattle.pcl_cert.proofs.listing.Lists.push.Goals as goal
 

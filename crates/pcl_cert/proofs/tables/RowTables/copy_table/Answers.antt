@@ -1,5 +1,4 @@
-use Rattle.std.proofs.Common.{sym}
-use Rattle.pcl_cert.specs.TablesModel.{contents}
+use Rattle.pcl_cert.proofs.Names.{sym, contents}
 use Rattle.pcl_cert.proofs.Written.{list_kept}
 use Rattle.pcl_cert.proofs.tables.RowTables.copy_table.Goals as goal
 

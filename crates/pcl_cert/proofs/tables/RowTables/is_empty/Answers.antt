@@ -1,8 +1,6 @@
 use Rattle.std.proofs.Common.{◌≡◌, ◌/◌, ℕ, List, [], length, sym, ap, ◌∙◌, arith, refl}
-use Rattle.std.proofs.lemmas.Bool.{eqb-true, eq-eqb}
-use Rattle.std.proofs.lemmas.List.{nil_from_length}
-use Rattle.pcl_cert.specs.RowTables.{numbers_from, list_of}
-use Rattle.pcl_cert.specs.TablesModel.{contents}
+use Rattle.pcl_cert.proofs.Names.{eqb-true, eq-eqb, nil_from_length, list_of, contents}
+use Rattle.pcl_cert.specs.RowTables.{numbers_from}
 use Rattle.pcl_cert.proofs.Numbers.{length_numbers}
 use Rattle.pcl_cert.proofs.Written.{list_kept}
 use Rattle.pcl_cert.proofs.tables.RowTables.is_empty.Goals as goal

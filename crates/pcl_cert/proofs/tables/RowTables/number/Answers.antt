@@ -1,5 +1,5 @@
 use Rattle.std.proofs.Common.{◌≡◌, ◌<◌, ◌≤◌, ℕ, List, drop, sym, ◌∙◌, arith}
-use Rattle.pcl_cert.specs.TablesModel.{contents, count_of}
+use Rattle.pcl_cert.proofs.Names.{contents, count_of}
 use Rattle.pcl_cert.proofs.Written.{number_there, number_past, list_within}
 use Rattle.pcl_cert.proofs.tables.RowTables.number.Goals as goal
 

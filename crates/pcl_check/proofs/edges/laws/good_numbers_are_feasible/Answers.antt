@@ -1,4 +1,4 @@
-use Rattle.pcl_output.specs.Table.{node_number}
+use Rattle.pcl_check.proofs.Names.{node_number}
 use Rattle.pcl_check.proofs.GoodNumbers.{good_feasible, feasible_good}
 use Rattle.pcl_check.proofs.edges.laws.good_numbers_are_feasible.Goals as goal
 

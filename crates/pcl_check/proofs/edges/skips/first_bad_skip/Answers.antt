@@ -1,9 +1,5 @@
 use Rattle.std.proofs.Common.{Bool, true, ℕ, ◌-◌, ◌^◌, ◌<◌, ◌≤◌, List, arith, length}
-use Rattle.pcl_base.specs.declared.method.Method.{Method}
-use Rattle.pcl_output.specs.declared.node.Node.{Node}
-use Rattle.pcl_output.specs.Table.{node_number}
-use Rattle.pcl_output.proofs.DigitCounts.{count_is, count_le}
-use Rattle.pcl_check.specs.inner.EdgePasses.{At, Both, AreEnds, AreGoodSkipsOf, AreGoodSkipsTo}
+use Rattle.pcl_check.proofs.Names.{Method, Node, node_number, count_is, count_le, At, Both, AreEnds, AreGoodSkipsOf, AreGoodSkipsTo}
 use Rattle.pcl_check.proofs.Found.{first_of_four, finds_too}
 use Rattle.pcl_check.proofs.edges.skips.first_bad_skip.Goals as goal
 

@@ -1,14 +1,6 @@
 use Rattle.std.proofs.Common.{◌≡◌, true, ℕ, ◌+◌, ◌-◌, ◌≤◌, List, arith, length, refl, below_more}
-use Rattle.std.specs.Prelude.{not}
-use Rattle.pcl_base.specs.declared.method.Method.{Method}
-use Rattle.pcl_coders.specs.Windows.{IsLeastOf}
-use Rattle.pcl_output.specs.declared.node.Node.{Node}
-use Rattle.pcl_output.specs.Table.{rest, node_number}
-use Rattle.pcl_output.proofs.TokenCosts.{rest_below, best_end}
-use Rattle.pcl_check.specs.Edges.{number_at}
-use Rattle.pcl_check.specs.inner.EdgePasses.{AreGoodSkipsOf}
+use Rattle.pcl_check.proofs.Names.{not, Method, IsLeastOf, Node, rest, node_number, rest_below, best_end, number_at, AreGoodSkipsOf, iff_false}
 use Rattle.pcl_check.proofs.StepWindows.{last_of, IsNextWindow, least_below, least_reached, window_begins, window_next}
-use Rattle.std.proofs.lemmas.Bool.{iff_false}
 use Rattle.pcl_check.proofs.Found.{first_at}
 use Rattle.pcl_check.proofs.edges.skips.first_bad_skip_of.Goals as goal
 use Rattle.pcl_check.proofs.edges.skips.first_bad_skip_of.Goals.{else-last-row-via-then-last-row+else-not-is_within, else-last-row-via-else-last-row}

@@ -1,6 +1,5 @@
 use Rattle.std.proofs.Common.{◌≡◌, ℕ, ◌+◌, ◌<◌, length}
-use Rattle.pcl_output.specs.Table.{rest, node_number}
-use Rattle.pcl_check.specs.inner.EdgePasses.{AreGoodSkipsOf}
+use Rattle.pcl_check.proofs.Names.{rest, node_number, AreGoodSkipsOf}
 use Rattle.pcl_check.proofs.StepWindows.{IsStepWindow}
 use Rattle.pcl_check.proofs.edges.skips.first_bad_skip_of.Given as goal
 

@@ -1,5 +1,4 @@
-use Rattle.std.proofs.Common.{arith}
-use Rattle.pcl_output.specs.Table.{rest, node_number}
+use Rattle.pcl_check.proofs.Names.{arith, rest, node_number}
 use Rattle.pcl_check.proofs.Values.{put_none, put_more}
 use Rattle.pcl_check.proofs.edges.skips.put_rests.Goals as goal
 

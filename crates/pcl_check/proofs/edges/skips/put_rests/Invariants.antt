@@ -1,6 +1,5 @@
 use Rattle.std.proofs.Common.{◌≡◌, ◌+◌, ◌-◌, ◌++◌}
-use Rattle.pcl_output.specs.Table.{node_number}
-use Rattle.pcl_check.specs.inner.EdgePasses.{rests}
+use Rattle.pcl_check.proofs.Names.{node_number, rests}
 use Rattle.pcl_check.proofs.edges.skips.put_rests.Given as goal
 
 abbrev pub invariant-loop-row : goal.invariant-loop-row

@@ -1,7 +1,5 @@
 use Rattle.std.proofs.Common.{◌≡◌, ℕ, ◌+◌, ◌-◌, ◌<◌, min, List, length, drop, set, sym, below_more, arith}
-use Rattle.std.specs.Prelude.{slice_index}
-use Rattle.std.proofs.lemmas.List.{get_or-set_same, get_or-set_other, length-drop, take_rest}
-use Rattle.pcl_coders.specs.inner.Choosing.{IsLeastLen}
+use Rattle.pcl_check.proofs.Names.{slice_index, get_or-set_same, get_or-set_other, length-drop, take_rest, IsLeastLen}
 use Rattle.pcl_check.proofs.places.fill.fill_behind_starts.Goals as goal
 
 abbrev IsBehindStart : List ℕ → List ℕ → ℕ → Type 0

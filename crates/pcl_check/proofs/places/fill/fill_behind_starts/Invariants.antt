@@ -1,6 +1,5 @@
 use Rattle.std.proofs.Common.{ℕ, ◌+◌, ◌-◌, ◌<◌, min, length, drop}
-use Rattle.std.specs.Prelude.{slice_index}
-use Rattle.pcl_coders.specs.inner.Choosing.{IsLeastLen}
+use Rattle.pcl_check.proofs.Names.{slice_index, IsLeastLen}
 use Rattle.pcl_check.proofs.places.fill.fill_behind_starts.Given as goal
 
 abbrev pub invariant-loop-start : goal.invariant-loop-start

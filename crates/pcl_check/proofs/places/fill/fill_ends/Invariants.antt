@@ -1,5 +1,5 @@
 use Rattle.std.proofs.Common.{◌≡◌, ℕ, ◌-◌, ◌<◌, length}
-use Rattle.std.specs.Prelude.{slice_index}
+use Rattle.pcl_check.proofs.Names.{slice_index}
 use Rattle.pcl_check.proofs.places.fill.fill_ends.Given as goal
 
 abbrev pub invariant-loop-end : goal.invariant-loop-end

@@ -1,4 +1,4 @@
-use Rattle.pcl_check.specs.inner.PlacePasses.{AreStartEnds}
+use Rattle.pcl_check.proofs.Names.{AreStartEnds}
 use Rattle.pcl_check.proofs.places.fill.fill_start_ends.Given as goal
 
 abbrev pub invariant-loop-place : goal.invariant-loop-place

@@ -1,5 +1,5 @@
 use Rattle.std.proofs.Common.{◌≡◌, ◌+◌, ◌-◌, arith}
-use Rattle.pcl_coders.proofs.Prefixes.{least_min_next}
+use Rattle.pcl_check.proofs.Names.{least_min_next}
 use Rattle.pcl_check.proofs.places.fill.least_behind.Goals as goal
 
 pub loop-len-preserved : goal.loop-len-preserved

@@ -1,5 +1,5 @@
 use Rattle.std.proofs.Common.{ℕ, ◌-◌}
-use Rattle.pcl_coders.specs.inner.Choosing.{IsLeastLen}
+use Rattle.pcl_check.proofs.Names.{IsLeastLen}
 use Rattle.pcl_check.proofs.places.fill.least_behind.Given as goal
 
 abbrev pub invariant-loop-len : goal.invariant-loop-len

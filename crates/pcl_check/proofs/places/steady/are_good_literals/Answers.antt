@@ -1,5 +1,5 @@
 use Rattle.std.proofs.Common.{◌+◌, arith}
-use Rattle.std.proofs.lemmas.Bool.{leb-true}
+use Rattle.pcl_check.proofs.Names.{leb-true}
 use Rattle.pcl_check.proofs.SteadyPlaces.{Sums, sums_more}
 use Rattle.pcl_check.proofs.places.steady.are_good_literals.Goals as goal
 

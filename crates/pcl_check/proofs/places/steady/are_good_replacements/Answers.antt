@@ -1,6 +1,5 @@
 use Rattle.std.proofs.Common.{◌≡◌, ◌≢◌, ℕ, ◌+◌, ◌-◌, ◌<◌, ◌≤◌, arith}
-use Rattle.std.specs.Prelude.{slice_index}
-use Rattle.pcl_check.specs.inner.PlacePasses.{AreGoodReplacements}
+use Rattle.pcl_check.proofs.Names.{slice_index, AreGoodReplacements}
 use Rattle.pcl_check.proofs.PlacesFound.{from_before, down_to_first}
 use Rattle.pcl_check.proofs.SteadyPlaces.{sums_of_front, replacements_by_start, replacements_before}
 use Rattle.pcl_check.proofs.places.steady.are_good_replacements.Goals as goal

@@ -1,7 +1,5 @@
 use Rattle.std.proofs.Common.{◌≡◌, ◌≢◌, ℕ, ◌+◌, ◌-◌, ◌<◌, ◌≤◌, min, ap, arith}
-use Rattle.std.specs.Prelude.{slice_index}
-use Rattle.pcl_check.specs.inner.PlacePasses.{AreGoodRuns}
-use Rattle.pcl_check.specs.inner.SteadyNumbers.{FallsByRun}
+use Rattle.pcl_check.proofs.Names.{slice_index, AreGoodRuns, FallsByRun}
 use Rattle.pcl_check.proofs.PlacesFound.{from_before, down_to_first}
 use Rattle.pcl_check.proofs.SteadyPlaces.{runs_by_stop, runs_before}
 use Rattle.pcl_check.proofs.places.steady.are_good_runs.Goals as goal

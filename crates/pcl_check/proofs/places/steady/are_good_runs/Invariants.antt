@@ -1,6 +1,5 @@
 use Rattle.std.proofs.Common.{◌≢◌, ℕ, ◌-◌, ◌<◌, ◌≤◌}
-use Rattle.std.specs.Prelude.{slice_index}
-use Rattle.pcl_check.specs.inner.PlacePasses.{AreGoodRuns}
+use Rattle.pcl_check.proofs.Names.{slice_index, AreGoodRuns}
 use Rattle.pcl_check.proofs.places.steady.are_good_runs.Given as goal
 
 abbrev pub invariant-loop-place : goal.invariant-loop-place

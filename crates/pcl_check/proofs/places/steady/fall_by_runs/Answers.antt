@@ -1,5 +1,5 @@
 use Rattle.std.proofs.Common.{◌≡◌, ◌≢◌, ℕ, ◌+◌, ◌≤◌, max, below_more, arith}
-use Rattle.std.specs.Prelude.{slice_index}
+use Rattle.pcl_check.proofs.Names.{slice_index}
 use Rattle.pcl_check.proofs.places.steady.fall_by_runs.Goals as goal
 
 pub loop-place-preserved : goal.loop-place-preserved

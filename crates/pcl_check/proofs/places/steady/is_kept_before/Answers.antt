@@ -1,8 +1,5 @@
 use Rattle.std.proofs.Common.{◌≡◌, ℕ, ◌+◌, ◌<◌, ◌≤◌, min, List, inl, inr, arith}
-use Rattle.std.specs.Prelude.{slice_index}
-use Rattle.std.proofs.lemmas.Bool.{cases_lt}
-use Rattle.pcl_coders.specs.inner.Replacement.{replacement_bytes}
-use Rattle.pcl_coders.proofs.Shapes.{near_bytes, far_bytes}
+use Rattle.pcl_check.proofs.Names.{slice_index, cases_lt, replacement_bytes, near_bytes, far_bytes}
 use Rattle.pcl_check.proofs.places.steady.is_kept_before.Goals as goal
 
 -- what no command of so few bytes undercuts is kept where the next one reaches no farther

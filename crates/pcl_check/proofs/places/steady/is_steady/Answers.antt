@@ -1,5 +1,4 @@
-use Rattle.std.proofs.Common.{arith}
-use Rattle.std.proofs.lemmas.Bool.{eqb-true}
+use Rattle.pcl_check.proofs.Names.{arith, eqb-true}
 use Rattle.pcl_check.proofs.SteadyPlaces.{steady_by}
 use Rattle.pcl_check.proofs.places.steady.is_steady.Goals as goal
 

@@ -1,8 +1,5 @@
 use Rattle.std.proofs.Common.{◌≡◌, ℕ, List, arith}
-use Rattle.std.proofs.lemmas.Bool.{leb-true}
-use Rattle.pcl_base.specs.declared.method.Method.{Method}
-use Rattle.pcl_check.specs.inner.PlacePasses.{AreGoodSteps}
-use Rattle.pcl_check.specs.inner.SteadyNumbers.{IsSteady, IsNeedEnd, IsGoodFor}
+use Rattle.pcl_check.proofs.Names.{leb-true, Method, AreGoodSteps, IsSteady, IsNeedEnd, IsGoodFor}
 use Rattle.pcl_check.proofs.PlaceSteps.{steps_plain, steps_runs, steps_packed, steps_delta}
 use Rattle.pcl_check.proofs.SteadyPlaces.{end_of_need, literals_of_front}
 use Rattle.pcl_check.proofs.places.steady.is_steady_table.Goals as goal

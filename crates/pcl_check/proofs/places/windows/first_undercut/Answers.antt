@@ -1,6 +1,5 @@
 use Rattle.std.proofs.Common.{ℕ, ◌-◌, ◌≤◌, length, refl, below_more, arith}
-use Rattle.std.proofs.lemmas.Bool.{iff_false}
-use Rattle.pcl_check.specs.inner.PlacePasses.{IsNotUndercut}
+use Rattle.pcl_check.proofs.Names.{iff_false, IsNotUndercut}
 use Rattle.pcl_check.proofs.StepWindows.{window_begins, window_next, least_below, least_reached}
 use Rattle.pcl_check.proofs.places.windows.first_undercut.Goals as goal
 use Rattle.pcl_check.proofs.places.windows.first_undercut.Goals.{else-last-place-via-then-last-place+else-not-is_within, else-last-place-via-else-last-place}

@@ -1,6 +1,5 @@
 use Rattle.std.proofs.Common.{◌≡◌, ℕ, ◌+◌, ◌<◌}
-use Rattle.std.specs.Prelude.{slice_index}
-use Rattle.pcl_check.specs.inner.PlacePasses.{IsNotUndercut}
+use Rattle.pcl_check.proofs.Names.{slice_index, IsNotUndercut}
 use Rattle.pcl_check.proofs.StepWindows.{IsStepWindow}
 use Rattle.pcl_check.proofs.places.windows.first_undercut.Given as goal
 

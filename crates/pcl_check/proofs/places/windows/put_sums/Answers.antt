@@ -1,5 +1,4 @@
-use Rattle.std.proofs.Common.{refl, arith}
-use Rattle.std.specs.Prelude.{slice_index}
+use Rattle.pcl_check.proofs.Names.{refl, arith, slice_index}
 use Rattle.pcl_check.proofs.Values.{put_none, put_more}
 use Rattle.pcl_check.proofs.places.windows.put_sums.Goals as goal
 

@@ -1,6 +1,5 @@
 use Rattle.std.proofs.Common.{◌≡◌, ◌+◌, ◌-◌, ◌++◌}
-use Rattle.std.specs.Prelude.{slice_index}
-use Rattle.pcl_check.specs.inner.EdgePasses.{values}
+use Rattle.pcl_check.proofs.Names.{slice_index, values}
 use Rattle.pcl_check.proofs.places.windows.put_sums.Given as goal
 
 abbrev pub invariant-loop-place : goal.invariant-loop-place

@@ -1,13 +1,6 @@
 use Rattle.std.proofs.Common.{◌≡◌, ℕ, ◌≤◌, Bool, true, false, IsTrue, List, length, refl, sym, subst, ◌∙◌}
 use Rattle.std.specs.Prelude.{◌↔◌}
-use Rattle.pcl_base.specs.declared.dpi.Dpi.{Dpi}
-use Rattle.pcl_base.specs.declared.method.Method.{Method}
-use Rattle.pcl_base.specs.declared.size.Size.{Size}
-use Rattle.pcl_base.specs.Size.{page_width, page_row_bytes}
-use Rattle.pcl_bitmap.specs.Bitmap.{dot_of_row}
-use Rattle.pcl_rows.specs.Rows.{Decodes, IsWhole}
-use Rattle.pcl_rows.proofs.Decoded.{decoded_is}
-use Rattle.pcl_check.specs.inner.Reading.{IsPaintedRow}
+use Rattle.pcl_check.proofs.Names.{Dpi, Method, Size, page_width, page_row_bytes, dot_of_row, Decodes, IsWhole, decoded_is, IsPaintedRow}
 use Rattle.pcl_check.proofs.reading.body.paint.Goals as goal
 
 abbrev HasClearPads : Size → Dpi → List ℕ → Type 0

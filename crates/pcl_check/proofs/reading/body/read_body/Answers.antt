@@ -1,11 +1,5 @@
 use Rattle.std.proofs.Common.{◌≡◌, ◌-◌, [], ℕ, List, sym, ap, ◌∙◌, true, false, refl, arith}
-use Rattle.std.proofs.lemmas.List.{take-replicate}
-use Rattle.pcl_base.proofs.PageBounds.{row_small}
-use Rattle.std.specs.Prelude.{not}
-use Rattle.std.specs.Str.{bytes_eq}
-use Rattle.std.proofs.lemmas.Slice.Eq.{slice_eq-Decides}
-use Rattle.std.proofs.lemmas.Bool.Decides.{nat_tests, Decides-eqb}
-use Rattle.pcl_output.specs.Tokens.{end_bytes}
+use Rattle.pcl_check.proofs.Names.{take-replicate, row_small, not, bytes_eq, slice_eq-Decides, nat_tests, Decides-eqb, end_bytes}
 use Rattle.pcl_check.proofs.Comparing.{both, neither, becomes_same, read_on, read_all, white_test}
 use Rattle.pcl_check.proofs.Steps.{becomes_to}
 use Rattle.pcl_check.proofs.reading.body.read_body.Goals as goal

@@ -1,4 +1,4 @@
-use Rattle.std.proofs.Common.{length}
+use Rattle.pcl_check.proofs.Names.{length}
 use Rattle.pcl_check.proofs.Comparing.{IsBodyReadTo}
 use Rattle.pcl_check.proofs.reading.body.read_body.Given as goal
 

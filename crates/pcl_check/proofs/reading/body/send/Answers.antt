@@ -1,6 +1,5 @@
 use Rattle.std.proofs.Common.{◌∷◌, [], length, refl, sym, ap, ◌∙◌, arith}
-use Rattle.std.proofs.lemmas.List.{length-append}
-use Rattle.pcl_base.proofs.Lists.{same_fronts}
+use Rattle.pcl_check.proofs.Names.{length-append, same_fronts}
 use Rattle.pcl_check.proofs.Comparing.{both, neither}
 use Rattle.pcl_check.proofs.Moves.{no_send, send_becomes}
 use Rattle.pcl_check.proofs.Steps.{told, shorter, becomes_to}

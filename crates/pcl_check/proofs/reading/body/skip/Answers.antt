@@ -1,8 +1,5 @@
 use Rattle.std.proofs.Common.{◌≡◌, ℕ, List, replicate, sym, arith}
-use Rattle.std.proofs.lemmas.List.{length-replicate}
-use Rattle.pcl_base.specs.Digits.{number_of}
-use Rattle.pcl_base.specs.Size.{page_row_bytes}
-use Rattle.pcl_base.proofs.PageBounds.{height_small}
+use Rattle.pcl_check.proofs.Names.{length-replicate, number_of, page_row_bytes, height_small}
 use Rattle.pcl_check.proofs.Comparing.{both, neither}
 use Rattle.pcl_check.proofs.Fronts.{white_rows, front_at, is_method, is_skip, is_send}
 use Rattle.pcl_check.proofs.Moves.{skip_becomes}

@@ -1,7 +1,4 @@
-use Rattle.std.proofs.Common.{Some, None, rules, [], length, refl, ap, arith}
-use Rattle.std.proofs.lemmas.List.{length-append}
-use Rattle.std.proofs.lemmas.Slice.Eq.{strip_prefix_is}
-use Rattle.std.proofs.lemmas.Bool.Decides.{Decides-eqb}
+use Rattle.pcl_check.proofs.Names.{Some, None, rules, [], length, refl, ap, arith, length-append, strip_prefix_is, Decides-eqb}
 use Rattle.pcl_check.proofs.Moves.{no_byte, no_letter}
 use Rattle.pcl_check.proofs.Outside.{opening_bytes, opening_becomes, no_opening}
 use Rattle.pcl_check.proofs.Steps.{told}

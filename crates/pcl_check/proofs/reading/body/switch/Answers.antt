@@ -1,7 +1,5 @@
 use Rattle.std.proofs.Common.{◌≡◌, [], refl, sym, arith}
-use Rattle.pcl_base.specs.Method.{method_code}
-use Rattle.pcl_base.specs.Digits.{number_of}
-use Rattle.pcl_output.proofs.TokenCosts.{method_small}
+use Rattle.pcl_check.proofs.Names.{method_code, number_of, method_small}
 use Rattle.pcl_check.proofs.Fronts.{front_at, is_method, is_skip, is_send}
 use Rattle.pcl_check.proofs.Moves.{with_code, method_becomes}
 use Rattle.pcl_check.proofs.Steps.{told, shorter, cased, of_code}

@@ -1,6 +1,5 @@
 use Rattle.std.proofs.Common.{◌≡◌, ◌+◌, drop}
-use Rattle.std.specs.List.{prefix_len}
-use Rattle.pcl_base.specs.Digits.{is_digit}
+use Rattle.pcl_check.proofs.Names.{prefix_len, is_digit}
 use Rattle.pcl_check.proofs.reading.parameter.digit_count.Given as goal
 
 -- all so far are digits

@@ -1,10 +1,7 @@
 use Rattle.std.proofs.Common.{◌≡◌, ◌∙◌, true, false}
-use Rattle.std.proofs.lemmas.Slice.Eq.{slice_eq-Decides}
-use Rattle.std.proofs.lemmas.Bool.Decides.{Decides-eqb}
+use Rattle.pcl_check.proofs.Names.{slice_eq-Decides, Decides-eqb, decimal, is_digit}
 use Rattle.pcl_check.proofs.Decimals.{decimal_found}
 use Rattle.pcl_check.proofs.Splits.{no_split}
-use Rattle.std.specs.Prelude.{decimal}
-use Rattle.pcl_base.specs.Digits.{is_digit}
 use Rattle.pcl_check.proofs.reading.parameter.read_decimal.Goals as goal
 use Rattle.pcl_check.proofs.reading.parameter.read_decimal.Goals.{else-is_shortest-via-then-is_shortest+else-parameter-letter, else-is_shortest-via-else-is_shortest}
 

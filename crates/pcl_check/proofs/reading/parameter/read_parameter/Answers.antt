@@ -1,6 +1,5 @@
 use Rattle.std.proofs.Common.{take, drop, sym, ap, ◌∙◌, ℕ}
-use Rattle.pcl_base.specs.Digits.{is_digit}
-use Rattle.pcl_base.proofs.Fronts.{front_split}
+use Rattle.pcl_check.proofs.Names.{is_digit, front_split}
 use Rattle.pcl_check.proofs.Decimals.{all_digits}
 use Rattle.pcl_check.proofs.reading.parameter.read_parameter.Goals as goal
 

@@ -1,4 +1,4 @@
-use Rattle.std.proofs.Common.{refl}
+use Rattle.pcl_check.proofs.Names.{refl}
 use Rattle.std.specs.Fmt.{digits}
 use Rattle.pcl_check.proofs.reading.start.raster_start.Goals as goal
 

@@ -1,8 +1,5 @@
 use Rattle.std.proofs.Common.{◌≡◌, ◌+◌, ◌≤◌, ℕ, min, length, subst, arith}
-use Rattle.std.proofs.lemmas.Bool.Decides.{nat_tests}
-use Rattle.std.specs.Prelude.{slice_index}
-use Rattle.pcl_coders.specs.inner.Choosing.{IsLiteralLen, NoLiteral}
-use Rattle.pcl_base.specs.declared.method.Method.TheVariants.{Packed}
+use Rattle.pcl_coders.proofs.Names.{nat_tests, slice_index, IsLiteralLen, NoLiteral, Packed}
 use Rattle.pcl_coders.proofs.Choices.{plain_choice}
 use Rattle.pcl_coders.proofs.Along.{along_run, along_start, along_replacement, along_literal, along_repeat, no_literal_repeat}
 use Rattle.pcl_coders.proofs.Places.{packed_shorten, falls, literal_bounds}

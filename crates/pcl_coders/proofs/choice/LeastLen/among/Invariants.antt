@@ -1,5 +1,5 @@
 use Rattle.std.proofs.Common.{◌-◌}
-use Rattle.pcl_coders.specs.inner.Choosing.{IsLeastLen}
+use Rattle.pcl_coders.proofs.Names.{IsLeastLen}
 use Rattle.pcl_coders.proofs.choice.LeastLen.among.Given as goal
 
 abbrev pub invariant-loop-len : goal.invariant-loop-len

@@ -1,4 +1,4 @@
-use Rattle.std.proofs.Common.{refl}
+use Rattle.pcl_coders.proofs.Names.{refl}
 use Rattle.pcl_coders.proofs.coder.RunsRowCoder.method.Goals as goal
 
 pub returns : goal.returns

@@ -1,6 +1,5 @@
 use Rattle.std.proofs.Common.{◌<◌, drop, take, sym, ap, ◌∙◌, arith}
-use Rattle.std.proofs.lemmas.List.{drop-drop}
-use Rattle.pcl_coders.specs.Windows.{Numbers}
+use Rattle.pcl_coders.proofs.Names.{drop-drop, Numbers}
 use Rattle.pcl_coders.proofs.Queues.{length-in_window, queue_take}
 use Rattle.pcl_coders.proofs.window.Window.take.Goals as goal
 use Rattle.pcl_coders.proofs.window.Window.take.Goals.{then-self, else-self}

@@ -1,6 +1,5 @@
 use Rattle.std.proofs.Common.{◌≡◌, refl, sym, ap, ◌∙◌, inl, inr}
-use Rattle.pcl_escape.specs.Field.{contents, fraction_parts, greatest_parts, ten_thousandths}
-use Rattle.pcl_base.specs.Digits.{number_of}
+use Rattle.pcl_escape.proofs.Names.{contents, fraction_parts, greatest_parts, ten_thousandths, number_of}
 use Rattle.pcl_escape.proofs.Values.{value_read, fraction_read}
 use Rattle.pcl_escape.proofs.field.Field.value.Goals as goal
 use Rattle.pcl_escape.proofs.field.Field.value.Goals.{in-Minus, in-Absent}

@@ -1,6 +1,5 @@
 use Rattle.std.proofs.Common.{Ok, refl, sym, subst, arith, true≢false, ◌∙◌}
-use Rattle.pcl_fonts.specs.Table.{HasCharacter}
-use Rattle.pcl_fonts.specs.declared.fonts.Entry.{Entry}
+use Rattle.pcl_fonts.proofs.Names.{HasCharacter, Entry}
 use Rattle.pcl_fonts.proofs.Tables.{view, live_when, follows_at, same_to_see, was_there, character_steps, unchanged, written, becomes_of, earlier_becomes}
 use Rattle.pcl_fonts.proofs.fonts.Fonts.character.Goals as goal
 use Rattle.pcl_fonts.proofs.fonts.Fonts.character.Goals.{in-Ok, in-Err}

@@ -1,4 +1,4 @@
-use Rattle.std.proofs.Common.{None, refl}
+use Rattle.pcl_fonts.proofs.Names.{None, refl}
 use Rattle.pcl_fonts.proofs.Tables.{follows_at, changed, one_steps}
 use Rattle.pcl_fonts.proofs.fonts.Fonts.delete.Goals as goal
 

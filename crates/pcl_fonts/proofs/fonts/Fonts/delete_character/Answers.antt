@@ -1,7 +1,4 @@
-use Rattle.std.proofs.Common.{arith, refl, sym, subst}
-use Rattle.pcl_fonts.specs.History.{control}
-use Rattle.pcl_fonts.specs.Table.{Follows}
-use Rattle.pcl_fonts.specs.declared.fonts.Entry.{Entry}
+use Rattle.pcl_fonts.proofs.Names.{arith, refl, sym, subst, control, Follows, Entry}
 use Rattle.pcl_fonts.specs.declared.fonts.FontControl.TheVariants.{Character}
 use Rattle.pcl_fonts.proofs.Tables.{view, live_when, follows_at, unchanged, written, no_more_steps}
 use Rattle.pcl_fonts.proofs.fonts.Fonts.delete_character.Goals as goal

@@ -1,7 +1,4 @@
-use Rattle.std.proofs.Common.{nat_eq, refl}
-use Rattle.std.specs.Map.{lookup}
-use Rattle.pcl_fonts.specs.History.{control}
-use Rattle.pcl_fonts.specs.declared.fonts.FontControl.TheVariants.{Temporary}
+use Rattle.pcl_fonts.proofs.Names.{nat_eq, refl, lookup, control, Temporary}
 use Rattle.pcl_fonts.proofs.Tables.{seen, follows, temporary_steps, one_more}
 use Rattle.pcl_fonts.proofs.fonts.Fonts.delete_temporary.Goals as goal
 

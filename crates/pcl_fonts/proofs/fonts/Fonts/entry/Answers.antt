@@ -1,6 +1,5 @@
 use Rattle.std.proofs.Common.{sym, ap, ◌∙◌}
-use Rattle.std.specs.Option.{option_map}
-use Rattle.pcl_fonts.specs.Table.{stored_in}
+use Rattle.pcl_fonts.proofs.Names.{option_map, stored_in}
 use Rattle.pcl_fonts.proofs.Tables.{entry_found, live_when}
 use Rattle.pcl_fonts.proofs.fonts.Fonts.entry.Goals as goal
 

@@ -1,11 +1,5 @@
 use Rattle.std.proofs.Common.{◌≡◌, ℕ, Option, IfSome, nat_eq, rules, refl, sym, subst, ap, ◌∙◌}
-use Rattle.std.proofs.lemmas.Cmp.{nat_eq_equiv}
-use Rattle.std.proofs.lemmas.Map.Entries.{lookup-filter-values, option_filter}
-use Rattle.std.specs.Map.{lookup}
-use Rattle.indexmap.proofs.CallerLemmas.{filter-RetainsPairs}
-use Rattle.pcl_fonts.specs.History.{control}
-use Rattle.pcl_fonts.specs.declared.fonts.Entry.{Entry}
-use Rattle.pcl_fonts.specs.declared.fonts.FontControl.TheVariants.{Temporary}
+use Rattle.pcl_fonts.proofs.Names.{nat_eq_equiv, lookup-filter-values, option_filter, lookup, filter-RetainsPairs, control, Entry, Temporary}
 use Rattle.pcl_fonts.proofs.Tables.{IsEarlier, seen, live, follows, temporary_steps, kept, kept_permanent}
 use Rattle.pcl_fonts.proofs.fonts.Fonts.forget_temporary.Goals as goal
 

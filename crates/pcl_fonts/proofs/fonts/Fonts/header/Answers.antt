@@ -1,7 +1,5 @@
-use Rattle.std.proofs.Common.{Some, false, nat_eq, refl, ap}
-use Rattle.std.specs.Map.{lookup}
+use Rattle.pcl_fonts.proofs.Names.{Some, false, nat_eq, refl, ap, lookup, Entry}
 use Rattle.pcl_fonts.proofs.Tables.{Entries, live, seen, follows_at, changed, header_steps, sent_now, same_seen}
-use Rattle.pcl_fonts.specs.declared.fonts.Entry.{Entry}
 use Rattle.pcl_fonts.proofs.fonts.Fonts.header.Goals as goal
 
 pub returns-in-Ok : goal.returns-in-Ok

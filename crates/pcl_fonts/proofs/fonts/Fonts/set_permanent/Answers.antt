@@ -1,7 +1,4 @@
-use Rattle.std.proofs.Common.{refl, sym, subst}
-use Rattle.pcl_fonts.specs.History.{control}
-use Rattle.pcl_fonts.specs.Table.{Follows}
-use Rattle.pcl_fonts.specs.declared.fonts.Entry.{Entry}
+use Rattle.pcl_fonts.proofs.Names.{refl, sym, subst, control, Follows, Entry}
 use Rattle.pcl_fonts.proofs.Tables.{view, live_when, sent_now, follows_at, unchanged, written, mark_steps, making}
 use Rattle.pcl_fonts.proofs.fonts.Fonts.set_permanent.Goals as goal
 

@@ -1,4 +1,4 @@
-use Rattle.std.proofs.Common.{rules, arith}
+use Rattle.pcl_fonts.proofs.Names.{rules, arith}
 use Rattle.pcl_fonts.proofs.Glyphs.{is_taken, same_character, rows_are}
 use Rattle.pcl_fonts.proofs.glyph.Glyph.read.Goals as goal
 

@@ -1,6 +1,5 @@
 use Rattle.std.proofs.Common.{rules, Bool, cond, Some, None, ap, ◌∙◌}
-use Rattle.std.specs.Option.{option_map}
-use Rattle.pcl_macros.specs.Table.{begun_in, macro_in, places_of}
+use Rattle.pcl_macros.proofs.Names.{option_map, begun_in, macro_in, places_of}
 use Rattle.pcl_macros.proofs.Tables.{macro_of}
 use Rattle.pcl_macros.proofs.table.Macros.body.Goals as goal
 

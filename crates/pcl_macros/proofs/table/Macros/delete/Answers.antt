@@ -1,8 +1,4 @@
-use Rattle.std.proofs.Common.{None}
-use Rattle.std.specs.Option.{option_map}
-use Rattle.pcl_macros.specs.History.{control}
-use Rattle.pcl_macros.specs.Table.{begun_in}
-use Rattle.pcl_macros.specs.declared.table.MacroControl.TheVariants.{One}
+use Rattle.pcl_macros.proofs.Names.{None, option_map, control, begun_in, One}
 use Rattle.pcl_macros.proofs.Tables.{follows_only, found_becomes}
 use Rattle.pcl_macros.proofs.table.Macros.delete.Goals as goal
 

@@ -1,9 +1,4 @@
-use Rattle.std.proofs.Common.{nat_eq}
-use Rattle.std.specs.Map.{lookup}
-use Rattle.std.specs.Option.{option_map}
-use Rattle.pcl_macros.specs.History.{control}
-use Rattle.pcl_macros.specs.Table.{begun_in}
-use Rattle.pcl_macros.specs.declared.table.MacroControl.TheVariants.{Temporary}
+use Rattle.pcl_macros.proofs.Names.{nat_eq, lookup, option_map, control, begun_in, Temporary}
 use Rattle.pcl_macros.proofs.Tables.{follows_only, one_more}
 use Rattle.pcl_macros.proofs.table.Macros.delete_temporary.Goals as goal
 

@@ -1,8 +1,5 @@
 use Rattle.std.proofs.Common.{false, None, Option, cond, nat_eq, sym, ap, refl, ◌∙◌}
-use Rattle.std.specs.Map.{lookup}
-use Rattle.std.specs.Option.{option_map}
-use Rattle.pcl_macros.specs.History.{MacroBody, defined}
-use Rattle.pcl_macros.specs.Table.{MacroTable, begun_in}
+use Rattle.pcl_macros.proofs.Names.{lookup, option_map, MacroBody, defined, MacroTable, begun_in}
 use Rattle.pcl_macros.proofs.Tables.{found, follows_by, found_becomes, there_now}
 use Rattle.pcl_macros.proofs.table.Macros.end.Goals as goal
 

@@ -1,13 +1,5 @@
 use Rattle.std.proofs.Common.{◌≡◌, ℕ, Option, IfSome, false, ◌≤◌, nat_eq, rules, sym, subst, ap, ◌∙◌}
-use Rattle.std.proofs.lemmas.Cmp.{nat_eq_equiv}
-use Rattle.std.proofs.lemmas.Map.Entries.{lookup-filter-values, option_filter}
-use Rattle.std.specs.Map.{lookup}
-use Rattle.std.specs.Option.{option_map}
-use Rattle.indexmap.proofs.CallerLemmas.{filter-RetainsPairs}
-use Rattle.pcl_macros.specs.History.{control}
-use Rattle.pcl_macros.specs.Table.{begun_in}
-use Rattle.pcl_macros.specs.declared.table.Body.{Body}
-use Rattle.pcl_macros.specs.declared.table.MacroControl.TheVariants.{Temporary}
+use Rattle.pcl_macros.proofs.Names.{nat_eq_equiv, lookup-filter-values, option_filter, lookup, option_map, filter-RetainsPairs, control, begun_in, Body, Temporary}
 use Rattle.pcl_macros.proofs.Tables.{found, follows_only, kept, kept_permanent}
 use Rattle.pcl_macros.proofs.table.Macros.forget_temporary.Goals as goal
 

@@ -1,8 +1,5 @@
 use Rattle.std.proofs.Common.{◌≡◌, refl, Bool, Some, None, cond, sym, subst, ap, ◌∙◌}
-use Rattle.std.specs.Option.{option_map}
-use Rattle.pcl_macros.specs.History.{control}
-use Rattle.pcl_macros.specs.Table.{Follows, begun_in, macro_in}
-use Rattle.pcl_macros.specs.declared.table.Body.{Body}
+use Rattle.pcl_macros.proofs.Names.{option_map, control, Follows, begun_in, macro_in, Body}
 use Rattle.pcl_macros.proofs.Tables.{view, found, follows_only, making, stays, becomes_of, mark, there_now}
 use Rattle.pcl_macros.proofs.table.Macros.set_permanent.Goals as goal
 

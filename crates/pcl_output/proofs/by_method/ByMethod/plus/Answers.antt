@@ -1,5 +1,4 @@
-use Rattle.std.proofs.Common.{arith}
-use Rattle.pcl_base.specs.declared.method.Method.TheVariants.{Plain, Runs, Packed, Delta}
+use Rattle.pcl_output.proofs.Names.{arith, Plain, Runs, Packed, Delta}
 use Rattle.pcl_output.proofs.by_method.ByMethod.plus.Goals as goal
 
 pub overflow_add-result : goal.overflow_add-result

@@ -1,5 +1,4 @@
-use Rattle.std.proofs.Common.{arith}
-use Rattle.pcl_base.specs.declared.method.Method.TheVariants.{Plain, Runs}
+use Rattle.pcl_output.proofs.Names.{arith, Plain, Runs}
 use Rattle.pcl_output.proofs.Switching.{least_switch, switched_numbers}
 use Rattle.pcl_output.proofs.table.RowNumbers.from_direct.Goals as goal
 

@@ -1,4 +1,4 @@
-use Rattle.std.proofs.Common.{refl}
+use Rattle.pcl_page.proofs.Names.{refl}
 use Rattle.pcl_page.proofs.Interpreted.{begin_acted, control_acted, execute_acted, call_acted}
 use Rattle.pcl_page.proofs.interpreter.Interpreter.act.Goals as goal
 

@@ -1,4 +1,4 @@
-use Rattle.std.proofs.Common.{rules}
+use Rattle.pcl_page.proofs.Names.{rules}
 use Rattle.pcl_page.proofs.interpreter.Interpreter.enter.Goals as goal
 
 pub returns-in_default : goal.returns-in_default

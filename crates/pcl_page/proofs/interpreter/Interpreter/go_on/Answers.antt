@@ -1,8 +1,5 @@
 use Rattle.std.proofs.Common.{◌≤◌, ◌++◌, ◌∷◌, [], length, refl, sym, arith, inl, inr, OnOk}
-use Rattle.std.proofs.lemmas.Option.{slice_get_within}
-use Rattle.std.proofs.lemmas.Result.{on_ok_weaker}
-use Rattle.pcl_escape.specs.Said.{view}
-use Rattle.pcl_page.specs.inner.Unfolding.{work_left}
+use Rattle.pcl_page.proofs.Names.{slice_get_within, on_ok_weaker, view, work_left}
 use Rattle.pcl_page.proofs.Progress.{advanced, HasEnded, at_running, command_goes, end_goes, advanced_less, ended_less}
 use Rattle.pcl_page.proofs.interpreter.Interpreter.go_on.Goals as goal
 use Rattle.pcl_page.proofs.interpreter.Interpreter.go_on.Goals.{in_default-via-in-Some+else-place-newest, in_default-via-in_default}

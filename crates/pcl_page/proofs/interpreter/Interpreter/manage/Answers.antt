@@ -1,7 +1,5 @@
 use Rattle.std.proofs.Common.{◌≡◌, Option, Some, refl, sym, subst, ◌∙◌, inl, inr}
-use Rattle.pcl_page.specs.declared.macros.Action.{Action}
-use Rattle.pcl_page.specs.Macros.{action_of, acted, run_by}
-use Rattle.pcl_page.specs.inner.Unfolding.{IsActed}
+use Rattle.pcl_page.proofs.Names.{Action, action_of, acted, run_by, IsActed}
 use Rattle.pcl_page.proofs.Interpreted.{reset_acted}
 use Rattle.pcl_page.proofs.interpreter.Interpreter.manage.Goals as goal
 

@@ -1,8 +1,5 @@
 use Rattle.std.proofs.Common.{◌≡◌, ◌∷◌, ◌+◌, suc, [], List, ℕ, Some, drop, refl, sym, arith, add-one}
-use Rattle.std.specs.Prelude.{slice_get}
-use Rattle.std.proofs.lemmas.Option.{slice_get_within}
-use Rattle.std.proofs.lemmas.Result.{err_from_is_err_and}
-use Rattle.pcl_escape.specs.Said.{Said}
+use Rattle.pcl_page.proofs.Names.{slice_get, slice_get_within, err_from_is_err_and, Said}
 use Rattle.pcl_page.proofs.Jobs.{command_stopped, has_begun, macros_stopped, macros_reached, end_reached}
 use Rattle.pcl_page.proofs.Progress.{got_there, past_end}
 use Rattle.pcl_page.proofs.interpreter.Interpreter.perform_all.Goals as goal

@@ -1,5 +1,5 @@
 use Rattle.std.proofs.Common.{◌-◌, length, drop}
-use Rattle.pcl_page.specs.Performing.{performance}
+use Rattle.pcl_page.proofs.Names.{performance}
 use Rattle.pcl_page.proofs.Jobs.{IsReached, rest_of_job}
 use Rattle.pcl_page.proofs.interpreter.Interpreter.perform_all.Given as goal
 

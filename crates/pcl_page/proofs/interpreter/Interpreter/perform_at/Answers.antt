@@ -1,5 +1,4 @@
-use Rattle.pcl_escape.specs.Said.{view}
-use Rattle.pcl_page.specs.Macros.{run_of}
+use Rattle.pcl_page.proofs.Names.{view, run_of}
 use Rattle.pcl_page.proofs.Progress.{stepped_on, stepped_stops, stepped_short, stepped_work, enters_few}
 use Rattle.pcl_page.proofs.interpreter.Interpreter.perform_at.Goals as goal
 

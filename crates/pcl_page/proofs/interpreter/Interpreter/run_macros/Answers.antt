@@ -1,5 +1,4 @@
-use Rattle.std.proofs.Common.{Ok, Err, refl}
-use Rattle.std.proofs.lemmas.Result.{err_from_is_err_and}
+use Rattle.pcl_page.proofs.Names.{Ok, Err, refl, err_from_is_err_and}
 use Rattle.pcl_page.proofs.Progress.{macro_goes}
 use Rattle.pcl_page.proofs.interpreter.Interpreter.run_macros.Goals as goal
 

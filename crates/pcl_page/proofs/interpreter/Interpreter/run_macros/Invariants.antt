@@ -1,7 +1,5 @@
 use Rattle.std.proofs.Common.{◌≤◌, length}
-use Rattle.pcl_base.specs.Limits.{macro_limit}
-use Rattle.pcl_page.specs.Situation.{Situation}
-use Rattle.pcl_page.specs.inner.Unfolding.{IsAt, resumed, work_left}
+use Rattle.pcl_page.proofs.Names.{macro_limit, Situation, IsAt, resumed, work_left}
 use Rattle.pcl_page.proofs.Progress.{GoesBack}
 use Rattle.pcl_page.proofs.interpreter.Interpreter.run_macros.Given as goal
 

@@ -1,8 +1,5 @@
 use Rattle.std.proofs.Common.{◌≡◌, ◌∙◌, true, sym}
-use Rattle.pcl_base.specs.Operation.{operation_of}
-use Rattle.pcl_macros.specs.Table.{is_begun}
-use Rattle.pcl_page.specs.declared.macros.Keeping.TheVariants.{Ends}
-use Rattle.pcl_page.specs.Macros.{keeping_of}
+use Rattle.pcl_page.proofs.Names.{operation_of, is_begun, Ends, keeping_of}
 use Rattle.pcl_page.proofs.Defining.{stepped_kept, stepped_ending}
 use Rattle.pcl_page.proofs.interpreter.Interpreter.try_command.Goals as goal
 

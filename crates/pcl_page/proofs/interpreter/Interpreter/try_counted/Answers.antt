@@ -1,5 +1,4 @@
-use Rattle.std.proofs.Common.{refl}
-use Rattle.std.proofs.lemmas.Result.{err_from_is_err_and}
+use Rattle.pcl_page.proofs.Names.{refl, err_from_is_err_and}
 use Rattle.pcl_page.proofs.Interpreted.{counted_stepped, counted_untried}
 use Rattle.pcl_page.proofs.interpreter.Interpreter.try_counted.Goals as goal
 

@@ -1,4 +1,4 @@
-use Rattle.std.proofs.Common.{rules}
+use Rattle.pcl_page.proofs.Names.{rules}
 use Rattle.pcl_page.proofs.job.CollectedPageSink.page.Goals as goal
 
 pub returns-clause-taken : goal.returns-clause-taken

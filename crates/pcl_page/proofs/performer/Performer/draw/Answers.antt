@@ -1,5 +1,4 @@
-use Rattle.std.proofs.Common.{refl}
-use Rattle.pcl_escape.specs.Said.{view}
+use Rattle.pcl_page.proofs.Names.{refl, view}
 use Rattle.pcl_page.proofs.Printed.{settings_in, row_in}
 use Rattle.pcl_page.proofs.performer.Performer.draw.Goals as goal
 

@@ -1,5 +1,4 @@
-use Rattle.std.proofs.Common.{refl, ap}
-use Rattle.pcl_bitmap.specs.Bitmap.{Picture}
+use Rattle.pcl_page.proofs.Names.{refl, ap, Picture}
 use Rattle.pcl_page.proofs.performer.Performer.eject.Goals as goal
 
 pub returns-clause-ok : goal.returns-clause-ok

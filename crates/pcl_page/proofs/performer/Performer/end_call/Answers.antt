@@ -1,6 +1,5 @@
 use Rattle.std.proofs.Common.{◌∙◌, ap, rules}
-use Rattle.pcl_base.specs.declared.operation.Operation.TheVariants.{EndRaster}
-use Rattle.pcl_env.specs.Settings.{restored}
+use Rattle.pcl_page.proofs.Names.{EndRaster, restored}
 use Rattle.pcl_page.proofs.Turns.{prepared_in}
 use Rattle.pcl_page.proofs.Printed.{settings_in}
 use Rattle.pcl_page.proofs.performer.Performer.end_call.Goals as goal

@@ -1,7 +1,5 @@
 use Rattle.std.proofs.Common.{rules, FitsSigned, to_z, of_z, ◌≡◌, ◌+ℤ◌, ◌-ℤ◌, ◌*ℤ◌, pos, refl, ℕ}
-use Rattle.std.proofs.lemmas.Int.{to_z-of_z}
-use Rattle.std.specs.Int.{w16, w32}
-use Rattle.pcl_base.specs.Dpi.{fineness}
+use Rattle.pcl_page.proofs.Names.{to_z-of_z, w16, w32, fineness}
 use Rattle.pcl_page.proofs.Painted.{or_is}
 use Rattle.pcl_page.proofs.performer.Performer.ink_glyph.Goals as goal
 

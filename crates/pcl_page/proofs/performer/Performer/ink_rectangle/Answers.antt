@@ -1,5 +1,5 @@
 use Rattle.std.proofs.Common.{◌≡◌, ◌/◌, ℕ, rules}
-use Rattle.pcl_page.specs.Marks.{dot_at, dots_of}
+use Rattle.pcl_page.proofs.Names.{dot_at, dots_of}
 use Rattle.pcl_page.proofs.performer.Performer.ink_rectangle.Goals as goal
 
 pub returns-clause-drawn : goal.returns-clause-drawn

@@ -1,10 +1,5 @@
 use Rattle.std.proofs.Common.{◌≡◌, ◌∙◌, ◌+◌, ◌*◌, ℕ, true, Some, refl, sym, ap, rules}
-use Rattle.pcl_base.specs.declared.dpi.Dpi.{Dpi}
-use Rattle.pcl_base.specs.Dpi.{units_per_dot}
-use Rattle.pcl_env.specs.Settings.{Settings, put}
-use Rattle.pcl_bitmap.specs.declared.page.Page.{Page}
-use Rattle.pcl_page.specs.Raster.{Raster, ends_raster}
-use Rattle.pcl_page.specs.Situation.{settings_below}
+use Rattle.pcl_page.proofs.Names.{Dpi, units_per_dot, Settings, put, Page, Raster, ends_raster, settings_below}
 use Rattle.pcl_page.proofs.performer.Performer.prepare.Goals as goal
 use Rattle.pcl_page.proofs.performer.Performer.prepare.Goals.{in-Some, in_default}
 

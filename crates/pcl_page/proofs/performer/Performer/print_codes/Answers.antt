@@ -1,10 +1,5 @@
 use Rattle.std.proofs.Common.{◌≡◌, ◌<◌, ◌∷◌, ◌+◌, ◌∙◌, List, ℕ, Some, None, length, drop, get_or, refl, sym, ap, rules, add-one, drop-cons}
-use Rattle.std.specs.Option.{option_map}
-use Rattle.std.specs.Prelude.{IsTrue}
-use Rattle.pcl_fonts.specs.Table.{character_in}
-use Rattle.pcl_env.specs.Settings.{font_in_use}
-use Rattle.pcl_page.specs.Text.{prints}
-use Rattle.pcl_page.specs.inner.Reflecting.{character_at, IsInked}
+use Rattle.pcl_page.proofs.Names.{option_map, IsTrue, character_in, font_in_use, prints, character_at, IsInked}
 use Rattle.pcl_page.proofs.Printed.{same_character, code_done, blank_printed, inked_last, last_now, last_still}
 use Rattle.pcl_page.proofs.performer.Performer.print_codes.Goals as goal
 use Rattle.pcl_page.proofs.performer.Performer.print_codes.Goals.{in-Some, in-None}

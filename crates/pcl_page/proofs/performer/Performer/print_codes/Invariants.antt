@@ -1,8 +1,4 @@
-use Rattle.std.proofs.Common.{drop}
-use Rattle.pcl_env.specs.Settings.{font_in_use}
-use Rattle.pcl_page.specs.Situation.{Situation}
-use Rattle.pcl_page.specs.Text.{prints}
-use Rattle.pcl_page.specs.inner.Reflecting.{IsIn, IsLastInked}
+use Rattle.pcl_page.proofs.Names.{drop, font_in_use, Situation, prints, IsIn, IsLastInked}
 use Rattle.pcl_page.proofs.Printed.{IsPrintedTo}
 use Rattle.pcl_page.proofs.performer.Performer.print_codes.Given as goal
 

@@ -1,7 +1,5 @@
 use Rattle.std.proofs.Common.{◌≡◌, rules, refl}
-use Rattle.std.specs.Prelude.{IsTrue}
-use Rattle.pcl_fonts.specs.Table.{character_in}
-use Rattle.pcl_page.specs.inner.Reflecting.{character_at, IsDrawn, IsInked}
+use Rattle.pcl_page.proofs.Names.{IsTrue, character_in, character_at, IsDrawn, IsInked}
 use Rattle.pcl_page.proofs.Printed.{character_printed, drawn_again, inked_by, inked_still}
 use Rattle.pcl_page.proofs.performer.Performer.print_glyph.Goals as goal
 use Rattle.pcl_page.proofs.performer.Performer.print_glyph.Goals.{then-not-is_inked, else-not-is_inked}

@@ -1,7 +1,5 @@
 use Rattle.std.proofs.Common.{◌∙◌, sym}
-use Rattle.pcl_env.specs.Settings.{font_in_use}
-use Rattle.pcl_page.specs.Text.{prints}
-use Rattle.pcl_page.specs.Situation.{font_now}
+use Rattle.pcl_page.proofs.Names.{font_in_use, prints, font_now}
 use Rattle.pcl_page.proofs.Printed.{text_refused, text_blank, blank_advance, text_taken, text_advance, printed_as}
 use Rattle.pcl_page.proofs.performer.Performer.print_text.Goals as goal
 

@@ -1,6 +1,5 @@
 use Rattle.std.proofs.Common.{◌≡◌, ◌∙◌, Option, refl, sym, ap, ℕ, rules}
-use Rattle.pcl_page.specs.Raster.{Raster}
-use Rattle.pcl_page.specs.Situation.{raster_for_row}
+use Rattle.pcl_page.proofs.Names.{Raster, raster_for_row}
 use Rattle.pcl_page.proofs.Painted.{or_is}
 use Rattle.pcl_page.proofs.performer.Performer.send_row.Goals as goal
 use Rattle.pcl_page.proofs.performer.Performer.send_row.Goals.{in-Some, in-None+in_ok-raster-in-None}

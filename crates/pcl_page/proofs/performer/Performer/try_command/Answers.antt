@@ -1,7 +1,5 @@
 use Rattle.std.proofs.Common.{◌≤◌, ◌∙◌, Bool, true, false, cond, Option, None, refl, sym, arith}
-use Rattle.std.proofs.lemmas.Result.{err_from_is_err_and}
-use Rattle.pcl_escape.specs.Said.{view}
-use Rattle.pcl_page.specs.Raster.{Raster, rows_in, ends_raster}
+use Rattle.pcl_page.proofs.Names.{err_from_is_err_and, view, Raster, rows_in, ends_raster}
 use Rattle.pcl_page.proofs.Turns.{prepared_in}
 use Rattle.pcl_page.proofs.Steps.{counted_in, AtTurn, tried_as, tried_ignored, refused_by, gone_by, tried_drawn, tried_undrawn}
 use Rattle.pcl_page.proofs.performer.Performer.try_command.Goals as goal

@@ -1,6 +1,5 @@
 use Rattle.std.proofs.Common.{◌∙◌, refl, sym, arith}
-use Rattle.std.proofs.lemmas.Result.{err_from_is_err_and}
-use Rattle.pcl_page.specs.inner.Reflecting.{IsFollowed}
+use Rattle.pcl_page.proofs.Names.{err_from_is_err_and, IsFollowed}
 use Rattle.pcl_page.proofs.Turns.{turned_stays, turned_ejects, turned_short, turned_memory, ejected_as}
 use Rattle.pcl_page.proofs.performer.Performer.turn.Goals as goal
 use Rattle.pcl_page.proofs.performer.Performer.turn.Goals.{then-ejects+else-self-ge-PAGE_LIMIT+in_ok-eject, else-ejects}

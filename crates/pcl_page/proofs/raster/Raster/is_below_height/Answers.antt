@@ -1,4 +1,4 @@
-use Rattle.std.proofs.Common.{rules}
+use Rattle.pcl_page.proofs.Names.{rules}
 use Rattle.pcl_page.proofs.raster.Raster.is_below_height.Goals as goal
 
 pub returns : goal.returns

@@ -1,8 +1,5 @@
 use Rattle.std.proofs.Common.{◌≡◌, ◌+◌, ◌*◌, ◌||◌, ◌∙◌, List, ℕ, sym, ap, subst, arith}
-use Rattle.pcl_bitmap.specs.Bitmap.{Picture, dot}
-use Rattle.pcl_page.specs.Raster.{Raster, row_sent, row_mark, cleared_past}
-use Rattle.pcl_rows.specs.Decoding.{decoded}
-use Rattle.pcl_page.specs.contracts.raster.Raster.{the_view}
+use Rattle.pcl_page.proofs.Names.{Picture, dot, Raster, row_sent, row_mark, cleared_past, decoded, the_view}
 use Rattle.pcl_page.proofs.Painted.{written, painted_dot, unpainted_dot}
 use Rattle.pcl_page.proofs.raster.Raster.send.Goals as goal
 use Rattle.pcl_page.proofs.raster.Raster.send.Goals.{then-is_below_height, else-is_below_height}

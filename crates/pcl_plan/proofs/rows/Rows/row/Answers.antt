@@ -1,5 +1,5 @@
 use Rattle.std.proofs.Common.{◌≡◌, ◌+◌, ◌-◌, ◌*◌, ℕ, take, drop, sym, ap, ◌∙◌, arith}
-use Rattle.pcl_output.proofs.RowsFrom.{row_of_bytes}
+use Rattle.pcl_plan.proofs.Names.{row_of_bytes}
 use Rattle.pcl_plan.proofs.rows.Rows.row.Goals as goal
 
 pub returns-clause-row : goal.returns-clause-row

@@ -1,7 +1,5 @@
 use Rattle.std.proofs.Common.{◌≡◌, take, ap, ◌∙◌, arith}
-use Rattle.std.proofs.lemmas.List.{take-replicate}
-use Rattle.pcl_output.specs.Nodes.{row_above}
-use Rattle.pcl_plan.specs.inner.Rows.{rows_of}
+use Rattle.pcl_plan.proofs.Names.{take-replicate, row_above, rows_of}
 use Rattle.pcl_plan.proofs.rows.Rows.row_above.Goals as goal
 
 pub returns-else-y-gt0-clause-row : goal.returns-else-y-gt0-clause-row

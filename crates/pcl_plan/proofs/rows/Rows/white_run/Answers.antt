@@ -1,5 +1,4 @@
-use Rattle.std.proofs.Common.{arith}
-use Rattle.pcl_output.proofs.RowsFrom.{length_rows}
+use Rattle.pcl_plan.proofs.Names.{arith, length_rows}
 use Rattle.pcl_plan.proofs.rows.Rows.white_run.Goals as goal
 
 pub returns-after-loop-run-clause-run : goal.returns-after-loop-run-clause-run

@@ -1,6 +1,5 @@
 use Rattle.std.proofs.Common.{◌+◌, ◌-◌, ◌≤◌, take, drop}
-use Rattle.pcl_output.specs.Tokens.{AreWhite}
-use Rattle.pcl_plan.specs.inner.Rows.{rows_of}
+use Rattle.pcl_plan.proofs.Names.{AreWhite, rows_of}
 use Rattle.pcl_plan.proofs.rows.Rows.white_run.Given as goal
 
 abbrev pub invariant-loop-run : goal.invariant-loop-run

@@ -1,4 +1,4 @@
-use Rattle.std.proofs.Common.{arith}
+use Rattle.pcl_rows.proofs.Names.{arith}
 use Rattle.pcl_rows.proofs.Beginnings.{front_read}
 use Rattle.pcl_rows.proofs.front.Front.read.Goals as goal
 

@@ -1,5 +1,4 @@
-use Rattle.std.proofs.Common.{refl, sym, arith, []}
-use Rattle.pcl_rows.specs.Heads.{Itself, Count}
+use Rattle.pcl_rows.proofs.Names.{refl, sym, arith, [], Itself, Count}
 use Rattle.pcl_rows.proofs.Beginnings.{Begins-one, opens_with}
 use Rattle.pcl_rows.proofs.head.Opening.read.Goals as goal
 

@@ -1,7 +1,5 @@
 use Rattle.std.proofs.Common.{◌≡◌, length, drop, refl, arith}
-use Rattle.std.proofs.lemmas.List.{drop_all}
-use Rattle.std.proofs.Math.Seq.{drop-cons}
-use Rattle.pcl_same.specs.inner.Pages.{IsFoundNext}
+use Rattle.pcl_same.proofs.Names.{drop_all, drop-cons, IsFoundNext}
 use Rattle.pcl_same.proofs.comparing.ComparerPageSink.page.Goals.{in-Some, in-None}
 use Rattle.pcl_same.proofs.comparing.ComparerPageSink.page.Goals as goal
 

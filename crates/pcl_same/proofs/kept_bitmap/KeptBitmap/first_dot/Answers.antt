@@ -1,5 +1,5 @@
 use Rattle.std.proofs.Common.{◌≡◌, ℕ, ◌<◌, length, drop, ◌∙◌, arith}
-use Rattle.pcl_base.specs.Size.{page_height}
+use Rattle.pcl_same.proofs.Names.{page_height}
 use Rattle.pcl_same.proofs.KeptRows.{height_is, white_above, next_above, made_over, makes_more, all_beside, row_differs}
 use Rattle.pcl_same.proofs.kept_bitmap.KeptBitmap.first_dot.Goals as goal
 

@@ -1,7 +1,5 @@
 use Rattle.std.proofs.Common.{◌≡◌, ℕ, ◌<◌, take}
-use Rattle.pcl_base.specs.Size.{page_row_bytes}
-use Rattle.pcl_same.specs.Kept.{row_above, MakesRow}
-use Rattle.pcl_same.specs.Kept.{data_of}
+use Rattle.pcl_same.proofs.Names.{page_row_bytes, row_above, MakesRow, data_of}
 use Rattle.pcl_same.proofs.kept_bitmap.KeptBitmap.first_dot.Given as goal
 
 abbrev pub invariant-loop-y : goal.invariant-loop-y

@@ -1,5 +1,5 @@
 use Rattle.std.proofs.Common.{◌≡◌, ◌∙◌, ℕ, List, [], ◌++◌, ◌∷◌, length, drop, ap, arith}
-use Rattle.pcl_base.specs.Size.{page_height}
+use Rattle.pcl_same.proofs.Names.{page_height}
 use Rattle.pcl_same.proofs.KeptRows.{none_kept, more_kept, height_is, white_above, next_above, made_over}
 use Rattle.pcl_same.proofs.kept_bitmap.KeptBitmap.new.Goals as goal
 

@@ -1,6 +1,5 @@
 use Rattle.std.proofs.Common.{◌≡◌, take}
-use Rattle.pcl_base.specs.Size.{page_row_bytes}
-use Rattle.pcl_same.specs.Kept.{row_above}
+use Rattle.pcl_same.proofs.Names.{page_row_bytes, row_above}
 use Rattle.pcl_same.proofs.KeptRows.{KeepsRows}
 use Rattle.pcl_same.proofs.kept_bitmap.KeptBitmap.new.Given as goal
 

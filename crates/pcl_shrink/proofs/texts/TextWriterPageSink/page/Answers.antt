@@ -1,7 +1,5 @@
 use Rattle.std.proofs.Common.{List, ℕ, [], ◌∷◌, ◌++◌, ap, ◌∙◌}
-use Rattle.std.proofs.lemmas.List.{map-append}
-use Rattle.pcl_shrink.specs.declared.rasters.Text.{Text}
-use Rattle.pcl_shrink.specs.Texts.{least_of}
+use Rattle.pcl_shrink.proofs.Names.{map-append, Text, least_of}
 use Rattle.pcl_shrink.proofs.texts.TextWriterPageSink.page.Goals as goal
 
 pub returns-clause-taken : goal.returns-clause-taken

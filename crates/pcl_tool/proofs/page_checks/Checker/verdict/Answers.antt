@@ -1,4 +1,4 @@
-use Rattle.std.proofs.Common.{sym}
+use Rattle.pcl_tool.proofs.Names.{sym}
 use Rattle.pcl_tool.proofs.Left.{answer_more}
 use Rattle.pcl_tool.proofs.page_checks.Checker.verdict.Goals as goal
 

@@ -1,6 +1,4 @@
-use Rattle.std.proofs.Common.{arith}
-use Rattle.std.proofs.lemmas.Grind.{common_steps}
-use Rattle.pcl_base.proofs.Results.{on_err}
+use Rattle.pcl_tool.proofs.Names.{arith, common_steps, on_err}
 use Rattle.pcl_tool.proofs.SameCheckers.{again}
 use Rattle.pcl_tool.proofs.page_checks.CheckerPageSink.page.Goals as goal
 

@@ -1,5 +1,5 @@
 use Rattle.std.proofs.Common.{◌≡◌, ◌∙◌, sym, rules}
-use Rattle.std.proofs.lemmas.List.Elements.{same_from_all_zip}
+use Rattle.pcl_tool.proofs.Names.{same_from_all_zip}
 use Rattle.pcl_tool.proofs.page_preview.ChosenPageSink.page.Goals as goal
 
 pub returns-in-None-clause-taken : goal.returns-in-None-clause-taken

@@ -1,6 +1,5 @@
 use Rattle.std.proofs.Common.{◌≡◌, ◌-◌, length, refl, ap, arith}
-use Rattle.std.proofs.lemmas.List.{length-append}
-use Rattle.pcl_cert.specs.declared.page_proof.PageProof.{PageProof}
+use Rattle.pcl_tool.proofs.Names.{length-append, PageProof}
 use Rattle.pcl_tool.proofs.Proved.{plan_proves, proof_said}
 use Rattle.pcl_tool.proofs.written_job.WrittenJobPageSink.page.Goals as goal
 

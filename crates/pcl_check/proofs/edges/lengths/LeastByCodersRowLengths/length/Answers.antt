@@ -1,14 +1,5 @@
 use Rattle.std.proofs.Common.{◌≡◌, ◌<◌, ℕ, List, sym}
-use Rattle.pcl_base.specs.declared.method.Method.{Method}
-use Rattle.pcl_base.specs.Size.{page_height, page_row_bytes}
-use Rattle.pcl_coders.specs.Coding.{IsLeastLength}
-use Rattle.pcl_bitmap.specs.Bitmap.{row_of}
-use Rattle.pcl_bitmap.specs.declared.page.Page.{Page}
-use Rattle.pcl_output.specs.Nodes.{row_above}
-use Rattle.pcl_output.specs.PageText.{bitmap_rows}
-use Rattle.pcl_output.proofs.RowsFrom.{row_of_bytes}
-use Rattle.pcl_check.specs.Edges.{IsLeastOfRow}
-use Rattle.pcl_coders.proofs.Lengths.{least_alone}
+use Rattle.pcl_check.proofs.Names.{Method, page_height, page_row_bytes, IsLeastLength, row_of, Page, row_above, bitmap_rows, row_of_bytes, IsLeastOfRow, least_alone}
 use Rattle.pcl_check.proofs.edges.lengths.LeastByCodersRowLengths.length.Goals as goal
 
 -- a least length for the bytes of the bitmap's rows is one for the page's rows

@@ -1,6 +1,5 @@
 use Rattle.std.proofs.Common.{◌≡◌, ◌<◌, ◌≤◌, ℕ, false}
-use Rattle.pcl_base.specs.Size.{page_width}
-use Rattle.pcl_bitmap.specs.Bitmap.{dot_of_row}
+use Rattle.pcl_check.proofs.Names.{page_width, dot_of_row}
 use Rattle.pcl_check.proofs.reading.comparison.Comparison.has_clear_pads.Given as goal
 
 -- the dots so far are white

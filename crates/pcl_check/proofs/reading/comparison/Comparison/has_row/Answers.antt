@@ -1,7 +1,5 @@
 use Rattle.std.proofs.Common.{◌≡◌, ◌∷◌, [], ℕ, List, sym, ap, ◌∙◌, arith}
-use Rattle.std.proofs.lemmas.Slice.Eq.{slice_eq-Decides}
-use Rattle.std.proofs.lemmas.Bool.Decides.{Decides-eqb, nat_tests}
-use Rattle.pcl_bitmap.specs.Bitmap.{row_of}
+use Rattle.pcl_check.proofs.Names.{slice_eq-Decides, Decides-eqb, nat_tests, row_of}
 use Rattle.pcl_check.proofs.ComparedRows.{first_row, past_rows}
 use Rattle.pcl_check.proofs.reading.comparison.Comparison.has_row.Goals as goal
 

@@ -1,10 +1,5 @@
 use Rattle.std.proofs.Common.{◌≡◌, ◌∷◌, [], ℕ, List, length, replicate, sym, ap, subst, ◌∙◌, arith}
-use Rattle.std.specs.Prelude.{All}
-use Rattle.std.proofs.lemmas.List.{length-replicate}
-use Rattle.std.proofs.lemmas.Bool.Decides.{nat_tests}
-use Rattle.pcl_base.proofs.Lists.{all_zeros}
-use Rattle.pcl_base.specs.Size.{page_row_bytes}
-use Rattle.pcl_bitmap.specs.Bitmap.{row_of}
+use Rattle.pcl_check.proofs.Names.{All, length-replicate, nat_tests, all_zeros, page_row_bytes, row_of}
 use Rattle.pcl_check.proofs.ComparedRows.{first_row, past_rows, zeros_all}
 use Rattle.pcl_check.proofs.reading.comparison.Comparison.has_white_row.Goals as goal
 

@@ -1,7 +1,5 @@
 use Rattle.std.proofs.Common.{◌≡◌, ◌≤◌, ◌+◌, ◌-◌, ℕ, suc, List, take, drop, sym, ap, ◌∙◌, true, false, refl, arith}
-use Rattle.std.proofs.lemmas.List.{drop-drop}
-use Rattle.pcl_base.proofs.Lists.{more_copies, one_of_copies}
-use Rattle.pcl_output.specs.PageText.{bitmap_rows}
+use Rattle.pcl_check.proofs.Names.{drop-drop, more_copies, one_of_copies, bitmap_rows}
 use Rattle.pcl_check.proofs.reading.comparison.Comparison.has_white_rows.Goals as goal
 
 -- the rows from a row on, among those from one before it on

@@ -1,6 +1,5 @@
 use Rattle.std.proofs.Common.{◌≡◌, ◌-◌, take, drop, replicate}
-use Rattle.pcl_base.specs.Size.{page_row_bytes}
-use Rattle.pcl_output.specs.PageText.{bitmap_rows}
+use Rattle.pcl_check.proofs.Names.{page_row_bytes, bitmap_rows}
 use Rattle.pcl_check.proofs.reading.comparison.Comparison.has_white_rows.Given as goal
 
 abbrev pub invariant-loop-row : goal.invariant-loop-row
