@@ -13,8 +13,7 @@ same_bits_above line s some begun =
 
 -- dots hold the bits of a line, from dot u on
 abbrev pub HasLine : (dots rows : List ℕ) (line u s n count : ℕ) → Type 0
-HasLine dots rows line u s n count =
-    (k : ℕ) → k < 8 * count → dot_of_row dots k ≡ dot_of_row (drop (line / s * n) rows) ((u + k) / s)
+HasLine dots rows line u s n count = (k : ℕ) → k < 8 * count → dot_of_row dots k ≡ dot_of_row (drop (line / s * n) rows) ((u + k) / s)
 
 -- a dot of an area after the pattern: with bits of s dots, n bytes a row, and its dot (u, v) at the area's corner (x, y)
 abbrev pub line_or : (rows : List ℕ) (x y u v s n : ℕ) → ℕ → ℕ → Bool → Bool
@@ -30,8 +29,7 @@ seen_bit s w h rows t u i j = grind arith
 pub seen_pattern : (x y : ℤ) (left top skip_x skip_y wide high w h s n width height px py : ℕ) (rows : List ℕ) (d : Bool)
     → 1 ≤ s → n ≡ (width + 7) / 8 → w ≡ min (width * s - skip_x) (wide - left) → h ≡ min (height * s - skip_y) (high - top)
     → dots_past x px ≡ (if nat_le left px then Some (px + skip_x - left) else None)
-    → dots_past y py ≡ (if nat_le top py then Some (py + skip_y - top) else None)
-    → px < wide → py < high
+    → dots_past y py ≡ (if nat_le top py then Some (py + skip_y - top) else None) → px < wide → py < high
     → (if rectangle_dot left top w h px py then line_or rows left top skip_x skip_y s n px py d else d)
     ≡ (pattern_dot x y s width height rows px py || d)
 seen_pattern x y left top skip_x skip_y wide high w h s n width height px py rows d some e_n e_w e_h e_x e_y within on_page =
@@ -48,8 +46,7 @@ seen_row j skip s height n size some below fits =
     omega (arith, mul-le ((j + skip) / s) n height n (omega arith) (omega arith))
 
 -- a pattern that begins right of or below the page
-pub pattern_off : (x y : ℤ) (left top skip_x skip_y wide high s w h px py : ℕ) (rows : List ℕ)
-    → (wide ≤ left) ⊎ (high ≤ top)
+pub pattern_off : (x y : ℤ) (left top skip_x skip_y wide high s w h px py : ℕ) (rows : List ℕ) → (wide ≤ left) ⊎ (high ≤ top)
     → dots_past x px ≡ (if nat_le left px then Some (px + skip_x - left) else None)
     → dots_past y py ≡ (if nat_le top py then Some (py + skip_y - top) else None)
     → px < wide → py < high → pattern_dot x y s w h rows px py ≡ false

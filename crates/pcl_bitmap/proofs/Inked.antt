@@ -21,8 +21,7 @@ none_inked r page x y w h ink high bytes = record {
 }
 
 -- one row more, where the run of its dots took the ink
-pub row_inked : {r x y w h row : ℕ} {old now : List ℕ} (new : List ℕ) {ink : ℕ → ℕ → Bool → Bool}
-    → AreInked r old now x y w h row ink
+pub row_inked : {r x y w h row : ℕ} {old now : List ℕ} (new : List ℕ) {ink : ℕ → ℕ → Bool → Bool} → AreInked r old now x y w h row ink
     → y ≤ row → x + w ≤ 8 * r → (y + h) * r ≤ length new → All (λ byte. byte < 256) new
     → ((px py : ℕ) → px < 8 * r → let from = 8 * (row * r) + x in let place = 8 * (py * r) + px in
     dot_of_row new place ≡ (if in_run from (from + w) place then ink px py (dot_of_row now place) else dot_of_row now place))
@@ -60,12 +59,10 @@ pub drawn :
     {size : Size} {dpi : Dpi} {old new lent page : List ℕ} (x y w h r : ℕ) (ink after : ℕ → ℕ → Bool → Bool)
     → IsPicture (picture_of size dpi old)
     → lent ≡ old → new ≡ page → length page ≡ length lent → All (λ n. n < 256) page → x + w ≤ page_width size dpi
-    → r ≡ page_row_bytes size dpi
-    → ((px py : ℕ) → px < 8 * r → let place = 8 * (py * r) + px in
+    → r ≡ page_row_bytes size dpi → ((px py : ℕ) → px < 8 * r → let place = 8 * (py * r) + px in
     dot_of_row page place ≡ (if rectangle_dot x y w h px py then ink px py (dot_of_row lent place) else dot_of_row lent place))
     → ((px py : ℕ) (before : Bool) → px < page_width size dpi → py < page_height size dpi
-    → (if rectangle_dot x y w h px py then ink px py before else before) ≡ after px py before)
-    → IsDrawn size dpi old new after
+    → (if rectangle_dot x y w h px py then ink px py before else before) ≡ after px py before) → IsDrawn size dpi old new after
 drawn {size} {dpi} {old} {new} {lent} {page} x y w h r ink after is_picture e_old e_new len bytes on_page e_r painted seen =
     let n : ℕ = page_row_bytes size dpi in
     let bits = rw (e_old, e_r) at painted in

@@ -10,10 +10,8 @@ nothing_inked p filled none = λ px py in_row on_page inside. absurd (grind (ari
 
 -- after dots were painted black
 pub black_stays :
-    {size : Size} {dpi : Dpi} {old new : List ℕ} {before after : Filled} (mark : ℕ → ℕ → Bool)
-    → HasInk (picture_of size dpi old) before
-    → (after.area.width ≡ 0) ⊎ ((before.ink ≡ Black) × (after ≡ before))
-    → IsDrawn size dpi old new (λ px py dot. mark px py || dot)
+    {size : Size} {dpi : Dpi} {old new : List ℕ} {before after : Filled} (mark : ℕ → ℕ → Bool) → HasInk (picture_of size dpi old) before
+    → (after.area.width ≡ 0) ⊎ ((before.ink ≡ Black) × (after ≡ before)) → IsDrawn size dpi old new (λ px py dot. mark px py || dot)
     → HasInk (picture_of size dpi new) after
 black_stays {size} {dpi} {old} {new} {before} {after} mark inked kept drawn =
     elim kept [
@@ -25,13 +23,10 @@ black_stays {size} {dpi} {old} {new} {before} {after} mark inked kept drawn =
 
 -- a rectangle whose dots have the ink
 pub has_ink : (size : Size) (dpi : Dpi) (bytes : List ℕ) (filled : Filled) (x y w h wide high : ℕ) (ink : Ink)
-    → HasInk (picture_of size dpi bytes) filled
-    → (filled.ink ≡ ink) × (filled.area.x ≤ x) × (filled.area.y ≤ y)
+    → HasInk (picture_of size dpi bytes) filled → (filled.ink ≡ ink) × (filled.area.x ≤ x) × (filled.area.y ≤ y)
     × (w ≤ filled.area.width - (x - filled.area.x)) × (h ≤ filled.area.height - (y - filled.area.y))
-    → x < page_width size dpi → y < page_height size dpi
-    → w ≡ min wide (page_width size dpi - x) → h ≡ min high (page_height size dpi - y)
-    → (px py : ℕ) → px < page_width size dpi → py < page_height size dpi
-    → dot (picture_of size dpi bytes) px py
+    → x < page_width size dpi → y < page_height size dpi → w ≡ min wide (page_width size dpi - x) → h ≡ min high (page_height size dpi - y)
+    → (px py : ℕ) → px < page_width size dpi → py < page_height size dpi → dot (picture_of size dpi bytes) px py
     ≡ (if rectangle_dot x y wide high px py then is_black_ink ink else dot (picture_of size dpi bytes) px py)
 has_ink size dpi bytes filled x y w h wide high ink inked within start top e_w e_h px py in_row on_page =
     let black = ap is_black_ink within.0 in

@@ -40,12 +40,10 @@ same_byte {a} {b} p q h =
     grind (arith, nat_tests, place, h (7 - i) (omega arith), bit_at-lt a i, bit_at-lt b i))
 
 -- pages of h rows with the same dots across w dots, and clear pads, have the same bytes
-pub same_pages : (r w h : ℕ) (a b : List ℕ)
-    → length a ≡ h * r → length b ≡ h * r → All (λ n. n < 256) a → All (λ n. n < 256) b
+pub same_pages : (r w h : ℕ) (a b : List ℕ) → length a ≡ h * r → length b ≡ h * r → All (λ n. n < 256) a → All (λ n. n < 256) b
     → ((x y : ℕ) → w ≤ x → dot_of_row (take r (drop (y * r) a)) x ≡ false)
     → ((x y : ℕ) → w ≤ x → dot_of_row (take r (drop (y * r) b)) x ≡ false)
-    → ((x y : ℕ) → x < w → y < h → dot_of_row (take r (drop (y * r) a)) x ≡ dot_of_row (take r (drop (y * r) b)) x)
-    → a ≡ b
+    → ((x y : ℕ) → x < w → y < h → dot_of_row (take r (drop (y * r) a)) x ≡ dot_of_row (take r (drop (y * r) b)) x) → a ≡ b
 same_pages r w h a b la lb fa fb pa pb same =
     ext_get_or 0 a b (la ∙ sym lb) (λ i within.
     let some : 0 < r = elim (cases_lt 0 r) [ inl some ↦ some | inr none ↦ absurd (omega (arith, mul-le h r h 0 (omega arith) none)) ] in
@@ -62,10 +60,8 @@ same_pages r w h a b la lb fa fb pa pb same =
     grind (arith, in_a, in_b, same x y, pa x y, pb x y)))
 
 -- a row with clear pads is all zeros where its dots across w are white
-pub zeros_from_white : (zs : List ℕ) (w : ℕ)
-    → All (λ n. n < 256) zs → ((x : ℕ) → w ≤ x → dot_of_row zs x ≡ false)
-    → ((x : ℕ) → x < w → dot_of_row zs x ≡ false)
-    → All (λ n. n ≡ 0) zs
+pub zeros_from_white : (zs : List ℕ) (w : ℕ) → All (λ n. n < 256) zs → ((x : ℕ) → w ≤ x → dot_of_row zs x ≡ false)
+    → ((x : ℕ) → x < w → dot_of_row zs x ≡ false) → All (λ n. n ≡ 0) zs
 zeros_from_white zs w bytes pads white =
     All-from_get_or (λ n. n ≡ 0) zs 0 (λ i within. same_byte (All-get_or (λ n. n < 256) zs i 0 within bytes) (lit< tt) (λ k small.
     grind (arith, dot_at zs i small refl, white (8 * i + k), pads (8 * i + k), bit_of_byte-zero k)))

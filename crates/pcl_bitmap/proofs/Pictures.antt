@@ -10,8 +10,7 @@ picture_of size dpi bytes = record { size = size; dpi = dpi; bytes = bytes }
 
 -- pictures of one size and resolution with the same dots are the same
 pub same_dots : (p q : Picture) → IsPicture p → IsPicture q → p.size ≡ q.size → p.dpi ≡ q.dpi
-    → ((x y : ℕ) → x < page_width p.size p.dpi → y < page_height p.size p.dpi → dot p x y ≡ dot q x y)
-    → p ≡ q
+    → ((x y : ℕ) → x < page_width p.size p.dpi → y < page_height p.size p.dpi → dot p x y ≡ dot q x y) → p ≡ q
 same_dots p q is_p is_q s d same =
     let turned : q ≡ picture_of p.size p.dpi q.bytes = rw (s, d) in
     let is_turned : IsPicture (picture_of p.size p.dpi q.bytes) = rw turned at is_q in
@@ -56,8 +55,7 @@ blank_dots size dpi x y = dot_of_zeros (page_height size dpi * page_row_bytes si
 
 -- a page of zeros is the white page
 pub blank_from_zeros : (size : Size) (dpi : Dpi) (bs : List ℕ) (h r : ℕ)
-    → h ≡ page_height size dpi → r ≡ page_row_bytes size dpi → bs ≡ replicate (h * r) 0
-    → picture_of size dpi bs ≡ blank_picture size dpi
+    → h ≡ page_height size dpi → r ≡ page_row_bytes size dpi → bs ≡ replicate (h * r) 0 → picture_of size dpi bs ≡ blank_picture size dpi
 unfolding blank_bytes
 blank_from_zeros size dpi bs h r e_h e_r e = rw (e, e_h, e_r)
 

@@ -4,21 +4,17 @@ use Rattle.pcl_bitmap.proofs.Names.{nat_tests, get_or-take, get_or-drop, get_or_
 use Rattle.pcl_bitmap.proofs.Bytes.{bit_of_byte-or, bit_of_byte-and, bit_of_byte-not, dot_at, dot_of_bits}
 
 -- some bits are in place from byte `first` up to byte i, and then up to the next
-pub part_more : (old now : List ℕ) (first i m : ℕ) (bits : ℕ → Bool)
-    → i < length now → first ≤ i
+pub part_more : (old now : List ℕ) (first i m : ℕ) (bits : ℕ → Bool) → i < length now → first ≤ i
     → ((k : ℕ) → k < 8 → bit_of_byte m k ≡ bits (8 * i + k))
     → ((k : ℕ) → dot_of_row now k ≡ ((in_run (8 * first) (8 * i) k && bits k) || dot_of_row old k))
-    → (k : ℕ) → dot_of_row (set now i (bit_or (get_or now i 0) m)) k
-    ≡ ((in_run (8 * first) (8 * (i + 1)) k && bits k) || dot_of_row old k)
+    → (k : ℕ) → dot_of_row (set now i (bit_or (get_or now i 0) m)) k ≡ ((in_run (8 * first) (8 * (i + 1)) k && bits k) || dot_of_row old k)
 part_more old now first i m bits within start added above k =
     let after = dot_of_bits now i (bit_or (get_or now i 0) m) k (λ n. dot_of_row now n || bits n) within
     (λ n small. rw (bit_of_byte-or, dot_at now i small refl, added n small)) in
     grind (arith, nat_tests, after, above k)
 
 -- the byte that is added to byte i has the run's bits there
-pub added_bits : (row : List ℕ) (from end i b m : ℕ)
-    → from / 8 ≤ i
-    → ((k : ℕ) → k < 8
+pub added_bits : (row : List ℕ) (from end i b m : ℕ) → from / 8 ≤ i → ((k : ℕ) → k < 8
     → bit_of_byte b k ≡ (nat_le (from % 8) (8 * (i - from / 8) + k) && dot_of_row row (8 * (i - from / 8) + k - from % 8)))
     → ((k : ℕ) → k < 8 → bit_of_byte m k ≡ nat_lt k (end - 8 * i))
     → (k : ℕ) → k < 8 → bit_of_byte (bit_and b m) k ≡ run_dot from end row (8 * i + k)
@@ -31,9 +27,7 @@ pub parts_joined : (from end f t l : ℕ) (row : List ℕ) (k : ℕ) (d0 d1 d2 d
     → 8 * f ≤ from → from < 8 * (f + 1) → end ≤ 8 * l → (f + 1 < t → 8 * t ≤ end)
     → d1 ≡ ((in_run (8 * f) (8 * (f + 1)) k && run_dot from end row k) || d0)
     → d2 ≡ ((in_run (8 * (f + 1)) (8 * t) k && dot_of_row row (k - from)) || d1)
-    → d3 ≡ ((in_run (8 * t) (8 * l) k && run_dot from end row k) || d2)
-    → f < t
-    → d3 ≡ (run_dot from end row k || d0)
+    → d3 ≡ ((in_run (8 * t) (8 * l) k && run_dot from end row k) || d2) → f < t → d3 ≡ (run_dot from end row k || d0)
 parts_joined from end f t l row k d0 d1 d2 d3 low high stop whole e1 e2 e3 order = grind (arith, nat_tests)
 
 -- the first bytes of a row have its first bits, and the bytes after them the others
@@ -51,8 +45,7 @@ pub front_dots : (dots new : List ℕ) {n k : ℕ} → length new ≡ n → k < 
 front_dots dots new {n} {k} long inside = ap (λ b. bit_of_byte b (k % 8)) (get_or_append_left new (drop n dots) 0 (k / 8) (omega arith))
 
 -- first the run of a row's whole first bytes, and then that of the others
-pub run_dot-joined : (from end w : ℕ) (row : List ℕ) (k : ℕ) (before between : Bool)
-    → w ≤ length row → from % 8 ≡ 0 → from + 8 * w ≤ end
+pub run_dot-joined : (from end w : ℕ) (row : List ℕ) (k : ℕ) (before between : Bool) → w ≤ length row → from % 8 ≡ 0 → from + 8 * w ≤ end
     → between ≡ (run_dot (8 * (from / 8)) (8 * (from / 8 + length (take w row))) (take w row) k || before)
     → (run_dot (from + 8 * w) end (drop w row) k || between) ≡ (run_dot from end row k || before)
 run_dot-joined from end w row k before between within aligned fits painted =
@@ -60,7 +53,6 @@ run_dot-joined from end w row k before between within aligned fits painted =
     grind (arith, nat_tests, take_dots w row {x = k - 8 * (from / 8)}, drop_dots w row (k - (from + 8 * w)) {y = k - from})
 
 -- the byte that has the bits of a run set, from the bytes with the bits up to each of its ends
-pub mask_bit : (a b from end k : ℕ)
-    → b < 256 → k < 8 → bit_of_byte a k ≡ nat_lt k end → bit_of_byte b k ≡ nat_lt k from
+pub mask_bit : (a b from end k : ℕ) → b < 256 → k < 8 → bit_of_byte a k ≡ nat_lt k end → bit_of_byte b k ≡ nat_lt k from
     → bit_of_byte (bit_and a (255 - b)) k ≡ in_run from end k
 mask_bit a b from end k byte small upper lower = rw bit_of_byte-and (grind (arith, nat_tests, bit_of_byte-not {n = b} {k = k} byte small))

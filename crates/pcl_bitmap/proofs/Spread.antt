@@ -58,13 +58,10 @@ quotient_moved : {s : ℕ} (b k rest : ℕ) → 1 ≤ s → k ≡ b * s + rest �
 quotient_moved {s} b k rest some parts = rw (parts, mul-add-div_right some b rest)
 
 -- one byte more of a row is spread
-pub spread_more : (row now new : List ℕ) (s first i k : ℕ)
-    → 1 ≤ s
-    → (k < 8 * (s * i) → dot_of_row now k ≡ dot_of_row row (8 * first + k / s))
-    → dot_of_row new k
+pub spread_more : (row now new : List ℕ) (s first i k : ℕ) → 1 ≤ s
+    → (k < 8 * (s * i) → dot_of_row now k ≡ dot_of_row row (8 * first + k / s)) → dot_of_row new k
     ≡ (if in_run (8 * (s * i)) (8 * (s * i + s)) k then bit_of_byte (get_or row (first + i) 0) ((k - 8 * (s * i)) / s)
-    else dot_of_row now k)
-    → k < 8 * (s * (i + 1)) → dot_of_row new k ≡ dot_of_row row (8 * first + k / s)
+    else dot_of_row now k) → k < 8 * (s * (i + 1)) → dot_of_row new k ≡ dot_of_row row (8 * first + k / s)
 spread_more row now new s first i k some above added within =
     let small = div_below (k - 8 * (s * i)) s 8 some in
     let moved = quotient_moved (8 * i) k (k - 8 * (s * i)) some in
@@ -88,8 +85,7 @@ spread_count {s} {w} {n} some e =
 
 -- a row that is seen from dot u on, where n bytes of dots are needed: it was spread from a byte on, and the dots of that byte
 -- before dot u are skipped
-pub spread_dot : (row spread : List ℕ) (s u n count k : ℕ)
-    → 1 ≤ s → count ≡ div_ceil (u % (8 * s) + 8 * n) (8 * s) → k < 8 * n
+pub spread_dot : (row spread : List ℕ) (s u n count k : ℕ) → 1 ≤ s → count ≡ div_ceil (u % (8 * s) + 8 * n) (8 * s) → k < 8 * n
     → ((m : ℕ) → m < 8 * (s * count) → dot_of_row spread m ≡ dot_of_row row (8 * (u / (8 * s)) + m / s))
     → dot_of_row spread (u % (8 * s) + k) ≡ dot_of_row row ((u + k) / s)
 spread_dot row spread s u n count k some e small bits =

@@ -29,8 +29,7 @@ behind_fails fault (Err other) = fails_same fault (λ e. cc)
 
 -- what is found where the count is good and the numbers are there
 pub list_checked : {most : ℕ} (bytes : List ℕ) {count : ℕ} {rest : List ℕ} → uint_at w16 bytes ≡ Ok (count, rest)
-    → count ≤ most → 2 * count ≤ length rest
-    → behind (list_at most bytes)
+    → count ≤ most → 2 * count ≤ length rest → behind (list_at most bytes)
     ≡ (if ends_in_zero (numbers_from count (take (2 * count) rest)) then Err Places else Ok (drop (2 * count) rest))
 unfolding list_at
 list_checked {most} bytes {count} {rest} read few long =

@@ -62,8 +62,7 @@ read_on {picture} {place} read advances =
 pub read_all : {picture : Picture} {size : Size} {text : List ℕ} {may_be : Bool} {place : Place} {above : List ℕ} {outcome : Bool}
     → IsBodyReadTo picture size text may_be place above → place.inside ≡ false → place.text.now ≡ end_bytes
     → (IsTrue outcome ↔ (IsTrue place.is_same × AreRowsAt picture place.row
-    (white_rows size picture.dpi (page_height size picture.dpi - place.row))))
-    → IsOnlyPrinted picture size text may_be outcome
+    (white_rows size picture.dpi (page_height size picture.dpi - place.row)))) → IsOnlyPrinted picture size text may_be outcome
 read_all {picture} {size} {place = place} {above} {outcome} read outside ended same =
     let white = white_rows size picture.dpi (page_height size picture.dpi - place.row) in
     record {

@@ -7,8 +7,7 @@ use Rattle.pcl_check.proofs.Names.{ltb-true, ltb-false, Method, method_code, met
 first_too : (One Other : ℕ → Method → Bool → Type 0) {last : ℕ} {bad : Node}
     → (Other bad.row bad.method bad.inside → One bad.row bad.method bad.inside)
     → ((row : ℕ) (method : Method) (inside : Bool) → row ≤ last → place_of row method inside < found_place bad
-    → One row method inside → Other row method inside)
-    → IsFirstBad One last bad → IsFirstBad Other last bad
+    → One row method inside → Other row method inside) → IsFirstBad One last bad → IsFirstBad Other last bad
 first_too One Other {bad = bad} back to found = record {
   within = found.within;
   is_bad = λ other. found.is_bad (back other);

@@ -23,8 +23,7 @@ white_rows size dpi count = replicate count (replicate (page_row_bytes size dpi)
 pub data Foremost (size : Size) (dpi : Dpi) (current : Method) (above : List ℕ) (left number byte : ℕ) (rest : List ℕ)
     (rows : List (List ℕ)) : Type 0 where
   is_method : (next : Method) (ends : Bool) → byte ≡ letter_code 77 ends → number ≡ method_code next
-      → RestPrints size dpi (left_over (not ends) next above left rest) rows
-      → Foremost size dpi current above left number byte rest rows
+      → RestPrints size dpi (left_over (not ends) next above left rest) rows → Foremost size dpi current above left number byte rest rows
   is_skip : (ends : Bool) (others : List (List ℕ)) → byte ≡ letter_code 89 ends → 0 < number → number ≤ left
       → rows ≡ white_rows size dpi number ++ others
       → RestPrints size dpi (left_over (not ends) current (replicate (length above) 0) (left - number) rest) others

@@ -111,8 +111,7 @@ module _ {size : Size} {dpi : Dpi} {left : LeftOver} {digits rest : List ℕ} {b
   -- what is sent isn't there, or paints no row of the size
   pub no_send : {rows : List (List ℕ)} → byte ≡ 87
       → ((bytes more first : List ℕ) → number_of digits ≡ length bytes → rest ≡ bytes ++ more → 0 < left.rows → IsRowOf size dpi first
-      → IsRowData left.method left.above first bytes → ⊥)
-      → RestPrints size dpi left rows → ⊥
+      → IsRowData left.method left.above first bytes → ⊥) → RestPrints size dpi left rows → ⊥
   no_send b none printed = elim (front_at told printed) [
     | is_method other last c m p ↦ grind arith
     | is_skip last others c some few r p ↦ grind arith

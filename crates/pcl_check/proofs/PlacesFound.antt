@@ -84,12 +84,7 @@ found_good Good last (Some bad) here found = record {
 }
 
 pub found_bad : (Good : ℕ → Type 0) {place last : ℕ} → place ≤ last → (Good place → ⊥) → FindsFrom Good place last (Some place)
-found_bad Good within bad = record {
-  order = omega arith;
-  within = within;
-  is_bad = bad;
-  first = λ k from lt. absurd (omega arith);
-}
+found_bad Good within bad = record { order = omega arith; within = within; is_bad = bad; first = λ k from lt. absurd (omega arith) }
 
 -- all places before are good
 pub found_all : (Good : ℕ → Type 0) {from : ℕ} (last : ℕ) (found : Option ℕ) → ((k : ℕ) → k < from → Good k)

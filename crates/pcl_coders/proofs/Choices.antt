@@ -19,8 +19,7 @@ agrees_by old {wanted} e k left gives fits =
 
 -- what an element that agrees leaves and gives
 pub agrees_gives : {method : Method} (old : List ℕ) {wanted : List ℕ} {e : Element} → length old ≡ length wanted → IsElement method e
-    → Agrees old wanted e
-    → (stop e ≤ length wanted) × (take (offset_of e.head) wanted ≡ take (offset_of e.head) old)
+    → Agrees old wanted e → (stop e ≤ length wanted) × (take (offset_of e.head) wanted ≡ take (offset_of e.head) old)
     × (given e ≡ take (length (given e)) (drop (offset_of e.head) wanted))
 agrees_gives {method} old {wanted} {e} size is agrees =
     let offset : ℕ = offset_of e.head in

@@ -116,8 +116,7 @@ longest_least {method} {old} {row} {table} {place} most {len} shorten size behin
 
 -- the longest run is the best
 pub runs_place : {old row first table : List ℕ} {end place run_end len : ℕ} → IsBegun old row first end → length table ≡ length row + 1
-    → place < end → AreRightFrom Runs old row table (place + 1)
-    → IsRunEnd row place run_end → len ≡ min (run_end - place) 256
+    → place < end → AreRightFrom Runs old row table (place + 1) → IsRunEnd row place run_end → len ≡ min (run_end - place) 256
     → IsShapeChoice Runs (drop place old) (drop place row) (drop place table) (Run len) (slice_index table (place + len) + 2)
 runs_place {old} {row} {table} {place} {run_end} {len} begun size inside behind is len-is =
     runs_choice (omega (arith, length-drop place old, length-drop place row, begun.same_size))
@@ -152,8 +151,7 @@ run_last {row} {first} {end} {place} begun last = record {
 
 -- the end of a place's run: the next place, where that has another byte, and else the end of the run there
 pub run_next : {row first : List ℕ} {end place run_end now : ℕ} → IsBegun (replicate (length row) 0) row first end → place < end
-    → IsRunFrom row end (place + 1) run_end
-    → (place + 1 < end → slice_index row place ≢ slice_index row (place + 1) → now ≡ place + 1)
+    → IsRunFrom row end (place + 1) run_end → (place + 1 < end → slice_index row place ≢ slice_index row (place + 1) → now ≡ place + 1)
     → (place + 1 < end → slice_index row place ≡ slice_index row (place + 1) → now ≡ run_end) → (end ≤ place + 1 → now ≡ run_end)
     → IsRunEnd row place now
 run_next {row} {first} {end} {place} {run_end} begun inside next starts goes_on last =
@@ -229,7 +227,6 @@ next_start_stays next same = grind (arith, next.latest.same)
 
 -- where it differs
 pub next_start_here : {old row table : List ℕ} {place best len : ℕ} → length table ≡ length row + 1 → place < length row
-    → slice_index old place ≢ slice_index row place
-    → IsLeastLen (drop place table) 1 (min (length (drop place table) - 1) 8) 0 1 len best
+    → slice_index old place ≢ slice_index row place → IsLeastLen (drop place table) 1 (min (length (drop place table) - 1) 8) 0 1 len best
     → IsNextStart old row table (place + 1) place place best
 next_start_here {table} {place} {len} size inside differs is = grind (arith, is.least, get_or-drop place table, length-drop place table)

@@ -50,8 +50,7 @@ queue_take {places} {taken} {first} {first'} {stop} q some out stays =
 
 -- a number is put in, and the later places of the queue give way to it
 pub queue_put : {numbers places : List ℕ} {taken put first stop end number : ℕ} → IsQueue numbers places taken put first stop
-    → put < length numbers → first ≤ end → end ≤ stop
-    → ((k : ℕ) → end ≤ k → k < stop → number ≤ slice_index numbers (slice_index places k))
+    → put < length numbers → first ≤ end → end ≤ stop → ((k : ℕ) → end ≤ k → k < stop → number ≤ slice_index numbers (slice_index places k))
     → (first < end → slice_index numbers (slice_index places (end - 1)) < number)
     → IsQueue (set numbers put number) (set places end put) taken (put + 1) first (end + 1)
 queue_put {numbers} {places} {put} {first} {end} {number} q room low-end high-end above last =

@@ -32,8 +32,7 @@ has_size : {dpi : Dpi} {job : List ℕ} {number : ℕ} {page : Sheet} {picture :
     → HasPage dpi job number picture → (picture.size ≡ page.size) × (picture.dpi ≡ dpi)
 has_size {dpi} {number} {page} {picture} n h =
     let place : number - 1 ≡ length n.before = omega (arith, n.counted) in
-    let some : Some h.sheet ≡ Some page =
-    sym h.chosen ∙ rw (same_pages h.meaning n.meaning, place) (at_seam n.before n.after page) in
+    let some : Some h.sheet ≡ Some page = sym h.chosen ∙ rw (same_pages h.meaning n.meaning, place) (at_seam n.before n.after page) in
     let sheet : h.sheet ≡ page = cc in (
       ap (λ (p : Picture). p.size) h.dots ∙ h.page.size_is ∙ h.shows.size ∙ ap (λ (s : Sheet). s.size) sheet,
       ap (λ (p : Picture). p.dpi) h.dots ∙ h.page.dpi_is ∙ h.shows.resolution,

@@ -42,8 +42,7 @@ Gives at bytes read = (n : ℕ) → length bytes < n → outcome n None at bytes
 
 -- the steps from a middle parameter on: one step, and the steps after it
 middle_on : (n : ℕ) {prefix : Prefix} (at begin : ℕ) {parameter : Parameter} (rest : List ℕ) → IsMiddle prefix parameter
-    → steps_in (suc n) prefix at begin (parameter_bytes parameter ++ rest)
-    ≡ with_front (command_of prefix at parameter [] ∷ [])
+    → steps_in (suc n) prefix at begin (parameter_bytes parameter ++ rest) ≡ with_front (command_of prefix at parameter [] ∷ [])
     (steps_in n prefix (begin + length (parameter_bytes parameter)) (begin + length (parameter_bytes parameter)) rest)
 unfolding outcome
 middle_on n at begin {parameter} rest is =

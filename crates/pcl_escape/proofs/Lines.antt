@@ -137,8 +137,7 @@ lines_split (suc n) {place} {bytes} h =
 
 -- after lines that ask for no language, the steps go on
 others_again : (lines : List (List ℕ)) (n place : ℕ) (behind : List ℕ) {read : Result (List ℕ) ℕ} → AreOtherLines lines behind
-    → length (joined lines ++ behind) < n
-    → ((m : ℕ) → length behind < m → lines_from m (place + length (joined lines)) behind ≡ read)
+    → length (joined lines ++ behind) < n → ((m : ℕ) → length behind < m → lines_from m (place + length (joined lines)) behind ≡ read)
     → lines_from n place (joined lines ++ behind) ≡ read
 others_again [] n place behind each h gives = rw (← add-zero place) (gives n h)
 others_again (line ∷ lines) zero place behind each h gives = absurd (omega arith)

@@ -74,8 +74,7 @@ skipped_stands front (Some said) e t (skipped lines rest each) =
     record { front = front; joined = rw (before_rest_is (joined lines) rest) e; told = t }
 skipped_stands front said e t (foreign lines line rest each ends l p) = tt
 
-lines_stand : (begin len : ℕ) (bytes : List ℕ) (read : Result Reads Refusal) → Stands bytes read
-    → Stands bytes (with_lines begin len read)
+lines_stand : (begin len : ℕ) (bytes : List ℕ) (read : Result Reads Refusal) → Stands bytes read → Stands bytes (with_lines begin len read)
 lines_stand begin len bytes (Ok reads) s = by_test (Stands bytes) (leaves reads.said)
     (λ l. skipped_stands (s.front ++ data_of reads.said) reads.said (simp append_assoc s.joined) s.told
     (lines_split (suc (length reads.rest)) (omega arith))) (λ l. s)

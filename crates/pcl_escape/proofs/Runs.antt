@@ -66,8 +66,7 @@ place_further at front more = simp length-append (omega arith)
 
 -- a piece in front of a reading
 piece_first : (piece : Piece) {at : ℕ} {bytes : List ℕ} {read : Result (List Said) Refusal} → IsPiece piece bytes
-    → Reading (at + length (spelling piece)) bytes read
-    → Reading at (spelling piece ++ bytes) (with_front (commands_from at piece) read)
+    → Reading (at + length (spelling piece)) bytes read → Reading at (spelling piece ++ bytes) (with_front (commands_from at piece) read)
 piece_first piece {at} is (reading pieces behind last each ends) =
     rw (with_fronts, ← append_assoc (spelling piece)) (reading (piece ∷ pieces) behind last (is, each) (rw place_further at ends))
 
@@ -174,8 +173,7 @@ pub place_in : (at : ℕ) (prefix : Prefix) (more : List ℕ) {rest : ℕ} → r
 place_in at prefix more h = simp length-append (omega arith)
 
 -- one step outside sequences, and what the bytes after it are, say so too
-reading_after : {at : ℕ} {bytes : List ℕ} {read : Result Reads Refusal} {go_on : Reads → Result (List Said) Refusal}
-    → Outside at bytes read
+reading_after : {at : ℕ} {bytes : List ℕ} {read : Result Reads Refusal} {go_on : Reads → Result (List Said) Refusal} → Outside at bytes read
     → ((reads : Reads) → read ≡ Ok reads → IsRead reads.inside (at + (length bytes - length reads.rest)) reads.rest (go_on reads))
     → Reading at bytes (and_then read go_on)
 reading_after {at} (whole_piece piece rest said is long gives) next =

@@ -18,15 +18,13 @@ squeezed_other : (line : List ℕ) (byte : ℕ) → false ≡ is_white_space byt
 squeezed_other line byte e = rw (squeezed_more line byte, ← e) refl
 
 pub full_step : {front : List ℕ} (line : List ℕ) (byte : ℕ) → front ≡ take 22 (squeezed line) → false ≡ is_white_space byte
-    → true ≡ (length front == 22)
-    → front ≡ take 22 (squeezed (line ++ byte ∷ []))
+    → true ≡ (length front == 22) → front ≡ take 22 (squeezed (line ++ byte ∷ []))
 full_step line byte so_far e full =
     rw (so_far, squeezed_other line byte e)
     (full_front 22 (squeezed line) (to_ascii_uppercase byte) (rw so_far at (eqb-true _ 22 (sym full))))
 
 pub push_step : {front : List ℕ} (line : List ℕ) (byte : ℕ) → front ≡ take 22 (squeezed line) → false ≡ is_white_space byte
-    → false ≡ (length front == 22)
-    → length front ≤ 22 → front ++ to_ascii_uppercase byte ∷ [] ≡ take 22 (squeezed (line ++ byte ∷ []))
+    → false ≡ (length front == 22) → length front ≤ 22 → front ++ to_ascii_uppercase byte ∷ [] ≡ take 22 (squeezed (line ++ byte ∷ []))
 push_step {front} line byte so_far e other within =
     let room : length front < 22 = grind (arith, nat_tests) in
     let short = rw so_far at room in

@@ -15,11 +15,9 @@ piece_reads said rest = Ok record { said = said; rest = rest; inside = None }
 -- what the bytes outside sequences begin with, and what a step reads of them
 pub data Outside (at : ℕ) : List ℕ → Result Reads Refusal → Type 0 where
   whole_piece : (piece : Piece) (rest : List ℕ) (said : Option Said) → IsPiece piece rest → 0 < length (spelling piece)
-      → commands_from at piece ≡ commands_said said
-      → Outside at (spelling piece ++ rest) (piece_reads said rest)
+      → commands_from at piece ≡ commands_said said → Outside at (spelling piece ++ rest) (piece_reads said rest)
   sequence : (prefix : Prefix) (bytes : List ℕ) (read : Result Reads Refusal) → IsPrefix prefix → IsUngrouped prefix.group bytes
-      → Inside prefix at bytes read
-      → Outside at (27 ∷ (prefix_bytes prefix ++ bytes)) read
+      → Inside prefix at bytes read → Outside at (27 ∷ (prefix_bytes prefix ++ bytes)) read
   wrong : {bytes : List ℕ} {fault : Refusal} → Fails at bytes fault → Outside at bytes (Err fault)
 
 -- ---- names
@@ -184,16 +182,14 @@ text_again {at} {byte} {more} {rest} is =
 
 -- a last parameter begins with no group character
 pub parts_apart : (sign : Sign) (whole : List ℕ) (fraction : Option (List ℕ)) (letter : ℕ) (rest : List ℕ) → Pass is_digit whole
-    → is_last letter ≡ true
-    → IsUngrouped None (field_bytes (record { sign = sign; whole = whole; fraction = fraction }) ++ letter ∷ rest)
+    → is_last letter ≡ true → IsUngrouped None (field_bytes (record { sign = sign; whole = whole; fraction = fraction }) ++ letter ∷ rest)
 parts_apart Absent [] None letter rest d l = grind (arith, nat_tests)
 parts_apart Absent (digit ∷ whole) fraction letter rest d l = let is : is_digit digit ≡ true = d.0 in grind (arith, nat_tests)
 parts_apart _ _ _ letter rest d l = refl
 
 -- a step reads the parameter of a sequence without a group character, and then lines
 ungrouped_again : (at parameterized : ℕ) (bytes : List ℕ) → is_ungrouped parameterized ≡ true → IsUngrouped None bytes
-    → start_at at (27 ∷ parameterized ∷ bytes)
-    ≡ with_lines (at + 2) (length bytes) (parameter_at (ungrouped parameterized) at bytes)
+    → start_at at (27 ∷ parameterized ∷ bytes) ≡ with_lines (at + 2) (length bytes) (parameter_at (ungrouped parameterized) at bytes)
 unfolding prefix_at ungrouped_at parameter_at field_at
 ungrouped_again at parameterized [] p n = at_prefix at parameterized [] (grind (arith, nat_tests))
 ungrouped_again at parameterized (byte ∷ bytes) p n = at_prefix at parameterized (byte ∷ bytes) (grind (arith, nat_tests)) ∙ rw (n, p) refl

@@ -131,8 +131,7 @@ unfolding parameter_at
 field_behind prefix at field rest f s = ap (λ (p : Spelled × List ℕ). letter_at prefix at p.0 p.1) (field_again f s)
 
 -- a step reads a field and its letter, and then come the checks
-checks_behind : (prefix : Prefix) (at : ℕ) (field : Spelled) (letter : ℕ) (rest : List ℕ) → IsField field
-    → IsTrue (is_letter prefix letter)
+checks_behind : (prefix : Prefix) (at : ℕ) (field : Spelled) (letter : ℕ) (rest : List ℕ) → IsField field → IsTrue (is_letter prefix letter)
     → parameter_at prefix at (field_bytes field ++ letter ∷ rest) ≡ checked_at prefix at letter (field_value field) rest
     (parameter_checks (parameter_name prefix letter) letter (field_value field) (length rest))
 checks_behind prefix at field letter rest f l = field_behind prefix at field (letter ∷ rest) f (grind (arith, nat_tests)) ∙ rw l refl

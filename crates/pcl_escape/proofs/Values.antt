@@ -13,8 +13,7 @@ reach sign = grind arith
 -- the number up to the limit gives the same value where that is in range, and none where it isn't
 pub value_read : {value : Option Value} (sign : Sign) (n t : ℕ) {number digits greatest : ℕ}
     → value ≡ then_some {T = Value} (nat_le (number * 10000 + digits) greatest) (value_with sign number digits) → number ≡ min n 65536
-    → digits ≡ t → greatest ≡ greatest_parts sign
-    → value ≡ (if in_range (value_with sign n t) then Some (value_with sign n t) else None)
+    → digits ≡ t → greatest ≡ greatest_parts sign → value ≡ (if in_range (value_with sign n t) then Some (value_with sign n t) else None)
 value_read sign n t v e d g = let limit = reach sign in rw (v, e, d, g) (grind (arith, nat_tests))
 
 -- the digits after the point, none where there is no point

@@ -8,8 +8,7 @@ is_taken bytes width height long fixed w h whole =
     ap (λ (b : Bool). b && has_fixed_bytes bytes && nat_le (16 + pattern_bytes (word bytes 10) (word bytes 12)) (length bytes))
     (le-leb 16 (length bytes) long)
     ∙ ap (λ (b : Bool). true && b && nat_le (16 + pattern_bytes (word bytes 10) (word bytes 12)) (length bytes)) fixed
-    ∙ le-leb (16 + pattern_bytes (word bytes 10) (word bytes 12)) (length bytes)
-    (rw (← w, ← h) whole)
+    ∙ le-leb (16 + pattern_bytes (word bytes 10) (word bytes 12)) (length bytes) (rw (← w, ← h) whole)
 
 pub same_character : {a b : Character} → a.left ≡ b.left → a.top ≡ b.top → a.width ≡ b.width → a.height ≡ b.height → a.delta ≡ b.delta
     → a.rows ≡ b.rows → a ≡ b

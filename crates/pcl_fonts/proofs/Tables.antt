@@ -57,8 +57,7 @@ same_seen o n = (λ id. rw (n.fonts, o.fonts), λ id code. rw (n.characters, o.c
 
 pub record Steps (event : FontEvent) (id : ℕ) (old new : Option Entry) : Type 0 where
   pub font : option_map font_in new ≡ font_step event id (option_map font_in old)
-  pub character : (code : ℕ) → entry_character new code
-      ≡ character_step event id code (option_map font_in old) (entry_character old code)
+  pub character : (code : ℕ) → entry_character new code ≡ character_step event id code (option_map font_in old) (entry_character old code)
 
 pub follows : {old new : FontTable} {entry later : ℕ → Option Entry} (event : FontEvent) → IsSeen old entry → IsSeen new later
     → ((id : ℕ) → Steps event id (entry id) (later id)) → Follows old new event
@@ -98,8 +97,7 @@ mark_steps permanent id before after font same q x at = record {
 }
 
 -- a character that is sent, for a font or for none
-pub character_steps : (id code : ℕ) {bytes : List ℕ} (before after : Option Entry)
-    → option_map font_in after ≡ option_map font_in before
+pub character_steps : (id code : ℕ) {bytes : List ℕ} (before after : Option Entry) → option_map font_in after ≡ option_map font_in before
     → ((its : ℕ) → entry_character after its
     ≡ cond (nat_eq code its && is_some (option_map font_in before)) (Some (character_with bytes)) (entry_character before its))
     → StepsAt (character id code bytes) id before after

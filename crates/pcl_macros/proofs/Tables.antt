@@ -74,8 +74,7 @@ making permanent = cond permanent MakePermanent MakeTemporary
 -- the macro of an ID is marked, if there is one
 pub mark : (permanent : Bool) (deletions : ℕ) (es fs : Entries) (id : ℕ) (w : Option Body) (before : Option MacroBody)
     → found deletions (lookup (nat_eq id) es) ≡ before → Becomes es fs id w
-    → found deletions w ≡ option_map (with_permanent permanent) before → (q : ℕ)
-    → found deletions (lookup (nat_eq q) fs)
+    → found deletions w ≡ option_map (with_permanent permanent) before → (q : ℕ) → found deletions (lookup (nat_eq q) fs)
     ≡ body_step (control (making permanent) id) q (found deletions (lookup (nat_eq q) es))
 mark permanent deletions es fs id w before was b now q = grind (arith, b q, eqb-true id q, was, now)
 
@@ -88,8 +87,7 @@ one_more deletions None earlier = refl
 one_more deletions (Some b) earlier = grind (arith, nat_tests, earlier)
 
 -- and so where those are kept that are permanent
-pub kept : (deletions : ℕ) (body : Option Body)
-    → found 0 (option_filter (λ b. b.is_permanent) body) ≡ if_permanent (found deletions body)
+pub kept : (deletions : ℕ) (body : Option Body) → found 0 (option_filter (λ b. b.is_permanent) body) ≡ if_permanent (found deletions body)
 kept deletions body = grind arith
 
 -- none of them is from after a deletion

@@ -50,8 +50,7 @@ does dpi d s = after dpi d.operation (said_of d) (counted s) |> quietly d.operat
 -- the deeds lead from a situation to another, and none of them is refused
 abbrev pub Leads : Dpi → List Deed → Situation → Situation → Type 0
 Leads dpi [] s later = later ≡ s
-Leads dpi (d ∷ deeds) s later =
-    (next : Situation) × (does dpi d s ≡ Ok next) × (page_refusal next ≡ None) × Leads dpi deeds next later
+Leads dpi (d ∷ deeds) s later = (next : Situation) × (does dpi d s ≡ Ok next) × (page_refusal next ≡ None) × Leads dpi deeds next later
 
 leads_append : (dpi : Dpi) (one two : List Deed) (s middle later : Situation) → Leads dpi one s middle → Leads dpi two middle later
     → Leads dpi (one ++ two) s later
@@ -74,8 +73,7 @@ record IsQuiet (operation : Operation) (value : Value) (s next : Situation) : Ty
   performed : next.performed ≡ s.performed
   pages : next.pages ≡ s.pages
 
-quiet : (operation : Operation) {value : Value} {s next : Situation} → quietly operation value s ≡ Ok next
-    → IsQuiet operation value s next
+quiet : (operation : Operation) {value : Value} {s next : Situation} → quietly operation value s ≡ Ok next → IsQuiet operation value s next
 quiet ControlMacros e = absurd cc
 quiet other e = record { anywhere = λ place. e; runs = refl; begun = cc; performed = cc; pages = cc }
 
@@ -119,8 +117,7 @@ command_done {dpi} place command {d} {s} {next} is done fits few none =
 -- performing commands that are deeds leads where the deeds do
 pub commands_done : (dpi : Dpi) (f : Said → Run → Situation → Performance) (place : ℕ) (commands : List Said) (deeds : List Deed)
     (s : Situation) {later : Situation} → AreSaid commands deeds → Leads dpi deeds s later → s.performed + length deeds ≤ 100000000
-    → s.begun ≡ None
-    → (in_order (step dpi f) place commands s ≡ done later) × (later.begun ≡ None)
+    → s.begun ≡ None → (in_order (step dpi f) place commands s ≡ done later) × (later.begun ≡ None)
 commands_done dpi f place [] [] s a l few none = (cc, rw l none)
 commands_done dpi f place (command ∷ commands) (d ∷ deeds) s a l few none =
     let one = is_done l.1 in

@@ -16,8 +16,7 @@ use Rattle.pcl_meaning.proofs.Printing.{IsBetween, reset_fonts, reset_macros, be
 
 -- what stands in a text
 pub text_read : {dpi : Dpi} {size : Size} {copies : ℕ} {rows : List (List ℕ)} {text : List ℕ}
-    (printed : IsPageText dpi size copies rows text)
-    → ReadsAs text (text_deeds dpi size copies printed.tokens)
+    (printed : IsPageText dpi size copies rows text) → ReadsAs text (text_deeds dpi size copies printed.tokens)
 text_read {dpi} {size} {copies} {rows} printed =
     let few : length rows ≤ 65535 = omega (arith, printed.count, height_small size dpi) in
     let small : copies ≤ 65535 = omega (arith, printed.few_copies) in
@@ -66,8 +65,7 @@ unfolding after outcome
 job_accepted {dpi} {text} {deeds} t {pages} n read leads fits few =
     let all = reset ∷ (deeds ++ reset ∷ []) in
     let job = frame_bytes ++ text ++ frame_bytes in
-    let r = reads_joined frame_read
-    (reads_joined read frame_read) in
+    let r = reads_joined frame_read (reads_joined read frame_read) in
     let commands = commands_of 0 r.pieces in
     let first = between defaults [] 1 in
     let last = closed pages (n + 1) in
@@ -111,8 +109,7 @@ pub record AreTextsTaken (dpi : Dpi) (meant : List Sheet) (texts : List ℕ) (fr
   pub few : length deeds + 2 ≤ most_commands dpi meant
 
 rows_dot : {size : Size} {dpi : Dpi} (page : Page) (x : ℕ) {y : ℕ} → page.bitmap.size ≡ size → page.bitmap.dpi ≡ dpi
-    → y < page_height size dpi
-    → dot_of_rows (bitmap_rows page.bitmap) x y ≡ dot page.bitmap x y
+    → y < page_height size dpi → dot_of_rows (bitmap_rows page.bitmap) x y ≡ dot page.bitmap x y
 rows_dot {size} {dpi} page x {y} s d below =
     page_dot (page_height page.bitmap.size page.bitmap.dpi) (page_row_bytes page.bitmap.size page.bitmap.dpi) page.bitmap.bytes x y
     (rw (s, d) below)
@@ -124,8 +121,7 @@ sheet_alike {dpi} {sheet} {page} shows black = record {
   size = sym shows.size;
   copies = sym shows.copies;
   dots = λ x y wide high.
-      sym (black x y (rw shows.size wide)
-      ∙ rows_dot page x (page.size_is ∙ shows.size) (page.dpi_is ∙ shows.resolution) high
+      sym (black x y (rw shows.size wide) ∙ rows_dot page x (page.size_is ∙ shows.size) (page.dpi_is ∙ shows.resolution) high
       ∙ shows.dots x y wide high);
 }
 
@@ -216,8 +212,7 @@ pub record IsAgain (dpi : Dpi) (pages : List Sheet) (job : List ℕ) : Type 0 wh
   pub few : length meaning.commands ≤ most_commands dpi pages
 
 pub written_again : {dpi : Dpi} {job : List ℕ} (texts : List ℕ) {pages : List Sheet} → HasPages dpi job pages
-    → PrintEach IsWrittenPage dpi pages texts
-    → IsAgain dpi pages (frame_bytes ++ texts ++ frame_bytes)
+    → PrintEach IsWrittenPage dpi pages texts → IsAgain dpi pages (frame_bytes ++ texts ++ frame_bytes)
 written_again {dpi} texts {pages} h p =
     let fits = job_fits h in
     let t = texts_taken pages p (record { method = refl; height = refl; asked = refl }) (omega (arith, fits)) in

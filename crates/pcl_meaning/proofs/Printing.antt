@@ -83,15 +83,13 @@ down_out : (dpi : Dpi) (t : Settings) → t.top ≡ 0
 unfolding outcome
 down_out dpi t top = let none : t.top + 0 * t.pcl_unit / 10000 ≡ 0 = omega arith in rw none refl
 
-resolution_out : (dpi : Dpi) (t : Settings)
-    → outcome dpi RasterResolution (number_value (dots_per_inch dpi)) false t
+resolution_out : (dpi : Dpi) (t : Settings) → outcome dpi RasterResolution (number_value (dots_per_inch dpi)) false t
     ≡ Some (record t { resolution = dots_per_inch dpi }, page.Stay)
 unfolding outcome
 resolution_out Dpi300 t = refl
 resolution_out Dpi600 t = refl
 
-width_out : (size : Size) (dpi : Dpi) (t : Settings)
-    → outcome dpi RasterWidth (number_value (page_width size dpi)) false t
+width_out : (size : Size) (dpi : Dpi) (t : Settings) → outcome dpi RasterWidth (number_value (page_width size dpi)) false t
     ≡ Some (record t { raster_width = Some (page_width size dpi) }, page.Stay)
 unfolding outcome
 width_out Executive Dpi300 t = refl
@@ -147,8 +145,7 @@ set_leads {dpi} {operation} {value} {t} {next} {pages} {n} fits set turns draws 
     record { leads = (at, rw (prepared, set, turns) (draws at), pages_fit at fits, rest.leads) }
 
 start_leads : (size : Size) (dpi : Dpi) (copies : ℕ) {t : Settings} (pages : List Sheet) (n : ℕ) → IsBetween t → 0 < copies → copies < 100
-    → length pages ≤ 256
-    → AreLeading dpi (start_deeds dpi copies size) (between t pages n)
+    → length pages ≤ 256 → AreLeading dpi (start_deeds dpi copies size) (between t pages n)
     (in_body size dpi (ready dpi size copies t) Plain 0 (zeros size dpi) [] pages (n + 1 + 1 + 1 + 1 + 1 + 1 + 1 + 1))
 start_leads size dpi copies {t} pages n b some few fits =
     let sized = with_size size (record t { copies = copies }) in
@@ -183,8 +180,7 @@ module _ (size : Size) (dpi : Dpi) (t : Settings) (m : Method) (k : ℕ) (seed :
     method_after Plain = refl
     method_after other = refl
 
-    skip_after : (count : ℕ)
-        → does dpi (deed RasterOffset (number_value count) []) here
+    skip_after : (count : ℕ) → does dpi (deed RasterOffset (number_value count) []) here
         ≡ Ok (in_body size dpi t m (k + count) (zeros size dpi) marks pages (n + 1))
     unfolding after outcome
     skip_after count = rw (whole_is count) refl
@@ -220,8 +216,7 @@ newer_mark : (below row older : Bool) → (below || cond row true older) ≡ ((r
 newer_mark below row older = grind arith
 
 sent_dots : (size : Size) (dpi : Dpi) (k : ℕ) (seed row : List ℕ) (rest : List (List ℕ)) (inked : List Mark) (x y : ℕ)
-    → x < page_width size dpi
-    → (dot_from (k + 1) rest x y || is_black (sent_mark size dpi k seed row ∷ inked) x y)
+    → x < page_width size dpi → (dot_from (k + 1) rest x y || is_black (sent_mark size dpi k seed row ∷ inked) x y)
     ≡ (dot_from k (row ∷ rest) x y || is_black inked x y)
 sent_dots size dpi k seed row rest inked x y within =
     rw (row_inks k row y within, first_row k row rest x y) (newer_mark (dot_from (k + 1) rest x y) _ (is_black inked x y))
@@ -229,8 +224,7 @@ sent_dots size dpi k seed row rest inked x y within =
 -- a command, and what is printed after it
 printed_after : {size : Size} {dpi : Dpi} {t : Settings} {d : Deed} {deeds : List Deed} {rows below : List (List ℕ)} {k further : ℕ}
     {from next : Situation} {inked newer : List Mark} {pages : List Sheet} → does dpi d from ≡ Ok next
-    → length next.pages ≤ 256 → IsPrinted size dpi t deeds below further next newer pages
-    → ((x y : ℕ) → x < page_width size dpi
+    → length next.pages ≤ 256 → IsPrinted size dpi t deeds below further next newer pages → ((x y : ℕ) → x < page_width size dpi
     → (dot_from further below x y || is_black newer x y) ≡ (dot_from k rows x y || is_black inked x y))
     → IsPrinted size dpi t (d ∷ deeds) rows k from inked pages
 printed_after {next = next} one fits r same = record {
@@ -246,8 +240,7 @@ printed_after {next = next} one fits r same = record {
 body_printed : (inside : Bool) (tokens : List Token) {size : Size} {dpi : Dpi} (t : Settings) {m : Method} {seed : List ℕ}
     (rows : List (List ℕ)) (k : ℕ) (inked : List Mark) (pages : List Sheet) (n : ℕ)
     → PrintsRows inside m seed tokens rows → AllByRecursion (IsRowOf size dpi) rows → length seed ≡ bytes_of_width (page_width size dpi)
-    → length pages ≤ 256
-    → IsPrinted size dpi t (body_deeds tokens) rows k (in_body size dpi t m k seed inked pages n) inked pages
+    → length pages ≤ 256 → IsPrinted size dpi t (body_deeds tokens) rows k (in_body size dpi t m k seed inked pages n) inked pages
 unfolding PrintsRows
 body_printed false [] t {m} {seed} rows k inked pages n p are long fits = record {
   last = m;
@@ -290,8 +283,7 @@ asks_more : {asked : Asked} (pages : List Sheet) (sheet : Sheet) → asked ≡ n
 asks_more pages sheet e = rw (e, map-append (λ (one : Sheet). nothing_asked) pages (sheet ∷ [])) refl
 
 feed_after : (dpi : Dpi) (u : Settings) (marks : List Mark) (pages : List Sheet) (n : ℕ) → u.asked ≡ nothing_asked
-    → does dpi (deed FormFeed zero_value [])
-    (record (between u pages n) { marks = marks })
+    → does dpi (deed FormFeed zero_value []) (record (between u pages n) { marks = marks })
     ≡ Ok (between (to_first_line (before_feed u)) (pages ++ record { size = u.size; copies = u.copies; marks = marks } ∷ []) (n + 1))
 unfolding after outcome
 feed_after dpi u marks pages n e = rw (asks_more pages (record { size = u.size; copies = u.copies; marks = marks }) e) refl
@@ -305,8 +297,7 @@ abbrev ended_at : Size → Dpi → Settings → Method → ℕ → List ℕ → 
 ended_at size dpi t m k seed = to_first_line (before_feed (behind size dpi t m k seed))
 
 end_leads : (size : Size) (dpi : Dpi) (t : Settings) (m : Method) (k : ℕ) (seed : List ℕ) (marks : List Mark) (pages : List Sheet) (n : ℕ)
-    → t.raster_height ≡ None → t.asked ≡ nothing_asked → length pages < 256
-    → IsBetween (ended_at size dpi t m k seed)
+    → t.raster_height ≡ None → t.asked ≡ nothing_asked → length pages < 256 → IsBetween (ended_at size dpi t m k seed)
     × AreLeading dpi end_deeds (in_body size dpi t m k seed marks pages n)
     (between (ended_at size dpi t m k seed) (pages ++ record { size = t.size; copies = t.copies; marks = marks } ∷ []) (n + 1 + 1))
 end_leads size dpi t m k seed marks pages n none asked few =
@@ -348,8 +339,7 @@ text_taken {dpi} {size} {copies} {rows} printed {t} {pages} {n} b few =
     let u = ready dpi size copies t in
     let m = n + 1 + 1 + 1 + 1 + 1 + 1 + 1 + 1 in
     let start = start_leads size dpi copies pages n b printed.some_copies printed.few_copies (omega arith) in
-    let body = body_printed false printed.tokens u rows 0 [] pages m printed.prints printed.rows_are
-    (length-replicate _ 0) (omega arith) in
+    let body = body_printed false printed.tokens u rows 0 [] pages m printed.prints printed.rows_are (length-replicate _ 0) (omega arith) in
     let end = end_leads size dpi u body.last body.end body.seed body.all pages body.count b.height b.asked few in
     record {
       settings = _;

@@ -89,8 +89,7 @@ AreMeant prefix (parameter ∷ middle) (deed ∷ deeds) = IsMeant prefix paramet
 AreMeant prefix middle deeds = ⊥
 
 pub meant_more : (prefix : Prefix) (middle : List Parameter) (deeds : List Deed) (parameter : Parameter) {deed : Deed}
-    → AreMeant prefix middle deeds → IsMeant prefix parameter [] deed
-    → AreMeant prefix (middle ++ parameter ∷ []) (deeds ++ deed ∷ [])
+    → AreMeant prefix middle deeds → IsMeant prefix parameter [] deed → AreMeant prefix (middle ++ parameter ∷ []) (deeds ++ deed ∷ [])
 meant_more prefix [] [] parameter a m = (m, tt)
 meant_more prefix (first ∷ middle) (one ∷ deeds) parameter a m = (a.0, meant_more prefix middle deeds parameter a.1 m)
 meant_more prefix middle deeds parameter a m = absurd a

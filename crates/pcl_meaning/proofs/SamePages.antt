@@ -12,8 +12,7 @@ pub record AreSame (page other : Page) : Type 0 where
 -- the dots of a page's bitmap are within the sheet that it shows
 within_sheet : {n : ℕ} (measure : Size → Dpi → ℕ) (dpi : Dpi) (page : Page) (sheet : Sheet) → Shows dpi page sheet
     → n < measure page.bitmap.size page.bitmap.dpi → n < measure sheet.size dpi
-within_sheet {n} measure dpi page sheet shows lt =
-    rw (← (page.dpi_is ∙ shows.resolution), ← (page.size_is ∙ shows.size)) lt
+within_sheet {n} measure dpi page sheet shows lt = rw (← (page.dpi_is ∙ shows.resolution), ← (page.size_is ∙ shows.size)) lt
 
 -- bitmaps with the same dots are the same, since bits past the width are clear
 pub pages_same : {dpi : Dpi} {page other : Page} {sheet : Sheet} → Shows dpi page sheet → Shows dpi other sheet → AreSame page other

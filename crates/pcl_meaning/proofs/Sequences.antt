@@ -100,8 +100,7 @@ sent_parts : {current : Method} (seed : List ℕ) {digits bytes : List ℕ} {tok
     → PrintsRows true current seed (send digits bytes ∷ tokens) rows → IsSent digits bytes tokens rows current
 unfolding PrintsRows
 sent_parts seed [] p = absurd p
-sent_parts seed (first ∷ rest) p =
-    record { spelled = p.0; small = p.1.fits; row = first; rest = rest; prints = p.2; fewer = omega arith }
+sent_parts seed (first ∷ rest) p = record { spelled = p.0; small = p.1.fits; row = first; rest = rest; prints = p.2; fewer = omega arith }
 
 pub tokens_read : (inside : Bool) (tokens : List Token) → AreRead inside tokens
 unfolding PrintsRows operation_of
@@ -157,8 +156,7 @@ dots_small : (dpi : Dpi) → dots_per_inch dpi ≤ 65535
 dots_small dpi = grind arith
 
 -- sequences of settings alone, by their bytes
-page_read : {copies : ℕ} (size : Size) → copies ≤ 65535
-    → ReadsAs
+page_read : {copies : ℕ} (size : Size) → copies ≤ 65535 → ReadsAs
     (27 ∷ 38 ∷ 108 ∷ (flat_map parameter_bytes (number_parameter (decimal copies) 120 ∷ number_parameter (decimal (code_of size)) 97 ∷ [])
     ++ (parameter_bytes (number_parameter (48 ∷ []) 69) ++ [])))
     (set_to Copies copies ∷ set_to PageSize (code_of size) ∷ set_to TopMargin 0 ∷ [])
@@ -187,8 +185,7 @@ place_read =
     reads_sequence (number_parameter (48 ∷ []) 120 ∷ []) (set_to (Move Horizontal PclUnit) 0 ∷ []) (refl, refl)
     (setting_middle across refl, tt) (setting_meant across, tt) (setting_end down refl) (setting_meant down)
 
-resolution_read : (dpi : Dpi)
-    → ReadsAs (27 ∷ 42 ∷ 116 ∷ (parameter_bytes (number_parameter (decimal (dots_per_inch dpi)) 82) ++ []))
+resolution_read : (dpi : Dpi) → ReadsAs (27 ∷ 42 ∷ 116 ∷ (parameter_bytes (number_parameter (decimal (dots_per_inch dpi)) 82) ++ []))
     (set_to RasterResolution (dots_per_inch dpi) ∷ [])
 unfolding operation_of
 resolution_read dpi =
@@ -207,8 +204,7 @@ raster_read size dpi =
     record { spelled = decimal_spelled _ (omega (arith, small)); small = small; named = refl; alone = refl; stays = refl } in
     let start : IsSetting raster_prefix 65 (48 ∷ []) 0 StartRaster =
     record { spelled = zero_digit; small = lit≤ tt; named = refl; alone = refl; stays = refl } in
-    reads_sequence (number_parameter (decimal (page_width size dpi)) 115 ∷ [])
-    (set_to RasterWidth (page_width size dpi) ∷ []) (refl, refl)
+    reads_sequence (number_parameter (decimal (page_width size dpi)) 115 ∷ []) (set_to RasterWidth (page_width size dpi) ∷ []) (refl, refl)
     (setting_middle w refl, tt) (setting_meant w, tt) (setting_end start refl) (setting_meant start)
 
 pub start_read : (dpi : Dpi) {copies : ℕ} (size : Size) → copies ≤ 65535

@@ -13,8 +13,7 @@ unfoldable pub job_of_texts : (dpi : Dpi) (job start body output texts : List �
     → start ≡ frame_bytes
     → PrintEach IsWrittenPage dpi pages texts → body ≡ start ++ texts → output ≡ body ++ frame_bytes → IsJobOf dpi job output
 job_of_texts dpi job start body output texts pages meaning opened print joined closed =
-    let spelled : output ≡ frame_bytes ++ texts ++ frame_bytes =
-    rw (closed, joined, opened) (append_assoc frame_bytes texts frame_bytes) in
+    let spelled : output ≡ frame_bytes ++ texts ++ frame_bytes = rw (closed, joined, opened) (append_assoc frame_bytes texts frame_bytes) in
     let w = subst (IsAgain dpi pages) (sym spelled) (written_again texts meaning print) in
     record {
       pages = pages;

@@ -9,8 +9,7 @@ digits_push : (digits : List ℕ) (digit : ℕ) → AreDigits digits → is_digi
 digits_push [] digit d e = (e, tt)
 digits_push (first ∷ digits) digit d e = (d.0, digits_push digits digit d.1 e)
 
-number_after : (n : ℕ) (digits : List ℕ) (digit : ℕ)
-    → fold (λ (m : ℕ) (d : ℕ). m * 10 + (d - 48)) n (digits ++ digit ∷ [])
+number_after : (n : ℕ) (digits : List ℕ) (digit : ℕ) → fold (λ (m : ℕ) (d : ℕ). m * 10 + (d - 48)) n (digits ++ digit ∷ [])
     ≡ fold (λ (m : ℕ) (d : ℕ). m * 10 + (d - 48)) n digits * 10 + (digit - 48)
 number_after n [] digit = refl
 number_after n (first ∷ digits) digit = number_after (n * 10 + (first - 48)) digits digit

@@ -28,8 +28,7 @@ least_switch {direct} {first} {others} f o s = record {
         | inl low ↦
             elim (cases_lt first direct.delta) [
               | inr more ↦ (Delta, omega arith)
-              | inl less ↦
-                  elim (cases_lt direct.runs direct.packed) [ inl runs ↦ (Runs, omega arith) | inr packed ↦ (Packed, omega arith) ]
+              | inl less ↦ elim (cases_lt direct.runs direct.packed) [ inl runs ↦ (Runs, omega arith) | inr packed ↦ (Packed, omega arith) ]
             ]
       ];
 }

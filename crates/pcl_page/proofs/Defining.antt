@@ -11,8 +11,7 @@ abbrev runs_none : Situation → Option Run
 runs_none later = None
 
 run_inside : (command : Said) (s : Situation) → is_some s.begun ≡ true → run_of command s ≡ runs_none
-run_inside command s e =
-    ap (λ (b : Bool). λ (later : Situation). cond b None (run_from (operation_of command.name) command.value later)) e
+run_inside command s e = ap (λ (b : Bool). λ (later : Situation). cond b None (run_from (operation_of command.name) command.value later)) e
 
 -- what ends a definition is its end
 control_ends : (action : Option Action) → control_keeping action ≡ Ends → action ≡ Some End
@@ -30,8 +29,7 @@ pub stepped_kept : {S : Type 0} (takes : S → Page → S → Type 0) (dpi : Dpi
     → IsStepped takes dpi (after_command dpi place command s) (run_of command s) s (Ok tt) old old sink sink
 stepped_kept takes dpi place command s old sink at some kept =
     let begun : is_some s.begun ≡ true = cc in
-    rw (begun, kept)
-    (s, refl, at, (sym (append-nil old.running.items), tt), ([], sym (append-nil s.pages), refl))
+    rw (begun, kept) (s, refl, at, (sym (append-nil old.running.items), tt), ([], sym (append-nil s.pages), refl))
 
 pub stepped_ending : {S : Type 0} (takes : S → Page → S → Type 0) (dpi : Dpi) (place : ℕ) (command : Said) (s : Situation)
     (result : Result (Unit {0}) CallFault) (old new : Interpreter) (sink later : S) → IsAt dpi s old → is_begun old.macros ≡ true

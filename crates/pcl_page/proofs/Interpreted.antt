@@ -70,15 +70,13 @@ module _ {S : Type 0} (takes : S → Page → S → Type 0) (dpi : Dpi) (place :
 
   managed_more : (now then : Situation) (sink later : S) → managed_by now ≡ Ok then → HandsMore takes dpi s now sink later
       → HandsMore takes dpi s then sink later
-  managed_more now then sink later m h =
-      (h.0, (managed_acts place (operation_of command.name) command.value m).pages ∙ h.1, h.2)
+  managed_more now then sink later m h = (h.0, (managed_acts place (operation_of command.name) command.value m).pages ∙ h.1, h.2)
 
   stepped_by : (old middle new : Interpreter) (sink later : S) (result : Result (Unit {0}) CallFault) (now : Situation)
       → middle.running ≡ old.running → tried dpi command s ≡ Ok now → HandsMore takes dpi s now sink later
       → IsActed dpi (managed_by now) runs_by result middle new
       → IsStepped takes dpi (counting dpi place command s) runs_by s result old new sink later
-  stepped_by old middle new sink later (Ok unit) now run t h a =
-      (a.0, rw t a.1, a.2, rw run at a.3, managed_more now a.0 sink later a.1 h)
+  stepped_by old middle new sink later (Ok unit) now run t h a = (a.0, rw t a.1, a.2, rw run at a.3, managed_more now a.0 sink later a.1 h)
   stepped_by old middle new sink later (Err (Refused kind)) now run t h a =
       elim a [
         | inl e ↦ inl (rw t e, unmanaged_sink now sink later t e h)
@@ -88,8 +86,7 @@ module _ {S : Type 0} (takes : S → Page → S → Type 0) (dpi : Dpi) (place :
 
   pub counted_stepped : (operation : Operation) (old middle new : Interpreter) (sink later : S) (result : Result (Unit {0}) CallFault)
       → IsAt dpi s old → IsTried takes dpi command s (Ok operation) middle.performer sink later
-      → middle.macros ≡ old.macros → middle.running ≡ old.running
-      → ((t : Situation) → IsAt dpi t middle
+      → middle.macros ≡ old.macros → middle.running ≡ old.running → ((t : Situation) → IsAt dpi t middle
       → IsActed dpi (managed place (Some operation) command.value t) (run_from (Some operation) command.value) result middle new)
       → IsStepped takes dpi (counting dpi place command s) runs_by s result old new sink later
   counted_stepped operation old middle new sink later result at t same run f =

@@ -58,12 +58,7 @@ module _ {S : Type 0} (takes : S → Page → S → Type 0) (dpi : Dpi) (all : L
       rw is (refl, hands_further takes dpi s first.situation old now then h on.1)
   stopped_on first f s last old now then Memory h e g on =
       let o = then_grows first first.situation f (stays_there first.situation) g in
-      rw (← e) (
-        s.pages ++ on.0,
-        on.1 ++ o.0,
-        rw (o.1, on.2) (simp append_assoc),
-        hands_append takes dpi s.pages on.0 old now then h on.3,
-      )
+      rw (← e) (s.pages ++ on.0, on.1 ++ o.0, rw (o.1, on.2) (simp append_assoc), hands_append takes dpi s.pages on.0 old now then h on.3)
 
 module _ {S : Type 0} (takes : S → Page → S → Type 0) (dpi : Dpi) (end : ℕ) (all : List Said) (whole : Performance) (place : ℕ)
     (command : Said) (commands : List Said) where
@@ -106,8 +101,7 @@ module _ {S : Type 0} (takes : S → Page → S → Type 0) (dpi : Dpi) (end : �
 
   -- its macros, performed from there
   macros_on : (middle last : Interpreter) (old now then later : S) (result : Result (Unit {0}) JobFault)
-      → (b : HasBegun middle old now then)
-      → ((s : Situation) → IsAt dpi s middle
+      → (b : HasBegun middle old now then) → ((s : Situation) → IsAt dpi s middle
       → GoesOn takes dpi all (resumed macro_limit dpi all middle.running.items s) s result last then later)
       → GoesOn takes dpi all (it b.from) b.from result last now later
   macros_on middle last old now then later result b f =
@@ -169,8 +163,7 @@ pub has_pages : {S : Type 0} {takes : S → Page → S → Type 0} {dpi : Dpi} {
 has_pages p = record { commands = p.commands; reading = p.reading; accepted = p.handed.0; ejected = refl }
 
 show_more : {dpi : Dpi} (pages : List Page) {page : Page} (sheets : List Sheet) {sheet : Sheet} → AllShow dpi pages sheets
-    → Shows dpi page sheet
-    → AllShow dpi (pages ++ page ∷ []) (sheets ++ sheet ∷ [])
+    → Shows dpi page sheet → AllShow dpi (pages ++ page ∷ []) (sheets ++ sheet ∷ [])
 show_more [] [] a s = (s, tt)
 show_more (first ∷ pages) (one ∷ sheets) a s = (a.0, show_more pages sheets a.1 s)
 show_more pages sheets a s = absurd a

@@ -63,8 +63,7 @@ adds_drawn : (dpi : Dpi) (operation : Operation) (command : Said) {s now later :
     → drawn_on dpi operation command now ≡ Ok later → Adds s later
 adds_drawn dpi operation command {s} {now} t e =
     let k = drawn_keeps dpi operation command {s = now} in
-    rw (unless_from (draw_refusal operation command now) e)
-    (record { more = t.more; pages = cc; performed = cc; macros = cc; begun = cc })
+    rw (unless_from (draw_refusal operation command now) e) (record { more = t.more; pages = cc; performed = cc; macros = cc; begun = cc })
 
 adds_taken : (o : Outcome) {s later : Situation} → turned_by o s ≡ Ok later → Adds s later
 adds_taken None e = absurd cc

@@ -65,8 +65,7 @@ past_end (first ∷ all) (suc i) past = past_end all i past
 abbrev pub advanced : Running → Running
 advanced newest = record { next = newest.next + 1; end = newest.end; saved = newest.saved }
 
-left_next : (all : List Said) (newest : Running) {command : Said} → slice_get all newest.next ≡ Some command
-    → newest.next < newest.end
+left_next : (all : List Said) (newest : Running) {command : Said} → slice_get all newest.next ≡ Some command → newest.next < newest.end
     → commands_left all (run_in newest) ≡ command ∷ commands_left all (run_in (advanced newest))
 left_next all newest {command} got lt =
     let plus : suc newest.next ≡ newest.next + 1 = omega arith in
@@ -74,8 +73,7 @@ left_next all newest {command} got lt =
     rw (got_there all newest.next got, plus, one_less) refl
 
 rest_next : (levels : ℕ) (dpi : Dpi) (all : List Said) (newest : Running) {command : Said} (s : Situation)
-    → slice_get all newest.next ≡ Some command → newest.next < newest.end
-    → rest_of levels dpi all (run_in newest) s
+    → slice_get all newest.next ≡ Some command → newest.next < newest.end → rest_of levels dpi all (run_in newest) s
     ≡ then_on (step dpi (runs levels dpi all) newest.next command s) (rest_of levels dpi all (run_in (advanced newest)))
 rest_next levels dpi all newest {command} s got lt =
     rw (left_next all newest got lt) (then_assoc (step dpi (runs levels dpi all) newest.next command s) _ _)
@@ -108,8 +106,7 @@ none_left all newest e = elim e [
 pub end_of_macro : (dpi : Dpi) (all : List Said) (older : List Running) (newest : Running) (s : Situation)
     → length older < 3 → HasEnded all newest
     → resumed macro_limit dpi all older (macro_ended dpi newest.saved s) ≡ resumed macro_limit dpi all (older ++ newest ∷ []) s
-end_of_macro dpi all older newest s few e =
-    sym (pushed dpi all older newest s few ∙ rw (none_left all newest e) refl)
+end_of_macro dpi all older newest s few e = sym (pushed dpi all older newest s few ∙ rw (none_left all newest e) refl)
 
 -- the same interpreter but for the macros that run
 pub at_running : {dpi : Dpi} {s : Situation} {old new : Interpreter} → new.performer ≡ old.performer → new.macros ≡ old.macros
@@ -172,8 +169,7 @@ ended_less count performed older newest = omega (arith, left_append count older 
 -- the next command of the newest macro, on the way to what all have left
 pub command_goes : {S : Type 0} (takes : S → Page → S → Type 0) (dpi : Dpi) (all : List Said) (older pushed_on : List Running)
     (newest : Running) (command : Said) (s : Situation) (result : Result (Unit {0}) JobFault) (last : Interpreter) (sink later : S)
-    → length older < 3 → slice_get all newest.next ≡ Some command → newest.next < newest.end
-    → pushed_on ≡ older ++ advanced newest ∷ []
+    → length older < 3 → slice_get all newest.next ≡ Some command → newest.next < newest.end → pushed_on ≡ older ++ advanced newest ∷ []
     → GoesOn takes dpi all (begun_among dpi all newest.next command pushed_on s) s result last sink later
     → GoesOn takes dpi all (resumed macro_limit dpi all (older ++ newest ∷ []) s) s result last sink later
 command_goes takes dpi all older pushed_on newest command s result last sink later few got lt push g =
@@ -200,8 +196,7 @@ GoesBack {S} takes dpi all whole s new old_sink new_sink =
 pub macro_goes : {S : Type 0} (takes : S → Page → S → Type 0) (dpi : Dpi) (all : List Said) (whole : Performance) (s : Situation)
     (result : Result (Unit {0}) JobFault) (before middle last : Interpreter) (newest : Running) (old then new : S)
     → (b : GoesBack takes dpi all whole s before old then) → before.running.items ≡ middle.running.items ++ newest ∷ []
-    → middle.performer ≡ before.performer → middle.macros ≡ before.macros
-    → ((now : Situation) → IsAt dpi now middle
+    → middle.performer ≡ before.performer → middle.macros ≡ before.macros → ((now : Situation) → IsAt dpi now middle
     → GoesOn takes dpi all (resumed macro_limit dpi all (middle.running.items ++ newest ∷ []) now) now result last then new)
     → GoesOn takes dpi all whole s result last old new
 macro_goes takes dpi all whole s result before middle last newest old then new b off p m f =
@@ -211,5 +206,4 @@ macro_goes takes dpi all whole s result before middle last newest old then new b
 -- as many macros run as may
 pub enters_few : (run : Option Run) (old : List Running) {new : List Running} → Enters run old new → length old ≤ 3 → length new ≤ 3
 enters_few None old e few = omega (arith, ap (λ (rs : List Running). length rs) e.0, length-append old [])
-enters_few (Some run) old e few =
-    omega (arith, ap (λ (rs : List Running). length rs) e.0, length-append old (entered (Some run)), e.1)
+enters_few (Some run) old e few = omega (arith, ap (λ (rs : List Running). length rs) e.0, length-append old (entered (Some run)), e.1)

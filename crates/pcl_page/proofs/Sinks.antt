@@ -7,8 +7,7 @@ module _ {S : Type 0} (takes : S → Page → S → Type 0) (dpi : Dpi) where
   pub hands_append : (front back : List Sheet) (old middle new : S) → Hands takes dpi front old middle → Hands takes dpi back middle new
       → Hands takes dpi (front ++ back) old new
   hands_append [] back old middle new h k = subst (λ (s : S). Hands takes dpi back s new) h k
-  hands_append (sheet ∷ front) back old middle new h k =
-      (h.0, h.1, h.2, h.3, hands_append front back h.1 middle new h.4 k)
+  hands_append (sheet ∷ front) back old middle new h k = (h.0, h.1, h.2, h.3, hands_append front back h.1 middle new h.4 k)
 
   -- the pages from before, and those by which there are more
   pub hands_further : (before now : Situation) (old middle new : S) → Hands takes dpi before.pages old middle
@@ -26,8 +25,7 @@ module _ {S : Type 0} (takes : S → Page → S → Type 0) (dpi : Dpi) where
 
   first_on : (s middle now : Situation) (old then new : S) → HandsMore takes dpi s middle old then
       → HandsFirst takes dpi middle now then new → HandsFirst takes dpi s now old new
-  first_on s middle now old then new h k =
-      (h.0 ++ k.0, k.1, rw (k.2, h.1) (simp append_assoc), hands_append h.0 k.0 old then new h.2 k.3)
+  first_on s middle now old then new h k = (h.0 ++ k.0, k.1, rw (k.2, h.1) (simp append_assoc), hands_append h.0 k.0 old then new h.2 k.3)
 
 -- pages are only added
 abbrev pub Onward : Situation → Situation → Type 0

@@ -57,6 +57,5 @@ keeps dpi (Ask PaperSource) v m s = marked_keeps
 keeps dpi other v m s = search (keeping, axis_size, rectangle_size, pop_size, size_keeps, method_keeps, rules) depth 8
 
 pub size_kept : (dpi : Dpi) (operation : Operation) (value : Value) (marked : Bool) (s : Settings) {settings : Settings}
-    → outcome dpi operation value marked s ≡ Some (settings, Stay)
-    → settings.size ≡ s.size
+    → outcome dpi operation value marked s ≡ Some (settings, Stay) → settings.size ≡ s.size
 size_kept dpi operation value marked s o = (subst (KeepsSize s) o (keeps dpi operation value marked s)).same refl

@@ -17,8 +17,7 @@ counted_in i e r b m j p a f = search (rules, f, b)
 
 -- a command that is not past the limit, by its operation
 pub tried_as : (dpi : Dpi) (command : Said) {operation : Option Operation} (s : Situation) → s.performed < 100000000
-    → operation_of command.name ≡ operation
-    → tried dpi command s ≡ (after_named dpi operation command (counted s) |> within_page_limit)
+    → operation_of command.name ≡ operation → tried dpi command s ≡ (after_named dpi operation command (counted s) |> within_page_limit)
 tried_as dpi command s few named =
     let under : nat_le command_limit s.performed ≡ false = grind (arith, nat_tests) in
     rw (under, named) refl
@@ -55,8 +54,7 @@ stays_pages done s e = rw e refl
 
 pub no_more : (pages more : List Sheet) → pages ≡ pages ++ more → more ≡ []
 no_more pages [] e = refl
-no_more pages (sheet ∷ more) e =
-    absurd (omega (arith, ap length e, length-append pages (sheet ∷ more)))
+no_more pages (sheet ∷ more) e = absurd (omega (arith, ap length e, length-append pages (sheet ∷ more)))
 
 -- ---- a command and its sink
 
@@ -187,22 +185,19 @@ module _ {S : Type 0} (takes : S → Page → S → Type 0) (dpi : Dpi) (operati
   pub tried_undrawn : (old middle new : Performer) (sink later : S) → AtTurn dpi operation command s old → (g : Gone middle sink later)
       (fault : CallFault) → Draws dpi (draw_refusal operation command g.turned_to) (drawn dpi operation command g.turned_to) (Err fault) new
       → IsTried takes dpi command s (Err fault) new sink later
-  tried_undrawn old middle new sink later a g (Refused kind) d =
-      (tried_by g.turned_to g.is_gone.tried_is d, g.is_gone.quiet kind d)
+  tried_undrawn old middle new sink later a g (Refused kind) d = (tried_by g.turned_to g.is_gone.tried_is d, g.is_gone.quiet kind d)
   tried_undrawn old middle new sink later a g Memory d = gone_short g.turned_to new sink later _ g.is_gone refl
 
 -- ---- the end of the input
 
 -- the end, where it is not refused
 abbrev EndsAt : {S : Type 0} → (S → Page → S → Type 0) → Dpi → Situation → Situation → Performer → S → S → Type 0
-EndsAt {S} takes dpi s end new sink later =
-    (page_refusal end ≡ None) × HandsMore takes dpi s end sink later × (asks_of new.asks ≡ end.asks)
+EndsAt {S} takes dpi s end new sink later = (page_refusal end ≡ None) × HandsMore takes dpi s end sink later × (asks_of new.asks ≡ end.asks)
 
 pub end_marked : {S : Type 0} (takes : S → Page → S → Type 0) (dpi : Dpi) (s : Situation) (copies : ℕ) (asked : Asked)
     (old new : Performer) (sink later : S) → IsIn dpi s old
     → old.is_marked ≡ true → old.ejected < 256 → copies ≡ old.environment.copies → asked ≡ old.environment.asked
-    → IsEjected asked old new → Takes takes copies old sink later
-    → EndsAt takes dpi s (at_end dpi s) new sink later
+    → IsEjected asked old new → Takes takes copies old sink later → EndsAt takes dpi s (at_end dpi s) new sink later
 end_marked takes dpi s copies asked old new sink later i m few c a e t =
     let end = end_raster dpi s in
     let is : is_marked s ≡ true = cc in
@@ -216,9 +211,7 @@ end_marked takes dpi s copies asked old new sink later i m few c a e t =
     )
 
 pub end_unmarked : {S : Type 0} (takes : S → Page → S → Type 0) (dpi : Dpi) (s : Situation) (old : Performer) (sink later : S)
-    → IsIn dpi s old
-    → old.is_marked ≡ false → old.ejected ≤ 256 → later ≡ sink
-    → EndsAt takes dpi s (at_end dpi s) old sink later
+    → IsIn dpi s old → old.is_marked ≡ false → old.ejected ≤ 256 → later ≡ sink → EndsAt takes dpi s (at_end dpi s) old sink later
 end_unmarked takes dpi s old sink later i m few same =
     let is : is_marked s ≡ false = cc in
     rw is (

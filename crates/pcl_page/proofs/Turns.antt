@@ -30,8 +30,7 @@ prepared_page dpi true s = search (rules, (below_same dpi s.raster s.settings).0
 prepared_page dpi false s = search rules
 
 pub prepared_in : {dpi : Dpi} {operation : Operation} {s : Situation} {old new : Performer} → IsIn dpi s old
-    → IsPrepared dpi operation old new
-    → IsIn dpi (prepared dpi operation s) new
+    → IsPrepared dpi operation old new → IsIn dpi (prepared dpi operation s) new
 prepared_in {dpi} {operation} {s} {old} {new} i p =
     let k = prepared_page dpi (ends_raster operation) s in
     search (rules, p.fonts, k.fonts, k.marks, p.bitmap, k.size)
@@ -61,8 +60,7 @@ unmarked marks e = grind arith
 -- and a white page shows no marks
 white_painted : {dpi : Dpi} {size : Size} {bitmap : Picture} → bitmap.size ≡ size → bitmap.dpi ≡ dpi → IsWhite bitmap
     → IsPainted dpi size [] bitmap
-white_painted s d white =
-    record { size_is = s; dpi_is = d; dots = λ x y wide high. white x y (rw (s, d) wide) (rw (s, d) high) }
+white_painted s d white = record { size_is = s; dpi_is = d; dots = λ x y wide high. white x y (rw (s, d) wide) (rw (s, d) high) }
 
 -- the page that follows the settings shows the same marks
 followed_page : {dpi : Dpi} (operation : Operation) (value : Value) {s : Situation} {settings : Settings} (effect : Effect)
@@ -117,8 +115,7 @@ module _ {S : Type 0} (takes : S → Page → S → Type 0) (dpi : Dpi) (operati
       → IsIn dpi s old → Answers (outcome dpi operation value old.is_marked old.environment) (Ok effect) old.environment middle.environment
       → ejects effect old.is_marked ≡ false → old.ejected ≤ 256 → middle.page.bitmap ≡ old.page.bitmap → middle.is_marked ≡ old.is_marked
       → middle.ejected ≡ old.ejected → middle.performed ≡ old.performed → middle.asks ≡ old.asks → middle.raster ≡ old.raster
-      → middle.fonts ≡ old.fonts
-      → IsFollowed middle new → later ≡ sink → IsTurned takes dpi comes_to s (Ok tt) new sink later
+      → middle.fonts ≡ old.fonts → IsFollowed middle new → later ≡ sink → IsTurned takes dpi comes_to s (Ok tt) new sink later
   turned_stays old middle new sink later i a e few b m j p q r t f same =
       let d = answered (outcome dpi operation value old.is_marked old.environment) old.environment a in
       let o : comes_to ≡ Some d.0 = let is = d.1 in cc in
@@ -199,8 +196,7 @@ module _ {S : Type 0} (takes : S → Page → S → Type 0) (dpi : Dpi) (operati
 -- ---- what is drawn
 
 pub drawn_in : {dpi : Dpi} {mark : Mark} {raster : Option Raster} {s : Situation} {old new : Performer} → IsIn dpi s old
-    → IsDrawn mark old new → new.raster ≡ raster
-    → IsIn dpi (record s { raster = raster; marks = mark ∷ s.marks }) new
+    → IsDrawn mark old new → new.raster ≡ raster → IsIn dpi (record s { raster = raster; marks = mark ∷ s.marks }) new
 drawn_in {dpi} {mark} {raster} {s} {old} {new} i d r =
     let p = i.painted in
     let painted : IsPainted dpi s.settings.size (mark ∷ s.marks) new.page.bitmap = record {

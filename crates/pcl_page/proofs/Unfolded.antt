@@ -64,8 +64,7 @@ module _ (dpi : Dpi) (all : List Said) (place : ℕ) (command : Said) (running :
   begun_entered None e r few = rw (append-nil, e, r) refl
   begun_entered {later} (Some run) e r few =
       let levels : macro_limit - length running ≡ suc (2 - length running) = omega arith in
-      pushed dpi all running (record { next = run.next; end = run.end; saved = run.saved }) later few
-      ∙ sym (rw (e, r, levels) refl)
+      pushed dpi all running (record { next = run.next; end = run.end; saved = run.saved }) later few ∙ sym (rw (e, r, levels) refl)
 
 -- ---- what a command adds
 
@@ -109,8 +108,7 @@ defining_counts dpi place keeping command b e = grind (arith, counting_counts)
 pub command_by : (dpi : Dpi) (place : ℕ) (command : Said) {s later : Situation} (begun : Bool) → is_some s.begun ≡ begun
     → cond begun (defining dpi place (keeping_of (operation_of command.name) command.value) command s) (counting dpi place command s)
     ≡ Ok later → KeptOrCounts s later
-command_by dpi place command true b e =
-    defining_counts dpi place (keeping_of (operation_of command.name) command.value) command b e
+command_by dpi place command true b e = defining_counts dpi place (keeping_of (operation_of command.name) command.value) command b e
 command_by dpi place command false b e = inr (counting_counts dpi place command e)
 
 -- ---- performances only add pages

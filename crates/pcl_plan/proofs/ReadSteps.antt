@@ -28,8 +28,7 @@ pub record IsReadTo (width : ℕ) (rows : List (List ℕ)) (table : List RowNumb
   pub tokens : List Token
   pub goes_on : (more : List Step) (behind : List Token) → (node_number table at ≡ 0 → more ≡ [])
       → (0 < node_number table at → is_last more ≡ false)
-      → Spells at.inside more behind → Walk (Leads width rows) (Ends rows) at behind → total cost behind
-      ≡ node_number table at
+      → Spells at.inside more behind → Walk (Leads width rows) (Ends rows) at behind → total cost behind ≡ node_number table at
       → Spells false (steps ++ more) (tokens ++ behind) × Walk (Leads width rows) (Ends rows) start (tokens ++ behind)
       × (total cost (tokens ++ behind) ≡ node_number table start)
 

@@ -50,8 +50,7 @@ module _ {width : ℕ} {rows : List (List ℕ)} {table : List RowNumbers} (is : 
 
   -- the least begins with a row, where it begins with no skip and no switch
   begins_with : {row : ℕ} {current : Method} (es : List Token) → Walk (Leads width rows) (Ends rows) (node row current true) es
-      → total cost es ≡ inside (node_number table) row current
-      → ((count : ℕ) → AreSkippable rows row count
+      → total cost es ≡ inside (node_number table) row current → ((count : ℕ) → AreSkippable rows row count
       → inside (node_number table) row current < skipping (node_number table) row current count)
       → ((next : Method) → inside (node_number table) row current ≡ switching next + rest (node_number table) row next → ⊥)
       → (bytes : List ℕ) × (row < length rows) × IsRowData current (row_above width rows row) (row_at rows row) bytes

@@ -9,8 +9,7 @@ use Rattle.pcl_rows.proofs.Spellings.{first_of, front_at, element_at, behind_sho
 
 -- bytes that hold the whole head of a cut element
 with_head : (d : Element) {shown : List ℕ} (missing : List ℕ) → shown ++ missing ≡ element_bytes d
-    → length (head_bytes d.head) ≤ length shown
-    → (tail : List ℕ) × (shown ≡ head_bytes d.head ++ tail)
+    → length (head_bytes d.head) ≤ length shown → (tail : List ℕ) × (shown ≡ head_bytes d.head ++ tail)
 with_head d {shown} missing lacking long =
     let n : ℕ = length (head_bytes d.head) in
     let front = take_at (head_bytes d.head) d.bytes n refl in
@@ -80,8 +79,7 @@ treated_cut (suc n) {cut} shown missing old is e some fits =
     ]
 
 pub treated_is : (n : ℕ) (whole : List Element) {method : Method} {bytes : List ℕ} {cut : Element} {shown : List ℕ} (old : List ℕ)
-    → IsCutIntoElements method bytes whole cut shown → length bytes ≤ n
-    → treated_by n method bytes old ≡ treated whole cut shown old
+    → IsCutIntoElements method bytes whole cut shown → length bytes ≤ n → treated_by n method bytes old ≡ treated whole cut shown old
 treated_is n [] {cut = cut} {shown = shown} old r fits =
     let head : IsHead (method_of cut.head) cut.head = record { method_is = refl; in_range = r.element.head_is.in_range } in
     let is : IsElement (method_of cut.head) cut = record { head_is = head; complete = r.element.complete } in

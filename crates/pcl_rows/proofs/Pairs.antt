@@ -27,10 +27,8 @@ lone_front {count} small = record {
 -- one more pair
 pub pair_more : {bytes old : List ℕ} (row : List ℕ) {pair place count : ℕ} {row' : List ℕ} {place' : ℕ} → length row ≡ length old
     → place ≤ length row → pair < length bytes / 2 → slice_index bytes (2 * pair) < 256 → count ≡ slice_index bytes (2 * pair)
-    → row' ≡ overlaid row place (replicate (count + 1) (slice_index bytes (2 * pair + 1)))
-    → place' ≡ min (length row) (place + (count + 1))
-    → IsTreatedTo Runs bytes old (drop (2 * pair) bytes) row place
-    → IsTreatedTo Runs bytes old (drop (2 * (pair + 1)) bytes) row' place'
+    → row' ≡ overlaid row place (replicate (count + 1) (slice_index bytes (2 * pair + 1))) → place' ≡ min (length row) (place + (count + 1))
+    → IsTreatedTo Runs bytes old (drop (2 * pair) bytes) row place → IsTreatedTo Runs bytes old (drop (2 * (pair + 1)) bytes) row' place'
 pair_more {bytes} {old} row {pair} {place} {count} size within lt small count-is row-is place-is so_far =
     let at : ℕ = 2 * pair in
     let byte : ℕ = slice_index bytes (at + 1) in

@@ -41,8 +41,7 @@ Fills-none method old =
     }
 
 none_is_nothing : {method : Method} (whole : List Element) {cut : Element} {shown old : List ℕ}
-    → IsCutIntoElements method [] whole cut shown
-    → treated whole cut shown old ≡ old
+    → IsCutIntoElements method [] whole cut shown → treated whole cut shown old ≡ old
 none_is_nothing [] {cut} {old = old} r = after_none cut.head old (rw (← r.joined) (drop-nil (length (head_bytes cut.head))))
 none_is_nothing (e ∷ es) {shown = shown} r =
     absurd (omega (arith, behind_shorter (flat_map element_bytes es ++ shown) r.elements.0 (r.joined ∙ simp append_assoc)))
@@ -120,10 +119,8 @@ IsTreatedTo method bytes old rest row place =
 
 -- one more element
 pub treated_more : {method : Method} {bytes old rest : List ℕ} (row : List ℕ) {place start : ℕ} {offset copies : ℕ} {new rest' : List ℕ}
-    {whole : Bool} {row' : List ℕ} {place' : ℕ}
-    → length row ≡ length old → place ≤ length row → start ≡ min (length row) (place + offset)
-    → IsFront method rest offset copies new rest' whole
-    → row' ≡ overlaid row start (flat_map (λ byte. replicate copies byte) new)
+    {whole : Bool} {row' : List ℕ} {place' : ℕ} → length row ≡ length old → place ≤ length row → start ≡ min (length row) (place + offset)
+    → IsFront method rest offset copies new rest' whole → row' ≡ overlaid row start (flat_map (λ byte. replicate copies byte) new)
     → place' ≡ min (length row) (start + length (flat_map (λ byte. replicate copies byte) new))
     → IsTreatedTo method bytes old rest row place → IsTreatedTo method bytes old rest' row' place'
 treated_more row {place} {start} {new = new} {whole = whole} {row' = row'} {place'} size within start-is front row-is place-is

@@ -118,8 +118,7 @@ compared_so dpi pages kept others found (Some (difference.Page number by)) k f i
 
 -- a job beside one that is kept
 pub beside_kept : OnePages → {dpi : Dpi} {first second : List ℕ} {kept : KeptJob} {others : List Sheet} {other_asks : Asks}
-    → (k : IsKept dpi first kept)
-    → HasPages dpi second others → HasAsks dpi second other_asks
+    → (k : IsKept dpi first kept) → HasPages dpi second others → HasAsks dpi second other_asks
     → (difference : Option PagesDifference) (found : List (Option Difference)) → FindAll dpi kept.pages.items others found
     → IsConcluded (length kept.pages.items) found difference → (result : AskedComparison) → of_pages result ≡ comparison_of difference
     → ((difference ≡ None → length kept.asks.pages.items ≡ length other_asks.pages) → CompareAsks (asks_of kept.asks) other_asks result)

@@ -40,7 +40,6 @@ finds_on dpi (sheet ∷ sheets) old new h =
     }
 
 pub found_all : (dpi : Dpi) (sheets : List Sheet) {kept : List KeptPage} {old : Compared} (new : Compared) → old.kept ≡ kept
-    → old.found ≡ []
-    → Hands ComparesNext dpi sheets old new → FindAll dpi kept sheets new.found
+    → old.found ≡ [] → Hands ComparesNext dpi sheets old new → FindAll dpi kept sheets new.found
 found_all dpi sheets {kept} {old} new k none h =
     let f = finds_on dpi sheets old new h in rw f.found (simp none (simp (none, k) at f.find))

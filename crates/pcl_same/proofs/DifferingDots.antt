@@ -45,8 +45,7 @@ pub more_drawn : (one other old : Picture) (y : ℕ) {new : Picture} {width : �
     → new.size ≡ old.size → new.dpi ≡ old.dpi → width ≡ page_width one.size one.dpi
     → ((x : ℕ) → dot_of_row bits x ≡ differ (dot one x y) (dot other x y))
     → ((px py : ℕ) → px < page_width old.size old.dpi → py < page_height old.size old.dpi
-    → dot new px py ≡ (raster_dot 0 y 1 width bits px py || dot old px py))
-    → DrawnAbove one other new (y + 1)
+    → dot new px py ≡ (raster_dot 0 y 1 width bits px py || dot old px py)) → DrawnAbove one other new (y + 1)
 more_drawn one other old y {new} {width} bits drawn s r w row painted = record {
   size = s ∙ drawn.size;
   resolution = r ∙ drawn.resolution;

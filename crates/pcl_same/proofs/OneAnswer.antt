@@ -93,8 +93,7 @@ module _ (dpi : Dpi) where
 -- a job has one meaning
 pub record HasOneMeaning : Type 0 where
   pub pages : (dpi : Dpi) (job : List ℕ) (pages others : List Sheet) → HasPages dpi job pages → HasPages dpi job others → pages ≡ others
-  pub refusal : (dpi : Dpi) (job : List ℕ) (refusal other : Refusal) → IsRefusal dpi job refusal → IsRefusal dpi job other
-      → refusal ≡ other
+  pub refusal : (dpi : Dpi) (job : List ℕ) (refusal other : Refusal) → IsRefusal dpi job refusal → IsRefusal dpi job other → refusal ≡ other
   pub apart : (dpi : Dpi) (job : List ℕ) (pages : List Sheet) (refusal : Refusal) → HasPages dpi job pages → IsRefusal dpi job refusal → ⊥
 
 module _ (one : HasOneMeaning) (dpi : Dpi) (first second : List ℕ) where

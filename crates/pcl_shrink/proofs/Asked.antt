@@ -42,8 +42,7 @@ writes_there number exits {i} d old mid before lt here so_far written same =
 
 pub writes_elsewhere : (number : ℕ) (exits : List ExitOfCode) {i : ℕ} (d : ExitOfCode) (old mid : List ℕ) {new : List ℕ}
     (before : Bool) {found : Bool} → i < length exits → (get_or exits i d).pages ≢ number → WritesExits number exits i old mid before
-    → new ≡ mid → found ≡ before
-    → WritesExits number exits (i + 1) old new found
+    → new ≡ mid → found ≡ before → WritesExits number exits (i + 1) old new found
 writes_elsewhere number exits {i} d old mid before lt here so_far stays same =
     let exit = exit_of (get_or exits i d) in
     let front = map exit_of (take i exits) in
@@ -54,15 +53,12 @@ writes_elsewhere number exits {i} d old mid before lt here so_far stays same =
 
 -- ---- what stands before a page but the first
 
-later_start : (asks : Asks) (before : ℕ)
-    → page_start asks (suc before)
-    ≡ exits_after (suc before) asks.exits
+later_start : (asks : Asks) (before : ℕ) → page_start asks (suc before) ≡ exits_after (suc before) asks.exits
     ++ change_text (if is_exit_after (suc before) asks.exits then nothing_asked else asked_at asks before) (asked_at asks (suc before))
 later_start asks before = rw (append-nil (exits_after (suc before) asks.exits)) refl
 
 pub starts_later : (asks : Asks) (page before : ℕ) (is_left : Bool) (old : List ℕ) {mid new : List ℕ} (already asked : Asked)
-    → suc before ≡ page
-    → is_left ≡ is_exit_after page asks.exits → mid ≡ old ++ exits_after page asks.exits
+    → suc before ≡ page → is_left ≡ is_exit_after page asks.exits → mid ≡ old ++ exits_after page asks.exits
     → already ≡ (if is_left then nothing_asked else asked_at asks before) → asked ≡ asked_at asks page
     → new ≡ mid ++ change_text already asked → new ≡ old ++ page_start asks page
 starts_later asks page before is_left old already asked place left exits already_is asked_is written =
@@ -92,8 +88,7 @@ pages_more asks number (t ∷ texts) text =
     (sym (append_assoc (page_start asks number ++ t) (asked_pages asks (suc number) texts) _))
 
 -- one page more of a job's texts
-pub next_page : (asks : Asks) (texts : List Text) {i : ℕ} (d : Text) → i < length texts
-    → asked_pages asks 0 (least_of (take (i + 1) texts))
+pub next_page : (asks : Asks) (texts : List Text) {i : ℕ} (d : Text) → i < length texts → asked_pages asks 0 (least_of (take (i + 1) texts))
     ≡ asked_pages asks 0 (least_of (take i texts)) ++ (page_start asks i ++ (get_or texts i d).least.items)
 next_page asks texts {i} d lt =
     let so_far = least_of (take i texts) in

@@ -21,13 +21,11 @@ first_start : (pages : List Sheet) → page_start (nothing_for pages) 0 ≡ fram
 first_start pages = rw (asked_nothing pages 0) refl
 
 no_start : (pages : List Sheet) (before : ℕ) → page_start (nothing_for pages) (suc before) ≡ []
-no_start pages before =
-    rw (asked_nothing pages before, asked_nothing pages (suc before)) refl
+no_start pages before = rw (asked_nothing pages before, asked_nothing pages (suc before)) refl
 
 later_texts : (pages : List Sheet) (texts : List (List ℕ)) (before : ℕ) → asked_pages (nothing_for pages) (suc before) texts ≡ joined texts
 later_texts pages [] before = refl
-later_texts pages (text ∷ texts) before =
-    rw (no_start pages before, later_texts pages texts (suc before)) refl
+later_texts pages (text ∷ texts) before = rw (no_start pages before, later_texts pages texts (suc before)) refl
 
 pub job_of_nothing : (pages : List Sheet) (texts : List (List ℕ))
     → asked_job (nothing_for pages) texts ≡ frame_bytes ++ joined texts ++ frame_bytes

@@ -16,8 +16,7 @@ AskNothing = (dpi : Dpi) (job output : List ℕ) → (w : IsJobOf dpi job output
 -- pages are like themselves
 same_pages : (dpi : Dpi) (pages : List Sheet) → AllAlike dpi pages pages
 same_pages dpi [] = tt
-same_pages dpi (sheet ∷ sheets) =
-    (record { size = refl; copies = refl; dots = λ x y across down. refl }, same_pages dpi sheets)
+same_pages dpi (sheet ∷ sheets) = (record { size = refl; copies = refl; dots = λ x y across down. refl }, same_pages dpi sheets)
 
 -- the job itself
 pub input_best : {dpi : Dpi} {job : List ℕ} {kept : KeptJob} → IsKept dpi job kept → IsBest dpi job job

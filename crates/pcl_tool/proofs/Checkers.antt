@@ -11,8 +11,7 @@ wrong_stays found proof old new page wrong f = grind arith
 
 -- a page that takes a proof
 step : (proof : PageProof) (later : List PageProof) (old new : Checker) (page : Page) → proofs_left old ≡ proof ∷ later
-    → TakesPage old page new
-    → (proofs_left new ≡ later) × (new.taken ≡ old.taken + 1) × FindsNext old.found proof old page new
+    → TakesPage old page new → (proofs_left new ≡ later) × (new.taken ≡ old.taken + 1) × FindsNext old.found proof old page new
 step proof later old new page e t =
     let next = rw e at t in
     (rw (next.1, next.0, ← drop-drop 1 old.taken old.proofs.now, e), next.1, next.2)

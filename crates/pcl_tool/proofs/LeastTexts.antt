@@ -6,8 +6,7 @@ use Rattle.pcl_tool.specs.declared.job_verdict.JobVerdict.TheVariants as job
 written_texts : (dpi : Dpi) (sheets : List Sheet) (texts : List ℕ) → PrintEach IsWrittenPage dpi sheets texts
     → PrintEach PrintsShortest dpi sheets texts
 written_texts dpi [] texts p = p
-written_texts dpi (sheet ∷ sheets) texts p =
-    (p.0, p.1, (p.2.0, p.2.1, (p.2.2.0, p.2.2.2.shortest)), p.3, written_texts dpi sheets p.1 p.4)
+written_texts dpi (sheet ∷ sheets) texts p = (p.0, p.1, (p.2.0, p.2.1, (p.2.2.0, p.2.2.2.shortest)), p.3, written_texts dpi sheets p.1 p.4)
 
 proved_texts : (dpi : Dpi) (sheets : List Sheet) (texts : List ℕ) (proofs : List PageProof) → AreProved dpi sheets texts proofs
     → PrintEach PrintsShortest dpi sheets texts

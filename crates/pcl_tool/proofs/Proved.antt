@@ -8,8 +8,7 @@ use Rattle.pcl_meaning.proofs.WrittenJobs.{job_of_texts}
 
 -- ---- one page
 
-least_lists : (page : Page) (format : Format) (places : Option (List (List ℕ))) → HasLeastLists page format places
-    → AreLeastOf page places
+least_lists : (page : Page) (format : Format) (places : Option (List (List ℕ))) → HasLeastLists page format places → AreLeastOf page places
 least_lists page format places has = grind arith
 
 -- a text along a plan of its page

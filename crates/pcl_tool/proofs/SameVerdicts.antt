@@ -9,8 +9,7 @@ proved_again {text} table None same p =
     moved (λ size dpi copies bitmap. IsPageText dpi size copies (bitmap_rows bitmap) text × (length table ≡ page_height size dpi + 1)
     × Unit {0} × ((row : ℕ) (method : Method) (inside : Bool) → row ≤ page_height size dpi
     → IsGoodNumber (bitmap_rows bitmap) (λ r m bytes. IsLeastOfRow (page_row_bytes size dpi) (bitmap_rows bitmap) r m bytes)
-    (node_number table) row method inside)
-    × (length text ≡ fixed_bytes dpi size copies + node_number table start)) same p
+    (node_number table) row method inside) × (length text ≡ fixed_bytes dpi size copies + node_number table start)) same p
 proved_again {text} table (Some lists) same p =
     moved (λ size dpi copies bitmap. IsPageText dpi size copies (bitmap_rows bitmap) text
     × ((length table ≡ page_height size dpi + 1) × (length lists ≡ 4 * page_height size dpi))

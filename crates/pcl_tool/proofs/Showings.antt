@@ -46,8 +46,7 @@ has_shown dpi [] old new h = rw h (record {
   met = met_of_none old.choice;
 })
 has_shown dpi (sheet ∷ sheets) old new h =
-    let rest = has_shown dpi sheets (shown_after old h.0) new
-    (subst (λ (mid : Showing). Hands shows_next dpi sheets mid new) h.3 h.4) in
+    let rest = has_shown dpi sheets (shown_after old h.0) new (subst (λ (mid : Showing). Hands shows_next dpi sheets mid new) h.3 h.4) in
     let there = there_later old.choice (length sheets) in
     record {
       pages = h.0 ∷ rest.pages;

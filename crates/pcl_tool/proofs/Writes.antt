@@ -5,8 +5,7 @@ use Rattle.pcl_tool.proofs.Names.{Appends, Appends-trans, Picture, Fault, WriteF
 -- where a write fails nothing else is
 pub stopped_in_header : (old new : Option (List ℕ)) (picture : Picture) {text : List ℕ} (fault : Fault)
     → text ≡ header_of picture.size picture.dpi → IsWritten old new text (Err fault) → IsImageWritten old new picture (Err fault)
-stopped_in_header old new picture WriteFault e h =
-    (h.0, h.1 ++ picture.bytes, rw (← append_assoc h.0 h.1 picture.bytes, ← h.2, e), h.3)
+stopped_in_header old new picture WriteFault e h = (h.0, h.1 ++ picture.bytes, rw (← append_assoc h.0 h.1 picture.bytes, ← h.2, e), h.3)
 stopped_in_header old new picture fault e h = absurd h
 
 -- the header was written, and then the rows or a prefix of them

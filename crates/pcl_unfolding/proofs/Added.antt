@@ -72,8 +72,7 @@ unfolded_adds (suc levels) dpi all command control body items =
 
 -- ---- the look back
 
-pub looked_back : (dpi : Dpi) (more old : List Item)
-    → ago (length (more ++ old) - length old) (situations dpi (more ++ old)) ≡ now dpi old
+pub looked_back : (dpi : Dpi) (more old : List Item) → ago (length (more ++ old) - length old) (situations dpi (more ++ old)) ≡ now dpi old
 looked_back dpi [] old = let none : length old - length old ≡ 0 = omega arith in rw none refl
 looked_back dpi (item ∷ more) old =
     let next : length (item ∷ (more ++ old)) - length old ≡ suc (length (more ++ old) - length old) =

@@ -124,8 +124,7 @@ pub record IsNextToken (picture : Picture) (plan : StepsAndTable) (place : Node)
   pub from : IsOpened picture (node_number plan.table) place.row place.method place.inside (token ∷ rest)
 
 next_token : {picture : Picture} {plan : StepsAndTable} {old now : List ℕ} {step : Step} {more : List Step} {place : Node}
-    → IsBitmapPlan picture plan → IsWrittenTo picture plan old now (step ∷ more) place
-    → IsNextToken picture plan place step more
+    → IsBitmapPlan picture plan → IsWrittenTo picture plan old now (step ∷ more) place → IsNextToken picture plan place step more
 unfolding Spells
 next_token {picture} {place} is w =
     let s = w.spells in
@@ -139,8 +138,7 @@ next_token {picture} {place} is w =
 
 -- a row that comes next is sent by as few bytes as can be
 pub writable : {picture : Picture} {plan : StepsAndTable} {old now : List ℕ} (step : Step) {more : List Step} {place : Node}
-    → IsBitmapPlan picture plan → IsWrittenTo picture plan old now (step ∷ more) place
-    → IsWritable picture place.row place.method step
+    → IsBitmapPlan picture plan → IsWrittenTo picture plan old now (step ∷ more) place → IsWritable picture place.row place.method step
 writable (Skip count) is w = tt
 writable (Switch next) is w = tt
 writable {picture} (Row count) {more} {place} is w =
@@ -209,8 +207,7 @@ ends_at steps {k} le =
 pub appended_row : (picture : Picture) (y : ℕ) {current : Method} {count : ℕ} (old : List ℕ) {one mid new seed row : List ℕ} → row
     ≡ row_at (bitmap_rows picture) y → seed ≡ above picture y
     → IsLeastLength current (above picture y) (row_at (bitmap_rows picture) y) count → one ≡ old ++ least_spelling count → mid
-    ≡ one ++ 87 ∷ [] → AppendsLeast current seed row mid new
-    → AppendsRow picture y current count old new
+    ≡ one ++ 87 ∷ [] → AppendsLeast current seed row mid new → AppendsRow picture y current count old new
 appended_row picture y old r s least a b appends =
     let is = rw (r, s) at appends in
     (is.bytes, is.whole, least_alone is.least least, is.joined ∙ simp (b, a, append_assoc))

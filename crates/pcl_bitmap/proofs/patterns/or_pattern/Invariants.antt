@@ -9,6 +9,5 @@ invariant-loop-row l =
     let w = l.window in record {
       rows : AreInked l.row_bytes l.initial.page l.page l.area.x l.area.y l.area.width l.area.height l.row
           (line_or l.rows l.area.x l.area.y w.x w.y w.scale w.row_bytes);
-      held : (line : ℕ) → line + 1 + l.area.y ≡ l.row + w.y → l.area.y < l.row
-          → HasLine l.dots l.rows line w.x w.scale w.row_bytes l.count;
+      held : (line : ℕ) → line + 1 + l.area.y ≡ l.row + w.y → l.area.y < l.row → HasLine l.dots l.rows line w.x w.scale w.row_bytes l.count;
     }

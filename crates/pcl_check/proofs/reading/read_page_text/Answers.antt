@@ -113,8 +113,7 @@ returns-in-Some-true c =
     let page = c.args.page.now in
     let start = c.in-Some.start in
     let may : MayBe page.bitmap page.copies start c.if-eq.is_same = elim c.if-eq.branch [
-      | then-eq w ↦ may_by_copies page start c.eq.ensures w.if-eq.true
-          (w.is_same-is ∙ ap (λ (n : ℕ). start.copies == n) w.from.ensures)
+      | then-eq w ↦ may_by_copies page start c.eq.ensures w.if-eq.true (w.is_same-is ∙ ap (λ (n : ℕ). start.copies == n) w.from.ensures)
       | else-eq w ↦ may_by_size page start c.eq.ensures w.if-eq.false w.is_same-is
     ] in
     rw (sym page.size_is, sym page.dpi_is)
@@ -125,8 +124,7 @@ returns-in-Some-false c =
     let page = c.args.page.now in
     let start = c.in-Some.start in
     let may : MayBe page.bitmap page.copies start c.if-eq.is_same = elim c.if-eq.branch [
-      | then-eq w ↦ may_by_copies page start c.eq.ensures w.if-eq.true
-          (w.is_same-is ∙ ap (λ (n : ℕ). start.copies == n) w.from.ensures)
+      | then-eq w ↦ may_by_copies page start c.eq.ensures w.if-eq.true (w.is_same-is ∙ ap (λ (n : ℕ). start.copies == n) w.from.ensures)
       | else-eq w ↦ may_by_size page start c.eq.ensures w.if-eq.false w.is_same-is
     ] in
     let only = rw c.in-Some-false.field-0-test at c.in-Some-false.ensures in

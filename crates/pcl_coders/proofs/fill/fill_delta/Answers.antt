@@ -10,8 +10,7 @@ loop-place-init c = record { right = begun_right c.requires; next = λ none. abs
 -- the next start of a place, and what its number then is: right, and small
 placed : (c : goal.After-row_known-in-loop-place-1)
     → IsNextStart c.args.old.now c.args.row.now c.loop-place.out (c.loop-place.place - 1 + 1) (c.loop-place.place - 1) c.if-old-place.start
-    c.if-old-place.best
-    × AreRightFrom Delta c.args.old.now c.args.row.now (set c.loop-place.out (c.loop-place.place - 1)
+    c.if-old-place.best × AreRightFrom Delta c.args.old.now c.args.row.now (set c.loop-place.out (c.loop-place.place - 1)
     (replacement_bytes (c.if-old-place.start - (c.loop-place.place - 1)) + c.if-old-place.best)) (c.loop-place.place - 1)
     × (replacement_bytes (c.if-old-place.start - (c.loop-place.place - 1)) + c.if-old-place.best
     ≤ 2 * (length c.args.row.now - (c.loop-place.place - 1)))

@@ -36,8 +36,7 @@ unchecked : {F : Type 0} {acts : F → FileAct → F → Type 0} {files : F} {as
     × IsSeenAt asked.resolution (performed asked.beside input.items output.items) dpi
     × IsCheckedBeside asked.beside dpi input.items output.items certificate.items (Err fault)
     → IsCheckRun acts files asked held held (Err fault)
-unchecked held input output certificate dpi (Refused refusal) s =
-    ((input, output, certificate, dpi, s.0, s.1, s.2), Keeps-refl held)
+unchecked held input output certificate dpi (Refused refusal) s = ((input, output, certificate, dpi, s.0, s.1, s.2), Keeps-refl held)
 unchecked held input output certificate dpi Memory s = Keeps-refl held
 unchecked held input output certificate dpi other s = absurd s.2
 

@@ -6,8 +6,7 @@ use Rattle.pcl_command.proofs.messages.fault_line.Goals.{in-Refused+in_ok-extend
 -- the text of a fault between the program's name and a line feed
 said : {begun line : List ℕ} {vec told : Vec ℕ} {fault same : Fault} (page : ℕ) → begun ≡ codes "pclmin: " → same ≡ fault → vec ≡ told
     → told.items ≡ begun ++ text_of fault page → line ≡ vec.items ++ codes "\n" → line ≡ line_of same page
-said {fault = fault} page b f is t l =
-    rw (l, is, t, b, f) (append_assoc (codes "pclmin: ") (text_of fault page) (codes "\n"))
+said {fault = fault} page b f is t l = rw (l, is, t, b, f) (append_assoc (codes "pclmin: ") (text_of fault page) (codes "\n"))
 
 -- of a text in two parts
 both : (begun : List ℕ) {middle told : List ℕ} (first second : List ℕ) → middle ≡ begun ++ first → told ≡ middle ++ second

@@ -9,5 +9,4 @@ returns-in-len2-up g c =
     let found = second_word g.S.AsStr.text c.args.words.now c.word-item.result c.in-len2-up.len_at_least c.word-item.is in
     let same = found ∙ ap (λ (word : List ℕ). Some word) (sym c.as_str.ensures) in
     subst (λ (word : Option (List ℕ)). (IsTrue c.eq.result → word ≡ Some (codes "batch"))
-    × (word ≡ Some (codes "batch") → IsTrue c.eq.result))
-    (sym same) (search rules)
+    × (word ≡ Some (codes "batch") → IsTrue c.eq.result)) (sym same) (search rules)

@@ -6,5 +6,4 @@ returns-clause-certified c = certified_proved c.one_meaning.ensures.pages
 
 pub returns-clause-written : goal.returns-clause-written
 returns-clause-written c = λ dpi format input output certificate verdict w.
-    certified_proved c.one_meaning.ensures.pages dpi input output certificate verdict
-    (written_certified w)
+    certified_proved c.one_meaning.ensures.pages dpi input output certificate verdict (written_certified w)

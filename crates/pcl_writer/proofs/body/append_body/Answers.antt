@@ -15,8 +15,7 @@ pub append_step-requires : goal.append_step-requires
 append_step-requires c =
     let steps = c.steps-steps.result.now in
     let i = c.loop-i.i in
-    writable (slice_index_or steps i (Skip 0)) c.requires
-    (rw (drop_more steps i (Skip 0) c.loop-i-test.true) at c.loop-i.invariant.written)
+    writable (slice_index_or steps i (Skip 0)) c.requires (rw (drop_more steps i (Skip 0) c.loop-i-test.true) at c.loop-i.invariant.written)
 
 pub after-node-requires : goal.after-node-requires
 after-node-requires c =
@@ -40,5 +39,4 @@ loop-i-preserved c =
     record { front = joined_front (flat_map token_bytes written.done) written.spelled; written = written }
 
 pub returns-clause-ok : goal.returns-clause-ok
-returns-clause-ok c =
-    written_all (rw (drop_of_length-le c.steps-steps.result.now c.loop-i-test.false) at c.loop-i.invariant.written)
+returns-clause-ok c = written_all (rw (drop_of_length-le c.steps-steps.result.now c.loop-i-test.false) at c.loop-i.invariant.written)

@@ -24,6 +24,5 @@ returns-in-Switch-clause-ok c =
 
 pub returns-in-Row-clause-ok : goal.returns-in-Row-clause-ok
 returns-in-Row-clause-ok c =
-    on_ok_weaker c.append_row.result
-    (λ a. rw c.in-Row.is (send (least_spelling c.in-Row.bytes) a.0, (a.2, refl), a.1, a.3))
+    on_ok_weaker c.append_row.result (λ a. rw c.in-Row.is (send (least_spelling c.in-Row.bytes) a.0, (a.2, refl), a.1, a.3))
     c.append_row.ensures.ok

@@ -8,8 +8,7 @@ use Rattle.pcl_bitmap.proofs.bitmap.Bitmap.blit.Goals as goal
 use Rattle.pcl_bitmap.proofs.bitmap.Bitmap.blit.Goals.{then-left-page_width-via-then-left-page_width, then-left-page_width-via-else-left-page_width+then-top-page_height}
 
 -- the page after the pattern
-painted : (c : goal.After-self-2-1)
-    → let a = c.self.inside in
+painted : (c : goal.After-self-2-1) → let a = c.self.inside in
     IsDrawn a.size a.dpi a.bytes.items (with_items a.bytes c.or_pattern.new.page).items
     (λ px py before. pattern_dot c.args.x c.args.y c.args.scale c.args.width c.args.height c.args.rows.now px py || before)
 painted c =

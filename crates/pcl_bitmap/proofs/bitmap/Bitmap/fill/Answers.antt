@@ -15,8 +15,7 @@ same_rectangle c px py in_row on_page =
     (omega arith) (omega arith) (omega arith) (omega arith) in_row on_page
 
 -- the page after the rectangle
-filled : (c : goal.After-self-2-1)
-    → let a = c.self.inside in
+filled : (c : goal.After-self-2-1) → let a = c.self.inside in
     IsDrawn a.size a.dpi a.bytes.items (with_items a.bytes c.fill_rows.new.page).items
     (λ px py before. if rectangle_dot c.args.x c.args.y c.args.w c.args.h px py then is_black_ink c.args.ink else before)
 filled c =

@@ -7,8 +7,7 @@ use Rattle.pcl_bitmap.proofs.OneInk.{black_stays}
 use Rattle.pcl_bitmap.proofs.bitmap.Bitmap.paint_row.Goals as goal
 
 -- the page after the row
-painted : (c : goal.After-self-2-1)
-    → let a = c.self.inside in
+painted : (c : goal.After-self-2-1) → let a = c.self.inside in
     IsDrawn a.size a.dpi a.bytes.items (with_items a.bytes c.paint_squares.new.page).items
     (λ px py before. raster_dot c.args.x c.args.y c.args.scale c.args.width c.args.row.now px py || before)
 painted c =

@@ -16,8 +16,7 @@ returns-then-count-eq0 c = λ rows printed.
       | is_method next last b m p ↦ grind (arith, signed.1)
       | is_skip last others b some few r p ↦ elim c.then-count-eq0.branch [
         | then-count-eq0-via-then-count-eq0 w ↦ omega (arith, is.number_is, some, w.if-count-eq0.true)
-        | then-count-eq0-via-else-count-eq0+then-count-height w ↦
-            omega (arith, is.number_is, few, w.height.ensures, w.if-count-height.true)
+        | then-count-eq0-via-else-count-eq0+then-count-height w ↦ omega (arith, is.number_is, few, w.height.ensures, w.if-count-height.true)
       ]
       | is_send bytes more first others b m r some f row row_data p ↦ grind (arith, signed.1)
     ]

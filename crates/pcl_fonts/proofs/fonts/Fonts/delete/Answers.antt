@@ -7,5 +7,4 @@ returns c =
     let id = c.args.id in
     follows_at
     (changed c.self.inside.deletions c.self.inside.entries.entries c.swap_remove.new.self.entries id None c.self.invariant.unique
-    c.self.view_is c.swap_remove.ensures.unique c.swap_remove.ensures.updates.0 refl refl)
-    (one_steps id)
+    c.self.view_is c.swap_remove.ensures.unique c.swap_remove.ensures.updates.0 refl refl) (one_steps id)

@@ -18,8 +18,7 @@ returns-then-not-is_there c =
     let none = live_when d e c.if-not-is_there.ensures in
     follows_at
     (written d c.self.inside.entries c.args.id c.self.invariant.unique c.self.view_is (sym c.in-Some.ensures.value)
-    (c.get_mut.follows.holds e) none none)
-    (no_more_steps c.args.id c.args.code _ _ refl (λ its. grind arith))
+    (c.get_mut.follows.holds e) none none) (no_more_steps c.args.id c.args.code _ _ refl (λ its. grind arith))
 
 pub returns : goal.returns
 returns c =

@@ -8,5 +8,4 @@ returns-in-Some c =
     let es = c.self.inside.entries.entries in
     follows (control Temporary 0 0) (seen d es c.self.invariant.unique c.self.view_is (λ q. refl))
     (seen c.in-Some.deletions es c.self.invariant.unique refl
-    (λ q. rw c.in-Some.ensures.1 (one_more d (lookup (nat_eq q) es) (c.self.invariant.earlier q))))
-    (λ q. temporary_steps q _)
+    (λ q. rw c.in-Some.ensures.1 (one_more d (lookup (nat_eq q) es) (c.self.invariant.earlier q)))) (λ q. temporary_steps q _)

@@ -18,8 +18,7 @@ returns-then-not-is_there c =
     let none = live_when d e c.if-not-is_there.ensures in
     follows_at
     (written d c.self.inside.entries c.args.id c.self.invariant.unique c.self.view_is (sym c.in-Some.ensures.value)
-    (c.get_mut.follows.holds e) none none)
-    (mark_steps c.args.is_permanent c.args.id _ _ refl (λ its. refl))
+    (c.get_mut.follows.holds e) none none) (mark_steps c.args.is_permanent c.args.id _ _ refl (λ its. refl))
 
 pub returns : goal.returns
 returns c =

@@ -7,5 +7,4 @@ returns-in-Some c =
     let d = c.self.inside.deletions in
     let es = c.self.inside.bodies.entries in
     follows_only d c.in-Some.deletions es es (option_map begun_in c.self.inside.begun) (control Temporary 0) c.self.invariant.unique
-    c.self.invariant.unique c.self.view_is
-    (λ q. rw c.in-Some.ensures.1 (one_more d (lookup (nat_eq q) es) (c.self.invariant.earlier q)))
+    c.self.invariant.unique c.self.view_is (λ q. rw c.in-Some.ensures.1 (one_more d (lookup (nat_eq q) es) (c.self.invariant.earlier q)))

@@ -23,5 +23,4 @@ returns c =
     let d = c.self.inside.deletions in
     let es = c.self.inside.bodies.entries in
     follows_only d 0 es c.retain.new.self.entries (option_map begun_in c.self.inside.begun) (control Temporary 0)
-    c.self.invariant.unique c.retain.ensures.unique c.self.view_is
-    (λ q. ap (found 0) (left c q) ∙ kept d (lookup (nat_eq q) es))
+    c.self.invariant.unique c.retain.ensures.unique c.self.view_is (λ q. ap (found 0) (left c q) ∙ kept d (lookup (nat_eq q) es))

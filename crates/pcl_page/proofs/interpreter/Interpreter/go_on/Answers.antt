@@ -32,6 +32,5 @@ returns-in-Some-clause-less g c =
     (slice_get_within all c.args.newest.next (view c.in-Some.command) (sym c.in-Some.ensures.command)) in
     let new = work_left count c.perform_at.new.self.performer.performed c.perform_at.new.self.running.items in
     let middle = work_left count c.args.self.now.performer.performed (c.args.self.now.running.items ++ advanced c.args.newest ∷ []) in
-    let more : OnOk c.perform_at.result (new ≤ middle) =
-    rw c.push.ensures.items at (c.perform_at.ensures.no_more count) in
+    let more : OnOk c.perform_at.result (new ≤ middle) = rw c.push.ensures.items at (c.perform_at.ensures.no_more count) in
     on_ok_weaker c.perform_at.result (λ (le : new ≤ middle). omega (arith, le, less)) more

@@ -23,5 +23,4 @@ returns-in-Err-Refused-clause-done g c = λ all s at.
 
 pub returns-in-Err-Memory-clause-done : goal.returns-in-Err-Memory-clause-done
 returns-in-Err-Memory-clause-done g c = λ all s at.
-    stepped_short _ _ all _ _ s c.args.self.now c.try_command.new.self _ _
-    (rw c.in-Err-Memory.field-0-is at (c.in-Err-Memory.ensures s at))
+    stepped_short _ _ all _ _ s c.args.self.now c.try_command.new.self _ _ (rw c.in-Err-Memory.field-0-is at (c.in-Err-Memory.ensures s at))

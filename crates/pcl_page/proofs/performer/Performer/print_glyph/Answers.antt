@@ -5,8 +5,7 @@ use Rattle.pcl_page.proofs.performer.Performer.print_glyph.Goals as goal
 use Rattle.pcl_page.proofs.performer.Performer.print_glyph.Goals.{then-not-is_inked, else-not-is_inked}
 
 -- the character is drawn, now or before
-is_drawn : (c : goal.After-pass_glyph)
-    → (IsTrue c.args.is_inked
+is_drawn : (c : goal.After-pass_glyph) → (IsTrue c.args.is_inked
     → IsInked (character_at c.args.dpi (character_in c.args.glyph.now) c.args.here.x c.args.here.y) c.args.self.now)
     → IsDrawn (character_at c.args.dpi (character_in c.args.glyph.now) c.args.here.x c.args.here.y) c.args.self.now c.if-not-is_inked.self
     × (c.if-not-is_inked.self.raster ≡ c.args.self.now.raster)

@@ -18,9 +18,4 @@ returns c =
     ] in
     let method = c.method.ensures in
     let dots = λ (x y : ℕ). rw (method, or_is) at (c.send.ensures.dots x y) in
-    record {
-      raster = raster;
-      raster_is = is;
-      sent = rw (c.send.ensures.raster, method) refl;
-      drawn = search (rules, c.send.ensures, dots);
-    }
+    record { raster = raster; raster_is = is; sent = rw (c.send.ensures.raster, method) refl; drawn = search (rules, c.send.ensures, dots) }

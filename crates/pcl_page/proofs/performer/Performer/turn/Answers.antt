@@ -20,8 +20,7 @@ pub returns-clause-turned : goal.returns-clause-turned
 returns-clause-turned g c = λ s i.
     elim c.if-ejects.branch [
       | then-ejects+else-self-ge-PAGE_LIMIT+in_ok-eject w ↦
-          let f : IsFollowed w.eject.new.self c.follow_size.new.self =
-          rw w.self-is at c.in_ok-follow_size.ensures in
+          let f : IsFollowed w.eject.new.self c.follow_size.new.self = rw w.self-is at c.in_ok-follow_size.ensures in
           rw w.sink-is
           (turned_ejects _ _ _ _ _ s _ c.args.self.now w.eject.new.self c.follow_size.new.self _ _ (ejected_as _ _ _ _ _ _ i c.in-Ok.ensures
           (sym c.ejects.ensures ∙ w.if-ejects.true) (omega (arith, w.if-self-ge-PAGE_LIMIT.false)) c.copies-copies.ensures.value

@@ -6,8 +6,7 @@ use Rattle.pcl_tool.proofs.written_job.WrittenJobPageSink.page.Goals as goal
 pub overflow_cast-proof : goal.overflow_cast-proof
 overflow_cast-proof c =
     let a = c.in_ok-write_page.ensures.ok in
-    let proof : PageProof =
-    record { text_len = length a.0; table = c.in_ok-least.least.table; places = c.in_ok-places.places } in
+    let proof : PageProof = record { text_len = length a.0; table = c.in_ok-least.least.table; places = c.in_ok-places.places } in
     let p = plan_proves c.in-Some.format c.args.page.now a.0 _ proof c.in_ok-least.ensures a.2 c.in_ok-places.ensures refl refl in
     omega (arith, p.can_be_said.text_len, ap length a.1, length-append c.self.inside.bytes.items a.0, c.len.ensures, c.len-before.ensures)
 
