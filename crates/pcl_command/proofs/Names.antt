@@ -25,7 +25,7 @@ pub use Rattle.pcl_same.specs.declared.comparison.AskedComparison.TheVariants.{A
 pub use Rattle.pcl_same.specs.declared.comparison.Comparison.{Comparison}
 pub use Rattle.pcl_same.specs.declared.fault.SameFault.{SameFault}
 pub use Rattle.pcl_shrink.proofs.Names.{IsShrunk, IsSmallerJob}
-pub use Rattle.pcl_explain.proofs.Names.{Explains}
+pub use Rattle.pcl_explain.specs.Findings.{Explains}
 pub use Rattle.pcl_pages.specs.Describing.{IsDescribed}
 pub use Rattle.pcl_request.specs.Requests.{performed}
 pub use Rattle.pcl_request.specs.declared.request.CheckedFiles.{CheckedFiles}

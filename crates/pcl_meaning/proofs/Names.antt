@@ -23,7 +23,8 @@ pub use Rattle.pcl_bitmap.proofs.Bytes.{bit_of_byte-zero}
 pub use Rattle.pcl_bitmap.proofs.Names.{Picture, bit_of_byte, dot, dot_of_row, raster_dot}
 pub use Rattle.pcl_bitmap.proofs.Pictures.{same_dots}
 pub use Rattle.pcl_bitmap.specs.declared.page.Page.{Page}
-pub use Rattle.pcl_env.proofs.Names.{Settings, before_feed, defaults, nothing_asked, outcome, put, put_x, put_y, return_carriage, to_first_line, with_size}
+pub use Rattle.pcl_env.specs.Outcome.{before_feed, outcome, return_carriage}
+pub use Rattle.pcl_env.specs.Settings.{Settings, defaults, nothing_asked, put, put_x, put_y, to_first_line, with_size}
 pub use Rattle.pcl_env.specs.declared.asked.Asked.{Asked}
 pub use Rattle.pcl_env.specs.declared.effect.Effect.{Effect}
 pub use Rattle.pcl_escape.proofs.Names.{ArePieces, IsEnd, IsMiddle, IsPiece, IsPrefix, IsReading, Parameter, Piece, Said, Spelled, combined, commands_from, commands_of, data_checks, field_value, first_place, in_range, is_exit, is_last, may_go_on, parameter_bytes, parameter_commands, parameter_name, prefix_bytes, spelling, two_character}

@@ -19,7 +19,8 @@ pub use Rattle.pcl_base.specs.declared.value.Value.{Value}
 pub use Rattle.pcl_bitmap.proofs.Names.{IsSamePage, Picture, dot, raster_dot}
 pub use Rattle.pcl_bitmap.specs.declared.ink.Ink.TheVariants.{Black}
 pub use Rattle.pcl_bitmap.specs.declared.page.Page.{Page}
-pub use Rattle.pcl_env.proofs.Names.{Answers, Outcome, Position, Settings, advance, defaults, font_in_use, font_of, kept, move_along, outcome, popped, put, put_x, restored, set_method, set_rectangle, set_size, stays, to_first_line}
+pub use Rattle.pcl_env.specs.Outcome.{Answers, Outcome, move_along, outcome, popped, set_method, set_rectangle, set_size, stays}
+pub use Rattle.pcl_env.specs.Settings.{Position, Settings, advance, defaults, font_in_use, font_of, kept, put, put_x, restored, to_first_line}
 pub use Rattle.pcl_env.specs.declared.asked.Asked.{Asked}
 pub use Rattle.pcl_env.specs.declared.effect.Effect.{Effect}
 pub use Rattle.pcl_env.specs.declared.effect.Effect.TheVariants.{Eject, EjectMarked, Stay}

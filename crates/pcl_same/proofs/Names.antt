@@ -14,7 +14,8 @@ pub use Rattle.pcl_base.specs.declared.value.Value.{Value}
 pub use Rattle.pcl_bitmap.proofs.Names.{IsPicture, Picture, bit_of_byte, dot, dot_of_row, raster_dot, row_of}
 pub use Rattle.pcl_bitmap.proofs.Pictures.{same_dots}
 pub use Rattle.pcl_bitmap.specs.declared.page.Page.{Page}
-pub use Rattle.pcl_env.proofs.Names.{Settings, defaults, font_in_use, nothing_asked, outcome}
+pub use Rattle.pcl_env.specs.Outcome.{outcome}
+pub use Rattle.pcl_env.specs.Settings.{Settings, defaults, font_in_use, nothing_asked}
 pub use Rattle.pcl_env.specs.declared.asked.Asked.{Asked}
 pub use Rattle.pcl_env.specs.declared.effect.Effect.{Effect}
 pub use Rattle.pcl_env.specs.declared.effect.Effect.TheVariants.{EjectMarked}

@@ -5,7 +5,7 @@ pub use Rattle.pcl_base.specs.declared.fault.JobFault.{JobFault}
 pub use Rattle.pcl_base.specs.declared.fault.JobFault.TheVariants.{Memory, Refused}
 pub use Rattle.pcl_base.specs.declared.refusal.Refusal.{Refusal}
 pub use Rattle.pcl_bitmap.proofs.Names.{IsPicture}
-pub use Rattle.pcl_env.proofs.Names.{nothing_asked}
+pub use Rattle.pcl_env.specs.Settings.{nothing_asked}
 pub use Rattle.pcl_env.specs.declared.asked.Asked.{Asked}
 pub use Rattle.pcl_output.proofs.Names.{frame_bytes}
 pub use Rattle.pcl_page.proofs.Jobs.{accepted_pages, has_pages}

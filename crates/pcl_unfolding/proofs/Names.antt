@@ -10,7 +10,7 @@ pub use Rattle.pcl_base.specs.declared.operation.Operation.TheVariants.{ControlM
 pub use Rattle.pcl_base.specs.declared.refusal.Refusal.{Refusal}
 pub use Rattle.pcl_base.specs.declared.value.Sign.TheVariants.{Absent}
 pub use Rattle.pcl_base.specs.declared.value.Value.{Value}
-pub use Rattle.pcl_env.proofs.Names.{Settings, kept}
+pub use Rattle.pcl_env.specs.Settings.{Settings, kept}
 pub use Rattle.pcl_escape.proofs.Names.{Said}
 pub use Rattle.pcl_macros.proofs.Names.{MacroBody}
 pub use Rattle.pcl_page.proofs.Names.{Performance, Run, Situation, after_command, after_end, and_run, concluded, counting, defining, done, in_order, keeping_of, macro_ended, run_by, run_from, run_with, runs, step, then_on}
