@@ -9,8 +9,9 @@ crate high up reads a tenth of what `rt check` has it read. What is stated is ke
 beside it, and a crate is built again once a file of it, or of a crate below, or the kit has changed. A program is left in
 crates/NAME/out/NAME, a static library in crates/NAME/out/libNAME.a.
 
-As many crates as there are processors, or as LANES says, are built at a time. Each has a few jobs, since a job reads and ends alone;
-so there are more of them than processors, and all but those of the crate that most work waits for are nice.
+A crate has one job, since two take a third more of the processors, unless there are fewer crates to build than processors. There are a
+few jobs more than processors, since a crate is read by one job alone, and all but those of the crate that most work waits for are nice.
+LANES bounds how many processors are taken.
 
     lanes.py --check pcl_tool [FLAG..]
 
@@ -37,6 +38,8 @@ KIT = pathlib.Path(subprocess.run(["rt", "doc"], stdout=subprocess.PIPE, text=Tr
 FIRST_JOB = 3_000_000_000  # bytes that a large check may take with one job
 FURTHER_JOB = 1_000_000_000  # bytes of each further job
 READING = 10  # seconds that a check reads before it proves anything
+SPARE = 2  # so many jobs more than processors
+MOST_JOBS = 4  # of a crate
 
 
 class Crate:
@@ -147,7 +150,7 @@ class Build:
     """A crate that is being built."""
 
     def __init__(self, crate, jobs, is_first):
-        self.crate, self.began = crate, time.monotonic()
+        self.crate, self.jobs, self.began = crate, jobs, time.monotonic()
         self.log = LANES / f"{crate.name}.log"
         crate.stamp_file.unlink(missing_ok=True)
         if crate.made.is_dir():
@@ -202,11 +205,6 @@ def within_memory(jobs):
     return max(1, min(jobs, 1 + (free_memory() - FIRST_JOB) // FURTHER_JOB))
 
 
-def jobs_of(is_first, processors):
-    """How many jobs a crate gets."""
-    return within_memory(min(3, processors) if is_first else max(1, processors // 2))
-
-
 def build(names, processors):
     """Builds the crates of these names and all below them that aren't built; the status is 1 where one isn't proved. Of two runs one
     waits for the other."""
@@ -227,11 +225,13 @@ def build_alone(names, processors):
     try:
         while left or running:
             awaited = {*left, *(it.crate for it in running)}
-            for crate in [it for it in left if awaited.isdisjoint(it.uses)]:
-                if len(running) < processors and (not running or free_memory() > FIRST_JOB):
+            ready = [it for it in left if awaited.isdisjoint(it.uses)]
+            for at, crate in enumerate(ready):
+                idle = processors + SPARE - sum(it.jobs for it in running)
+                if idle > 0 and (not running or free_memory() > FIRST_JOB):
                     left.remove(crate)
-                    is_first = all(chain[crate] >= chain[it.crate] for it in running)
-                    running.append(Build(crate, jobs_of(is_first, processors), is_first))
+                    jobs = within_memory(max(1, min(MOST_JOBS, idle // (len(ready) - at))))
+                    running.append(Build(crate, jobs, all(chain[crate] >= chain[it.crate] for it in running)))
             time.sleep(0.1)
             for it in [it for it in running if it.has_ended()]:
                 running.remove(it)
