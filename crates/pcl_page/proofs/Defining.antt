@@ -1,14 +1,12 @@
 -- The command that ends a definition counts, and runs no macro.
 use Rattle.std.proofs.Common.{◌≡◌, ℕ, Bool, true, cond, [], Option, Some, None, Result, Ok, refl, sym, ap, ◌∙◌, append-nil, arith}
-use Rattle.pcl_page.proofs.Names.{is_some, Dpi, CallFault, Operation, ControlMacros, Value, operation_of, Said, is_begun, Page, Interpreter, Action, End, Keeping, Kept, Ends, Situation, Run, action_of, control_keeping, keeping_of, counting, defining, after_command, run_by, run_from, run_of, IsAt, IsStepped}
+use Rattle.pcl_page.proofs.Interpreted.{runs_none}
+use Rattle.pcl_page.proofs.Names.{is_some, Dpi, CallFault, Operation, ControlMacros, Value, operation_of, Said, is_begun, Page, Interpreter, Action, End, Keeping, Kept, Ends, Situation, action_of, control_keeping, keeping_of, counting, defining, after_command, run_by, run_from, run_of, IsAt, IsStepped}
 
 command_inside : (dpi : Dpi) (place : ℕ) (command : Said) (s : Situation) {keeping : Keeping} → is_some s.begun ≡ true
     → keeping_of (operation_of command.name) command.value ≡ keeping
     → after_command dpi place command s ≡ defining dpi place keeping command s
 command_inside dpi place command s e k = rw (e, k) refl
-
-abbrev runs_none : Situation → Option Run
-runs_none later = None
 
 run_inside : (command : Said) (s : Situation) → is_some s.begun ≡ true → run_of command s ≡ runs_none
 run_inside command s e = ap (λ (b : Bool). λ (later : Situation). cond b None (run_from (operation_of command.name) command.value later)) e

@@ -1,6 +1,6 @@
 -- The interpreter follows the situation, command by command.
 use Rattle.std.proofs.Common.{◌≡◌, ℕ, ◌+◌, Bool, true, false, cond, List, ◌∷◌, Option, Some, None, Result, Ok, Err, refl, sym, ◌∙◌, append-nil, inl, inr, rules}
-use Rattle.pcl_page.proofs.Names.{is_some, option_map, Dpi, CallFault, Refused, Memory, JobFault, Kind, Operation, ControlMacros, Value, operation_of, Effect, Stay, Settings, kept, Outcome, Said, MacroControl, Temporary, MacroEvent, control, Begun, Controls, macro_at, is_begun, Page, Performer, Interpreter, Begin, Execute, Call, Control, Run, acted, managed, counting, run_by, run_from, run_with, macro_now, IsIn, HandsMore, IsTried, EndDone, IsAt, Enters, IsStepped, IsActed, IsEntered, InterpreterEnds}
+use Rattle.pcl_page.proofs.Names.{is_some, option_map, Dpi, CallFault, Refused, Memory, JobFault, Kind, Operation, ControlMacros, Value, operation_of, Effect, Stay, Settings, kept, Outcome, Said, MacroControl, MacroEvent, control, Begun, Controls, macro_at, is_begun, Page, Performer, Interpreter, Begin, Execute, Call, Control, Run, acted, managed, counting, run_by, run_from, run_with, macro_now, IsIn, HandsMore, IsTried, EndDone, IsAt, Enters, IsStepped, IsActed, IsEntered, InterpreterEnds}
 use Rattle.pcl_base.specs.declared.fault.JobFault.TheVariants as job
 use Rattle.pcl_env.specs.Outcome.{outcome}
 use Rattle.pcl_macros.proofs.Histories.{holds_after}
@@ -10,7 +10,7 @@ use Rattle.pcl_page.proofs.Steps.{only_stays, stays_pages, no_more}
 use Rattle.pcl_page.proofs.Unfolded.{managed_acts}
 
 -- nothing runs
-abbrev runs_none : Situation → Option Run
+abbrev pub runs_none : Situation → Option Run
 runs_none later = None
 
 -- ---- a command that counts
@@ -116,71 +116,64 @@ in_macros : {dpi : Dpi} {events : List MacroEvent} {begun : Option Begun} {s : S
     → IsIn dpi s old → IsIn dpi (record s { macros = events; begun = begun }) new
 in_macros same i = rw same (search rules)
 
--- one event more
-pub event_done : {dpi : Dpi} {event : MacroEvent} {s : Situation} {old new : Interpreter} → IsAt dpi s old
-    → new.performer ≡ old.performer → Controls old.macros new.macros event → IsAt dpi (record s { macros = event ∷ s.macros }) new
-event_done {event} {s} {old} {new} at same c = record {
-  is_in = in_macros same at.is_in;
-  macros = holds_after old.macros new.macros event s.macros c.0 at.macros;
-  begun = c.1 ∙ at.begun;
-}
+module _ {dpi : Dpi} {s : Situation} {old : Interpreter} (at : IsAt dpi s old) where
+  -- no macro begins to run
+  idle_still : (new : Interpreter) → new.running ≡ old.running → Enters None old.running.items new.running.items
+  idle_still new run = (rw run (sym (append-nil old.running.items)), tt)
 
--- no macro begins to run
-idle_still : (old new : Interpreter) → new.running ≡ old.running → Enters None old.running.items new.running.items
-idle_still old new run = (rw run (sym (append-nil old.running.items)), tt)
+  -- one event more
+  pub event_acted : {event : MacroEvent} {new : Interpreter} → new.performer ≡ old.performer → new.running ≡ old.running
+      → Controls old.macros new.macros event → IsActed dpi (Ok (record s { macros = event ∷ s.macros })) runs_none (Ok tt) old new
+  event_acted {event} {new} same run c = (
+    _,
+    refl,
+    record {
+      is_in = in_macros same at.is_in;
+      macros = holds_after old.macros new.macros event s.macros c.0 at.macros;
+      begun = c.1 ∙ at.begun;
+    },
+    idle_still new run,
+  )
 
-pub control_acted : {dpi : Dpi} {what : MacroControl} {id : ℕ} (place : ℕ) {s : Situation} {old new : Interpreter} → IsAt dpi s old
-    → id ≡ old.performer.environment.macro_id → new.performer ≡ old.performer → new.running ≡ old.running
-    → Controls old.macros new.macros (control what id)
-    → IsActed dpi (acted place (Some (Control what)) s) (run_by (Some (Control what))) (Ok tt) old new
-control_acted {what} {id} place {s} {old} {new} at i same run c =
-    let id_is : id ≡ s.settings.macro_id = cc (i, at.is_in.settings) in
-    (_, refl, event_done at same (rw id_is at c), idle_still old new run)
+  -- a macro begins to run
+  enter_acted : (run_after : Situation → Option Run) (run : Option Run) (new : Interpreter) (result : Result (Unit {0}) CallFault)
+      → run ≡ run_after s → IsEntered run result old new → IsActed dpi (Ok s) run_after result old new
+  enter_acted run_after run new (Ok unit) e h =
+      (s, refl, record { is_in = rw h.1 at.is_in; macros = rw h.2 at.macros; begun = rw h.2 at.begun }, rw e at h.0)
+  enter_acted run_after (Some run) new (Err (Refused kind)) e h = inr (s, run, refl, sym e, h.0, h.1)
+  enter_acted run_after run new result e h = absurd h
 
-pub reset_acted : {dpi : Dpi} {s : Situation} {old new : Interpreter} → IsAt dpi s old
-    → new.performer ≡ old.performer → new.running ≡ old.running → Controls old.macros new.macros (control Temporary 0)
-    → IsActed dpi (Ok (record s { macros = control Temporary 0 ∷ s.macros })) runs_none (Ok tt) old new
-reset_acted {old = old} {new} at same run c = (_, refl, event_done at same c, idle_still old new run)
+  module _ {id : ℕ} (i : id ≡ old.performer.environment.macro_id) where
+    id_is : id ≡ s.settings.macro_id
+    id_is = cc (i, at.is_in.settings)
 
--- a definition begins
-pub begin_acted : {dpi : Dpi} {id : ℕ} (place : ℕ) {s : Situation} {old new : Interpreter} → IsAt dpi s old
-    → id ≡ old.performer.environment.macro_id → new.performer ≡ old.performer → new.running ≡ old.running
-    → new.macros ≡ record old.macros { begun = Some (record { id = id; from = place + 1 }) }
-    → IsActed dpi (acted place (Some Begin) s) (run_by (Some Begin)) (Ok tt) old new
-begin_acted {id} place {s} {old} {new} at i same run m =
-    let id_is : id ≡ s.settings.macro_id = cc (i, at.is_in.settings) in
-    (_, refl, record { is_in = in_macros same at.is_in; macros = rw m at.macros; begun = rw (m, id_is) refl }, idle_still old new run)
+    pub control_acted : {what : MacroControl} {new : Interpreter} (place : ℕ) → new.performer ≡ old.performer
+        → new.running ≡ old.running → Controls old.macros new.macros (control what id)
+        → IsActed dpi (acted place (Some (Control what)) s) (run_by (Some (Control what))) (Ok tt) old new
+    control_acted place same run c = event_acted same run (rw id_is at c)
 
--- a macro begins to run
-pub enter_acted : {dpi : Dpi} (run_after : Situation → Option Run) (run : Option Run) {s : Situation} {old : Interpreter}
-    (new : Interpreter)
-    (result : Result (Unit {0}) CallFault) → IsAt dpi s old → run ≡ run_after s → IsEntered run result old new
-    → IsActed dpi (Ok s) run_after result old new
-enter_acted run_after run {s} new (Ok unit) at e h =
-    (s, refl, record { is_in = rw h.1 at.is_in; macros = rw h.2 at.macros; begun = rw h.2 at.begun }, rw e at h.0)
-enter_acted run_after (Some run) {s} new (Err (Refused kind)) at e h = inr (s, run, refl, sym e, h.0, h.1)
-enter_acted run_after run new result at e h = absurd h
+    -- a definition begins
+    pub begin_acted : {new : Interpreter} (place : ℕ) → new.performer ≡ old.performer → new.running ≡ old.running
+        → new.macros ≡ record old.macros { begun = Some (record { id = id; from = place + 1 }) }
+        → IsActed dpi (acted place (Some Begin) s) (run_by (Some Begin)) (Ok tt) old new
+    begin_acted {new} place same run m =
+        (_, refl, record { is_in = in_macros same at.is_in; macros = rw m at.macros; begun = rw (m, id_is) refl }, idle_still new run)
 
--- the macro that is meant
-macro_found : {dpi : Dpi} {id : ℕ} {s : Situation} {old : Interpreter} → IsAt dpi s old → id ≡ old.performer.environment.macro_id
-    → macro_at old.macros id ≡ macro_now s
-macro_found {id} at i = at.macros id ∙ cc (i, at.is_in.settings)
+    -- the macro that is meant
+    found : macro_at old.macros id ≡ macro_now s
+    found = at.macros id ∙ cc (i, at.is_in.settings)
 
-pub execute_acted : {dpi : Dpi} {id : ℕ} {s : Situation} {old : Interpreter} (new : Interpreter) (result : Result (Unit {0}) CallFault)
-    → IsAt dpi s old
-    → id ≡ old.performer.environment.macro_id → IsEntered (option_map (run_with None) (macro_at old.macros id)) result old new
-    → IsActed dpi (Ok s) (run_by (Some Execute)) result old new
-execute_acted {id} {old} new result at i h =
-    enter_acted _ (option_map (run_with None) (macro_at old.macros id)) new result at (rw (macro_found at i) refl) h
+    pub execute_acted : (new : Interpreter) (result : Result (Unit {0}) CallFault)
+        → IsEntered (option_map (run_with None) (macro_at old.macros id)) result old new
+        → IsActed dpi (Ok s) (run_by (Some Execute)) result old new
+    execute_acted new result = enter_acted _ (option_map (run_with None) (macro_at old.macros id)) new result (rw found refl)
 
-pub call_acted : {dpi : Dpi} {id : ℕ} {saved : Settings} {s : Situation} {old : Interpreter} (new : Interpreter)
-    (result : Result (Unit {0}) CallFault)
-    → IsAt dpi s old → id ≡ old.performer.environment.macro_id → saved ≡ kept old.performer.environment
-    → IsEntered (option_map (run_with (Some saved)) (macro_at old.macros id)) result old new
-    → IsActed dpi (Ok s) (run_by (Some Call)) result old new
-call_acted {id} {saved} {s} {old} new result at i k h =
-    let same : saved ≡ kept s.settings = rw at.is_in.settings at k in
-    enter_acted _ (option_map (run_with (Some saved)) (macro_at old.macros id)) new result at (rw (macro_found at i, same) refl) h
+    pub call_acted : {saved : Settings} (new : Interpreter) (result : Result (Unit {0}) CallFault) → saved ≡ kept old.performer.environment
+        → IsEntered (option_map (run_with (Some saved)) (macro_at old.macros id)) result old new
+        → IsActed dpi (Ok s) (run_by (Some Call)) result old new
+    call_acted {saved} new result k =
+        let same : saved ≡ kept s.settings = rw at.is_in.settings at k in
+        enter_acted _ (option_map (run_with (Some saved)) (macro_at old.macros id)) new result (rw (found, same) refl)
 
 -- ---- the end
 

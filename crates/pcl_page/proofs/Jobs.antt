@@ -1,9 +1,9 @@
 -- Performing a job, place by place, up to the whole.
-use Rattle.std.proofs.Common.{◌≡◌, ℕ, ◌+◌, List, [], ◌∷◌, ◌++◌, Option, Some, None, Result, Ok, Err, refl, sym, ap, ◌∙◌, append_assoc, append-nil, rules}
-use Rattle.pcl_page.proofs.Names.{Dpi, JobFault, Kind, macro_limit, refusal, Said, Page, Performer, Interpreter, Running, Sheet, Situation, at_end, HasPages, performance_of, AllShow, IsPerformed, Hands, HandsOver, Shows, Performance, done, then_on, step, runs, after_all, end_refusal, ended, after_end, pages_of, IsSamePage, IsAt, resumed, begun_among, GoesOn, InterpreterEnds, IsAsking}
+use Rattle.std.proofs.Common.{◌≡◌, ℕ, ◌+◌, List, [], ◌∷◌, ◌++◌, Some, None, Result, Ok, Err, refl, sym, ap, ◌∙◌, append_assoc, append-nil, rules}
+use Rattle.pcl_page.proofs.Names.{Dpi, JobFault, macro_limit, refusal, Said, Page, Performer, Interpreter, Running, Sheet, Situation, at_end, HasPages, performance_of, AllShow, IsPerformed, Hands, HandsOver, Shows, Performance, done, then_on, step, runs, after_all, end_refusal, ended, after_end, pages_of, IsSamePage, IsAt, resumed, begun_among, GoesOn, InterpreterEnds, IsAsking}
 use Rattle.pcl_base.specs.declared.fault.JobFault.TheVariants.{Refused, Memory}
 use Rattle.pcl_page.proofs.Keeping.{end_adds}
-use Rattle.pcl_page.proofs.Sinks.{stays_there, hands_append, hands_further, goes_from, goes_to}
+use Rattle.pcl_page.proofs.Sinks.{Onward, stays_there, hands_append, hands_further, goes_from, goes_to}
 use Rattle.pcl_page.proofs.Unfolded.{Grows, then_done, then_assoc, then_grows, all_grow}
 
 -- ---- what is still to be performed
@@ -12,14 +12,11 @@ use Rattle.pcl_page.proofs.Unfolded.{Grows, then_done, then_assoc, then_grows, a
 abbrev pub rest_of_job : Dpi → ℕ → List Said → ℕ → List Said → Situation → Performance
 rest_of_job dpi end all place commands s = then_on (after_all dpi all place commands s) (after_end dpi end)
 
-ended_grows : (dpi : Dpi) (end : ℕ) (why : Option Kind) → Grows (ended dpi end why)
-ended_grows dpi end None = λ s. end_adds dpi s
-ended_grows dpi end (Some kind) = stays_there
-
 end_grows : (dpi : Dpi) (end : ℕ) → Grows (after_end dpi end)
-end_grows dpi end = λ s. ended_grows dpi end (end_refusal dpi s) s
+end_grows dpi end = λ s.
+    elim (end_refusal dpi s) as (λ why. Onward s (ended dpi end why s).situation) [ None ↦ end_adds dpi s | Some kind ↦ stays_there s ]
 
-rest_grows : (dpi : Dpi) (end : ℕ) (all : List Said) (place : ℕ) (commands : List Said) → Grows (rest_of_job dpi end all place commands)
+pub rest_grows : (dpi : Dpi) (end : ℕ) (all : List Said) (place : ℕ) (commands : List Said) → Grows (rest_of_job dpi end all place commands)
 rest_grows dpi end all place commands = λ s.
     then_grows (after_all dpi all place commands s) s _ (all_grow dpi all place commands s) (end_grows dpi end)
 
@@ -60,77 +57,69 @@ module _ {S : Type 0} (takes : S → Page → S → Type 0) (dpi : Dpi) (all : L
       let o = then_grows first first.situation f (stays_there first.situation) g in
       rw (← e) (s.pages ++ on.0, on.1 ++ o.0, rw (o.1, on.2) (simp append_assoc), hands_append takes dpi s.pages on.0 old now then h on.3)
 
+-- a command of a place that was reached, where no macro runs
 module _ {S : Type 0} (takes : S → Page → S → Type 0) (dpi : Dpi) (end : ℕ) (all : List Said) (whole : Performance) (place : ℕ)
-    (command : Said) (commands : List Said) where
-  abbrev from_here : Situation → Performance
-  from_here = rest_of_job dpi end all place (command ∷ commands)
+    (command : Said) (commands : List Said) (first : Interpreter) (old now : S)
+    (r : IsReached takes dpi whole (rest_of_job dpi end all place (command ∷ commands)) first old now) where
+  abbrev it : Performance
+  it = next_step dpi all place command r.situation
 
   abbrev after_it : Situation → Performance
   after_it = rest_of_job dpi end all (place + 1) commands
 
-  abbrev it : Situation → Performance
-  it = next_step dpi all place command
+  -- what it has led to, its macros aside, which are still to be performed
+  abbrev HasBegun : Result (Unit {0}) JobFault → Interpreter → S → Type 0
+  HasBegun result last then =
+      GoesOn takes dpi all (begun_among dpi all place command first.running.items r.situation) r.situation result last now then
 
-  -- the performing of a command stopped
-  pub command_stopped : (first last : Interpreter) (old now then : S) (fault : JobFault)
-      → (r : IsReached takes dpi whole from_here first old now)
-      → GoesOn takes dpi all (begun_among dpi all place command first.running.items r.situation) r.situation (Err fault) last now then
+  it_goes : (result : Result (Unit {0}) JobFault) (last : Interpreter) (then : S) → HasBegun result last then
+      → GoesOn takes dpi all it r.situation result last now then
+  it_goes result last then =
+      goes_to takes dpi all _ _ r.situation result last now then (begun_alone dpi all place command r.situation r.idle)
+
+  it_and_after : then_on it after_it ≡ whole
+  it_and_after = sym (rest_next dpi end all place command commands r.situation) ∙ r.same
+
+  it_stopped : (last : Interpreter) (then : S) (fault : JobFault) → GoesOn takes dpi all it r.situation (Err fault) last now then
       → HandsOver takes dpi whole (Err fault) old then
-  command_stopped first last old now then fault r on =
-      let s = r.situation in
-      stopped_on takes dpi all whole (it s) after_it s last old now then fault r.handed
-      (sym (rest_next dpi end all place command commands s) ∙ r.same) (rest_grows dpi end all (place + 1) commands)
-      (goes_to takes dpi all _ _ s (Err fault) last now then (begun_alone dpi all place command s r.idle) on)
+  it_stopped last then fault =
+      stopped_on takes dpi all whole it after_it r.situation last old now then fault r.handed it_and_after
+      (rest_grows dpi end all (place + 1) commands)
 
-  -- what a command has led to, whose macros are still to be performed
-  pub record HasBegun (middle : Interpreter) (old now then : S) : Type 0 where
-    pub from : Situation
-    pub handed : Hands takes dpi from.pages old now
-    pub same : from_here from ≡ whole
-    pub on : GoesOn takes dpi all (it from) from (Ok tt) middle now then
-
-  pub has_begun : (first middle : Interpreter) (old now then : S) → (r : IsReached takes dpi whole from_here first old now)
-      → GoesOn takes dpi all (begun_among dpi all place command first.running.items r.situation) r.situation (Ok tt) middle now then
-      → HasBegun middle old now then
-  has_begun first middle old now then r on = record {
-    from = r.situation;
-    handed = r.handed;
-    same = r.same;
-    on = goes_to takes dpi all _ _ r.situation (Ok tt) middle now then (begun_alone dpi all place command r.situation r.idle) on;
-  }
+  -- the performing of the command stopped
+  pub command_stopped : (last : Interpreter) (then : S) (fault : JobFault) → HasBegun (Err fault) last then
+      → HandsOver takes dpi whole (Err fault) old then
+  command_stopped last then fault on = it_stopped last then fault (it_goes (Err fault) last then on)
 
   -- its macros, performed from there
-  macros_on : (middle last : Interpreter) (old now then later : S) (result : Result (Unit {0}) JobFault)
-      → (b : HasBegun middle old now then) → ((s : Situation) → IsAt dpi s middle
+  macros_on : (middle last : Interpreter) (then later : S) (result : Result (Unit {0}) JobFault) → HasBegun (Ok tt) middle then
+      → ((s : Situation) → IsAt dpi s middle
       → GoesOn takes dpi all (resumed macro_limit dpi all middle.running.items s) s result last then later)
-      → GoesOn takes dpi all (it b.from) b.from result last now later
-  macros_on middle last old now then later result b f =
-      let g = b.on in
-      goes_from takes dpi all _ b.from g.0 result last now then later g.2
+      → GoesOn takes dpi all it r.situation result last now later
+  macros_on middle last then later result b f =
+      let g = it_goes (Ok tt) middle then b in
+      goes_from takes dpi all _ r.situation g.0 result last now then later g.2
       (goes_to takes dpi all _ _ g.0 result last then later g.3 (f g.0 g.1))
 
-  pub macros_stopped : (middle last : Interpreter) (old now then later : S) (fault : JobFault) → (b : HasBegun middle old now then)
+  pub macros_stopped : (middle last : Interpreter) (then later : S) (fault : JobFault) → HasBegun (Ok tt) middle then
       → ((s : Situation) → IsAt dpi s middle
       → GoesOn takes dpi all (resumed macro_limit dpi all middle.running.items s) s (Err fault) last then later)
       → HandsOver takes dpi whole (Err fault) old later
-  macros_stopped middle last old now then later fault b f =
-      stopped_on takes dpi all whole (it b.from) after_it b.from last old now later fault b.handed
-      (sym (rest_next dpi end all place command commands b.from) ∙ b.same) (rest_grows dpi end all (place + 1) commands)
-      (macros_on middle last old now then later (Err fault) b f)
+  macros_stopped middle last then later fault b f = it_stopped last later fault (macros_on middle last then later (Err fault) b f)
 
-  pub macros_reached : (middle last : Interpreter) (old now then later : S) → (b : HasBegun middle old now then)
+  pub macros_reached : (middle last : Interpreter) (then later : S) → HasBegun (Ok tt) middle then
       → ((s : Situation) → IsAt dpi s middle
       → GoesOn takes dpi all (resumed macro_limit dpi all middle.running.items s) s (Ok tt) last then later)
       → last.running.items ≡ [] → IsReached takes dpi whole after_it last old later
-  macros_reached middle last old now then later b f idle =
-      let g = macros_on middle last old now then later (Ok tt) b f in
-      let all_done : done g.0 ≡ it b.from = ap (λ (rs : List Running). resumed macro_limit dpi all rs g.0) (sym idle) ∙ g.3 in
+  macros_reached middle last then later b f idle =
+      let g = macros_on middle last then later (Ok tt) b f in
+      let all_done : done g.0 ≡ it = ap (λ (rs : List Running). resumed macro_limit dpi all rs g.0) (sym idle) ∙ g.3 in
       record {
         situation = g.0;
         is_at = g.1;
         idle = idle;
-        handed = hands_further takes dpi b.from g.0 old now later b.handed g.2;
-        same = ap (λ (p : Performance). then_on p after_it) all_done ∙ sym (rest_next dpi end all place command commands b.from) ∙ b.same;
+        handed = hands_further takes dpi r.situation g.0 old now later r.handed g.2;
+        same = ap (λ (p : Performance). then_on p after_it) all_done ∙ it_and_after;
       }
 
 -- the end of the input

@@ -1,7 +1,8 @@
 -- What a command leaves alone.
-use Rattle.std.proofs.Common.{◌≡◌, ℕ, ◌<◌, Bool, true, false, cond, nat_le, List, [], ◌∷◌, ◌++◌, Option, Some, None, Result, Ok, Err, refl, sym, append-nil, arith, rules}
+use Rattle.std.proofs.Common.{◌≡◌, ℕ, ◌<◌, Bool, true, false, cond, nat_le, List, [], ◌∷◌, Option, Some, None, Result, Ok, Err, refl, length-append, arith, rules}
 use Rattle.pcl_page.proofs.Names.{nat_tests, Dpi, Kind, TooManyCommands, Operation, PrintText, command_limit, operation_of, Character, Said, Effect, EjectMarked, Settings, defaults, font_in_use, Outcome, outcome, is_proportional, prints, ends_raster}
-use Rattle.pcl_page.specs.Situation.{Sheet, Situation, font_now, code_printed, codes_printed, draw_refusal, unless_refused, ◌|>◌, end_raster, is_marked, ejects, sheet_of, turned, turned_by, drawn, drawn_on, taken, counted, counted_in_limit, prepared, is_ignored, after, after_named, page_refusal, within_page_limit, tried, at_end}
+use Rattle.pcl_page.specs.Situation.{Situation, font_now, code_printed, codes_printed, draw_refusal, unless_refused, ◌|>◌, end_raster, is_marked, ejects, sheet_of, turned_page, turned, turned_by, drawn, drawn_on, taken, counted, counted_in_limit, prepared, is_ignored, after, after_named, page_refusal, within_page_limit, tried, at_end}
+use Rattle.pcl_page.proofs.Sinks.{Onward, stays_there}
 use Rattle.pcl_page.proofs.Turns.{prepared_page}
 
 -- neither pages nor counts, nor what is there of macros, change where something is drawn
@@ -10,6 +11,7 @@ pub record KeepsCounts (s other : Situation) : Type 0 where
   pub performed : other.performed ≡ s.performed
   pub macros : other.macros ≡ s.macros
   pub begun : other.begun ≡ s.begun
+  pub asked : other.asks.pages ≡ s.asks.pages
 
 code_keeps : (dpi : Dpi) (proportional : Bool) (c : Option Character) (code : ℕ) {s : Situation}
     → KeepsCounts s (code_printed dpi proportional c code s)
@@ -21,7 +23,7 @@ codes_keep dpi proportional characters [] = search rules
 codes_keep dpi proportional characters (code ∷ codes) {s} =
     let one = code_keeps dpi proportional (characters code) code {s = s} in
     let more = codes_keep dpi proportional characters codes {s = code_printed dpi proportional (characters code) code s} in
-    record { pages = cc; performed = cc; macros = cc; begun = cc }
+    record { pages = cc; performed = cc; macros = cc; begun = cc; asked = cc }
 
 pub drawn_keeps : (dpi : Dpi) (operation : Operation) (command : Said) {s : Situation} → KeepsCounts s (drawn dpi operation command s)
 drawn_keeps dpi PrintText command {s} =
@@ -32,21 +34,21 @@ drawn_keeps dpi other command = grind arith
 
 -- pages are only added, and neither counts nor what is there of macros change
 pub record Adds (s later : Situation) : Type 0 where
-  pub more : List Sheet
-  pub pages : later.pages ≡ s.pages ++ more
+  pub onward : Onward s later
   pub performed : later.performed ≡ s.performed
   pub macros : later.macros ≡ s.macros
   pub begun : later.begun ≡ s.begun
 
 adds_none : {s later : Situation} → later ≡ s → Adds s later
-adds_none {s} e = rw e (record { more = []; pages = sym (append-nil s.pages); performed = refl; macros = refl; begun = refl })
+adds_none {s} e = rw e (record { onward = stays_there s; performed = refl; macros = refl; begun = refl })
 
 adds_turned : (settings : Settings) (effect : Effect) (s : Situation) (test : Bool) → ejects effect (is_marked s) ≡ test
     → Adds s (turned settings effect s)
 adds_turned settings effect s true e =
-    record { more = sheet_of s ∷ []; pages = rw e refl; performed = rw e refl; macros = rw e refl; begun = rw e refl }
-adds_turned settings effect s false e =
-    record { more = []; pages = rw e (sym (append-nil s.pages)); performed = rw e refl; macros = rw e refl; begun = rw e refl }
+    let one_more : Onward s (turned_page settings s) =
+    (sheet_of s ∷ [], refl, omega (arith, length-append s.asks.pages (s.settings.asked ∷ []))) in
+    rw e (record { onward = one_more; performed = refl; macros = refl; begun = refl })
+adds_turned settings effect s false e = rw e (record { onward = stays_there s; performed = refl; macros = refl; begun = refl })
 
 -- ---- a command, in the order of its checks
 
@@ -63,7 +65,8 @@ adds_drawn : (dpi : Dpi) (operation : Operation) (command : Said) {s now later :
     → drawn_on dpi operation command now ≡ Ok later → Adds s later
 adds_drawn dpi operation command {s} {now} t e =
     let k = drawn_keeps dpi operation command {s = now} in
-    rw (unless_from (draw_refusal operation command now) e) (record { more = t.more; pages = cc; performed = cc; macros = cc; begun = cc })
+    rw (unless_from (draw_refusal operation command now) e)
+    (record { onward = (t.onward.0, cc, cc); performed = cc; macros = cc; begun = cc })
 
 adds_taken : (o : Outcome) {s later : Situation} → turned_by o s ≡ Ok later → Adds s later
 adds_taken None e = absurd cc
@@ -74,24 +77,22 @@ adds_taken (Some done) {s} {later} e =
 adds_prepared : (dpi : Dpi) (ends : Bool) (s later : Situation) → Adds (cond ends (end_raster dpi s) s) later → Adds s later
 adds_prepared dpi ends s later a =
     let k = prepared_page dpi ends s in
-    record { more = a.more; pages = cc; performed = cc; macros = cc; begun = cc }
-
-adds_by : (dpi : Dpi) (operation : Operation) (command : Said) (s : Situation) {later : Situation} (ignored : Bool)
-    → cond ignored (Ok s) (taken dpi operation command.value (prepared dpi operation s) |> drawn_on dpi operation command) ≡ Ok later
-    → Adds s later
-adds_by dpi operation command s {later} true e = let same : later ≡ s = cc in adds_none same
-adds_by dpi operation command s {later} false e =
-    let before = prepared dpi operation s in
-    let t = then_from (taken dpi operation command.value before) (drawn_on dpi operation command) e in
-    adds_prepared dpi (ends_raster operation) s later
-    (adds_drawn dpi operation command
-    (adds_taken (outcome dpi operation command.value (is_marked before) before.settings) t.1) t.2)
+    record { onward = (a.onward.0, cc, cc); performed = cc; macros = cc; begun = cc }
 
 -- a command that isn't refused adds pages, and does nothing to macros
 pub after_adds : (dpi : Dpi) (operation : Operation) (command : Said) (s : Situation) {later : Situation}
     → after dpi operation command s ≡ Ok later → Adds s later
 unfolding after
-after_adds dpi operation command s e = adds_by dpi operation command s (is_ignored operation s) e
+after_adds dpi operation command s {later} e =
+    let before = prepared dpi operation s in
+    let on = taken dpi operation command.value before in
+    elim (is_ignored operation s) as (λ ignored. cond ignored (Ok s) (on |> drawn_on dpi operation command) ≡ Ok later → Adds s later) [
+      | true ↦ λ same. adds_none cc
+      | false ↦ λ is.
+          let t = then_from on (drawn_on dpi operation command) is in
+          adds_prepared dpi (ends_raster operation) s later (adds_drawn dpi operation command
+          (adds_taken (outcome dpi operation command.value (is_marked before) before.settings) t.1) t.2)
+    ] e
 
 adds_named : (dpi : Dpi) (operation : Option Operation) (command : Said) (s : Situation) {later : Situation}
     → after_named dpi operation command s ≡ Ok later → Adds s later
@@ -119,7 +120,5 @@ is_counted dpi command s {later} e =
     record { few = one.1; after_is = is; adds = adds_named dpi (operation_of command.name) command (counted s) is }
 
 -- the end of the input
-pub end_adds : (dpi : Dpi) (s : Situation) → (more : List Sheet) × ((at_end dpi s).pages ≡ s.pages ++ more)
-end_adds dpi s =
-    let a = adds_turned defaults EjectMarked (end_raster dpi s) (ejects EjectMarked (is_marked (end_raster dpi s))) refl in
-    (a.more, a.pages)
+pub end_adds : (dpi : Dpi) (s : Situation) → Onward s (at_end dpi s)
+end_adds dpi s = (adds_turned defaults EjectMarked (end_raster dpi s) (ejects EjectMarked (is_marked (end_raster dpi s))) refl).onward

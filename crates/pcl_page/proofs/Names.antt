@@ -33,7 +33,6 @@ pub use Rattle.pcl_fonts.proofs.Names.{Character, Font, FontEvent, character_in,
 pub use Rattle.pcl_fonts.specs.declared.header.FontInfo.{FontInfo}
 pub use Rattle.pcl_macros.proofs.Names.{Begun, Controls, MacroEvent, control, is_begun, macro_at}
 pub use Rattle.pcl_macros.specs.declared.table.MacroControl.{MacroControl}
-pub use Rattle.pcl_macros.specs.declared.table.MacroControl.TheVariants.{Temporary}
 pub use Rattle.pcl_page.specs.Alike.{AllAlike, AreAlike}
 pub use Rattle.pcl_page.specs.Asks.{Asks, Exit, asks_of, exit_of, with_page}
 pub use Rattle.pcl_page.specs.Delivering.{AllShow, Hands, HandsOver, IsPerformed, IsRefusal, IsStopped}

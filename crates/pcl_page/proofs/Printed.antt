@@ -136,21 +136,13 @@ all_done p e = rw (rw e at p.left) at p.is_in
 
 -- ---- with a font and without
 
-pub text_refused : (codes : List ℕ) (font : Option Font) → None ≡ info_of font → are_spaces codes ≡ false
-    → text_refusal codes font ≡ Some NoFont
-text_refused codes font e blank = grind arith
+pub without_font : (codes : List ℕ) (font : Option Font) (blank : Bool) → None ≡ info_of font → are_spaces codes ≡ blank
+    → (text_refusal codes font ≡ cond blank None (Some NoFont)) × (is_proportional font ≡ false)
+without_font codes font blank e is = (grind arith, grind arith)
 
-pub text_blank : (codes : List ℕ) (font : Option Font) → None ≡ info_of font → are_spaces codes ≡ true → text_refusal codes font ≡ None
-text_blank codes font e blank = grind arith
-
-pub blank_advance : (font : Option Font) → None ≡ info_of font → is_proportional font ≡ false
-blank_advance font e = grind arith
-
-pub text_taken : (codes : List ℕ) (font : Option Font) {info : FontInfo} → Some info ≡ info_of font → text_refusal codes font ≡ None
-text_taken codes font e = grind arith
-
-pub text_advance : (font : Option Font) {info : FontInfo} → Some info ≡ info_of font → is_proportional font ≡ info.proportional
-text_advance font e = grind arith
+pub with_its_font : (codes : List ℕ) (font : Option Font) {info : FontInfo} → Some info ≡ info_of font
+    → (text_refusal codes font ≡ None) × (is_proportional font ≡ info.proportional)
+with_its_font codes font e = (grind arith, grind arith)
 
 pub printed_as : {dpi : Dpi} {one other : Bool} {new : Performer} (characters : ℕ → Option Character) (codes : List ℕ) (s : Situation)
     → other ≡ one → IsIn dpi (codes_printed dpi one characters codes s) new → IsIn dpi (codes_printed dpi other characters codes s) new

@@ -1,5 +1,5 @@
 -- Pages that are handed over, one part after the other.
-use Rattle.std.proofs.Common.{◌≡◌, List, [], ◌∷◌, ◌++◌, Result, Ok, Err, sym, subst, ◌∙◌, append_assoc, append-nil}
+use Rattle.std.proofs.Common.{◌≡◌, ◌+◌, List, [], ◌∷◌, ◌++◌, length, Result, Ok, Err, sym, subst, ◌∙◌, append_assoc, append-nil, length-append, arith}
 use Rattle.pcl_page.proofs.Names.{Dpi, JobFault, Said, Page, Interpreter, Sheet, Situation, Performance, Hands, HandsMore, HandsFirst, GoesOn}
 use Rattle.pcl_base.specs.declared.fault.JobFault.TheVariants.{Refused, Memory}
 
@@ -27,15 +27,16 @@ module _ {S : Type 0} (takes : S → Page → S → Type 0) (dpi : Dpi) where
       → HandsFirst takes dpi middle now then new → HandsFirst takes dpi s now old new
   first_on s middle now old then new h k = (h.0 ++ k.0, k.1, rw (k.2, h.1) (simp append_assoc), hands_append h.0 k.0 old then new h.2 k.3)
 
--- pages are only added
+-- pages are only added, and each with what it is asked with
 abbrev pub Onward : Situation → Situation → Type 0
-Onward s now = (more : List Sheet) × (now.pages ≡ s.pages ++ more)
+Onward s now = (more : List Sheet) × (now.pages ≡ s.pages ++ more) × (length now.asks.pages ≡ length s.asks.pages + length more)
 
 pub stays_there : (s : Situation) → Onward s s
-stays_there s = ([], sym (append-nil s.pages))
+stays_there s = ([], sym (append-nil s.pages), omega arith)
 
 pub onward_on : (s middle now : Situation) → Onward s middle → Onward middle now → Onward s now
-onward_on s middle now a b = (a.0 ++ b.0, rw (b.1, a.1) (append_assoc s.pages a.0 b.0))
+onward_on s middle now a b =
+    (a.0 ++ b.0, rw (b.1, a.1) (append_assoc s.pages a.0 b.0), omega (arith, a.2, b.2, length-append a.0 b.0))
 
 module _ {S : Type 0} (takes : S → Page → S → Type 0) (dpi : Dpi) where
   -- the pages up to a situation are the first of those that there will be

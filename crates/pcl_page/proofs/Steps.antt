@@ -1,5 +1,5 @@
 -- The performer follows the situation, command by command.
-use Rattle.std.proofs.Common.{◌≡◌, ℕ, ◌+◌, ◌<◌, ◌≤◌, Bool, true, false, cond, nat_le, List, [], ◌∷◌, ◌++◌, length, Option, Some, None, Ok, Err, refl, sym, ap, ◌∙◌, append-nil, length-append, inl, inr, arith, rules}
+use Rattle.std.proofs.Common.{◌≡◌, ℕ, ◌+◌, ◌<◌, ◌≤◌, Bool, true, false, cond, nat_le, List, [], ◌∷◌, ◌++◌, length, Option, Some, None, Result, Ok, Err, refl, sym, ap, ◌∙◌, append-nil, length-append, inl, inr, arith, rules}
 use Rattle.std.specs.Prelude.{is_some, ◌&&◌}
 use Rattle.pcl_page.proofs.Names.{nat_tests, Dpi, CallFault, Refused, Memory, Kind, TooManyPages, Operation, FillRectangle, ControlFonts, DownloadFont, DownloadCharacter, PrintText, command_limit, operation_of, is_below_zero, Said, Effect, Stay, Settings, defaults, Outcome, stays, Page, Performer, ends_raster, is_ignored_in_raster, Shows, IsIn, IsEjected, Takes, Draws, HandsMore, IsTurned, IsTried, Asked, asks_of}
 use Rattle.pcl_env.specs.Outcome.{outcome}
@@ -21,13 +21,6 @@ pub tried_as : (dpi : Dpi) (command : Said) {operation : Option Operation} (s : 
 tried_as dpi command s few named =
     let under : nat_le command_limit s.performed ≡ false = grind (arith, nat_tests) in
     rw (under, named) refl
-
--- what is known of a command that isn't ignored, at the turn of the page
-pub record AtTurn (dpi : Dpi) (operation : Operation) (command : Said) (s : Situation) (old : Performer) : Type 0 where
-  pub is_in : IsIn dpi s old
-  pub few : old.performed < 100000000
-  pub named : operation_of command.name ≡ Some operation
-  pub performed : (is_some old.raster && is_ignored_in_raster operation) ≡ false
 
 -- ---- commands that are refused where they draw
 
@@ -86,14 +79,6 @@ module _ {S : Type 0} (takes : S → Page → S → Type 0) (dpi : Dpi) (operati
         ([], sym (append-nil s.pages), refl),
       )
 
-  -- what a command that isn't ignored leads to, by the outcome of its operation
-  tried_at : {old : Performer} {o : Outcome} → AtTurn dpi operation command s old → set_to ≡ o
-      → tried dpi command s ≡ (turned_by o before |> drawn_on dpi operation command |> within_page_limit)
-  unfolding after
-  tried_at a is =
-      let ignored : is_ignored operation s ≡ false = cc (a.is_in.raster, a.performed) in
-      tried_as dpi command s (omega (arith, a.few, a.is_in.performed)) a.named ∙ rw (ignored, is) refl
-
   -- by why it isn't drawn, if it isn't
   tried_by : (now : Situation) {why : Option Kind}
       → tried dpi command s ≡ (drawn_on dpi operation command now |> within_page_limit) → draw_refusal operation command now ≡ why
@@ -112,20 +97,6 @@ module _ {S : Type 0} (takes : S → Page → S → Type 0) (dpi : Dpi) (operati
     pub handed : HandsMore takes dpi s (drawn dpi operation command now) sink later
     pub quiet : (kind : Kind) → draw_refusal operation command now ≡ Some kind → later ≡ sink
 
-  gone_with : {old : Performer} (done : Settings × Effect) (sink later : S) → AtTurn dpi operation command s old → set_to ≡ Some done
-      → page_refusal (turned_with done) ≡ None → HandsMore takes dpi before (turned_with done) sink later
-      → IsGone (turned_with done) sink later
-  gone_with done sink later a is fits h = record {
-    tried_is = tried_at a is;
-    fits = fits;
-    handed =
-        let drawn_is = (drawn_keeps dpi operation command {s = turned_with done}).pages in
-        (h.0, cc (drawn_is, h.1, (prepared_page dpi (ends_raster operation) (counted s)).pages), h.2);
-    quiet = λ kind e.
-        let stay = refused_stays dpi operation command (is_marked before) before.settings (turned_with done) e is in
-        rw (no_more before.pages h.0 (sym (stays_pages done before stay) ∙ h.1)) at h.2;
-  }
-
   -- nothing is refused where it is drawn
   gone_drawn : (now : Situation) {sink later : S} → IsGone now sink later → draw_refusal operation command now ≡ None
       → tried dpi command s ≡ Ok (drawn dpi operation command now)
@@ -137,56 +108,78 @@ module _ {S : Type 0} (takes : S → Page → S → Type 0) (dpi : Dpi) (operati
   gone_short now new sink later None g e = inr (drawn dpi operation command now, gone_drawn now g e, g.handed)
   gone_short now new sink later (Some kind) g e = inl (g.quiet kind e)
 
-  -- pages that are past the limit come from a command that isn't refused where it draws
-  past_why : {old : Performer} {done : Settings × Effect} {kind : Kind} (why : Option Kind) → AtTurn dpi operation command s old
-      → set_to ≡ Some done → page_refusal (turned_with done) ≡ Some kind → draw_refusal operation command (turned_with done) ≡ why
-      → why ≡ None
-  past_why None a is past e = refl
-  past_why {old} {done} (Some other) a is past e =
-      let stay = refused_stays dpi operation command (is_marked before) before.settings (turned_with done) e is in
-      let pages = stays_pages done before stay ∙ (prepared_page dpi (ends_raster operation) (counted s)).pages in
-      let fits : page_refusal (turned_with done) ≡ None = rw pages (pages_fit s (omega (arith, a.is_in.ejected, old.few_pages))) in
-      absurd cc
+  -- what is drawn of the command after the turn
+  abbrev DrawsOn : Performer → Result (Unit {0}) CallFault → Performer → Type 0
+  DrawsOn middle result new =
+      (now : Situation) → IsIn dpi now middle → Draws dpi (draw_refusal operation command now) (drawn dpi operation command now) result new
 
-  pub refused_by : {old : Performer} (new : Performer) (sink later : S) (o : Outcome) (fault : CallFault)
-      → AtTurn dpi operation command s old → set_to ≡ o → IsTurned takes dpi o before (Err fault) new sink later
-      → IsTried takes dpi command s (Err fault) new sink later
-  refused_by new sink later None (Refused kind) a is t = (rw t.0 (tried_at a is), t.1)
-  refused_by new sink later (Some done) (Refused kind) a is t =
-      let free = past_why _ a is t.0 refl in
-      (tried_by (turned_with done) (tried_at a is) free ∙ drawn_fits (turned_with done) t.0, t.1)
-  refused_by new sink later None Memory a is t = inl t
-  refused_by new sink later (Some done) Memory a is t =
-      elim t [
-        | inl same ↦ inl same
-        | inr h ↦ gone_short (turned_with done) new sink later _ (gone_with done sink later a is h.0 h.1) refl
-      ]
+  -- a command that isn't ignored
+  module _ {old : Performer} (i : IsIn dpi s old) (few : old.performed < 100000000) (named : operation_of command.name ≡ Some operation)
+      (performed : (is_some old.raster && is_ignored_in_raster operation) ≡ false) where
+    -- what it leads to, by the outcome of its operation
+    tried_at : {o : Outcome} → set_to ≡ o
+        → tried dpi command s ≡ (turned_by o before |> drawn_on dpi operation command |> within_page_limit)
+    unfolding after
+    tried_at is =
+        let ignored : is_ignored operation s ≡ false = cc (i.raster, performed) in
+        tried_as dpi command s (omega (arith, few, i.performed)) named ∙ rw (ignored, is) refl
 
-  -- the performer is at the situation after the turn
-  pub record Gone (middle : Performer) (sink later : S) : Type 0 where
-    pub turned_to : Situation
-    pub is_in : IsIn dpi turned_to middle
-    pub is_gone : IsGone turned_to sink later
+    gone_with : (done : Settings × Effect) (sink later : S) → set_to ≡ Some done → page_refusal (turned_with done) ≡ None
+        → HandsMore takes dpi before (turned_with done) sink later → IsGone (turned_with done) sink later
+    gone_with done sink later is fits h = record {
+      tried_is = tried_at is;
+      fits = fits;
+      handed =
+          let drawn_is = (drawn_keeps dpi operation command {s = turned_with done}).pages in
+          (h.0, cc (drawn_is, h.1, (prepared_page dpi (ends_raster operation) (counted s)).pages), h.2);
+      quiet = λ kind e.
+          let stay = refused_stays dpi operation command (is_marked before) before.settings (turned_with done) e is in
+          rw (no_more before.pages h.0 (sym (stays_pages done before stay) ∙ h.1)) at h.2;
+    }
 
-  pub gone_by : {old : Performer} (middle : Performer) (sink later : S) (o : Outcome) → AtTurn dpi operation command s old → set_to ≡ o
-      → IsTurned takes dpi o before (Ok tt) middle sink later → Gone middle sink later
-  gone_by middle sink later None a is t = absurd t
-  gone_by middle sink later (Some done) a is t =
-      record { turned_to = turned_with done; is_in = t.0; is_gone = gone_with done sink later a is t.1 t.2 }
+    -- pages that are past the limit come from a command that isn't refused where it draws
+    past_why : {done : Settings × Effect} {kind : Kind} (why : Option Kind) → set_to ≡ Some done
+        → page_refusal (turned_with done) ≡ Some kind → draw_refusal operation command (turned_with done) ≡ why → why ≡ None
+    past_why None is past e = refl
+    past_why {done} (Some other) is past e =
+        let stay = refused_stays dpi operation command (is_marked before) before.settings (turned_with done) e is in
+        let pages = stays_pages done before stay ∙ (prepared_page dpi (ends_raster operation) (counted s)).pages in
+        let fits : page_refusal (turned_with done) ≡ None = rw pages (pages_fit s (omega (arith, i.ejected, old.few_pages))) in
+        absurd cc
 
-  -- a command that was drawn
-  pub tried_drawn : (old middle new : Performer) (sink later : S) → AtTurn dpi operation command s old → (g : Gone middle sink later)
-      → Draws dpi (draw_refusal operation command g.turned_to) (drawn dpi operation command g.turned_to) (Ok tt) new
-      → IsTried takes dpi command s (Ok operation) new sink later
-  tried_drawn old middle new sink later a g d =
-      (drawn dpi operation command g.turned_to, a.named, gone_drawn g.turned_to g.is_gone d.0, d.1, g.is_gone.handed)
+    pub refused_by : (new : Performer) (sink later : S) (o : Outcome) (fault : CallFault) → set_to ≡ o
+        → IsTurned takes dpi o before (Err fault) new sink later → IsTried takes dpi command s (Err fault) new sink later
+    refused_by new sink later None (Refused kind) is t = (rw t.0 (tried_at is), t.1)
+    refused_by new sink later (Some done) (Refused kind) is t =
+        let free = past_why _ is t.0 refl in
+        (tried_by (turned_with done) (tried_at is) free ∙ drawn_fits (turned_with done) t.0, t.1)
+    refused_by new sink later None Memory is t = inl t
+    refused_by new sink later (Some done) Memory is t =
+        elim t [
+          | inl same ↦ inl same
+          | inr h ↦ gone_short (turned_with done) new sink later _ (gone_with done sink later is h.0 h.1) refl
+        ]
 
-  -- a command that is refused where it draws
-  pub tried_undrawn : (old middle new : Performer) (sink later : S) → AtTurn dpi operation command s old → (g : Gone middle sink later)
-      (fault : CallFault) → Draws dpi (draw_refusal operation command g.turned_to) (drawn dpi operation command g.turned_to) (Err fault) new
-      → IsTried takes dpi command s (Err fault) new sink later
-  tried_undrawn old middle new sink later a g (Refused kind) d = (tried_by g.turned_to g.is_gone.tried_is d, g.is_gone.quiet kind d)
-  tried_undrawn old middle new sink later a g Memory d = gone_short g.turned_to new sink later _ g.is_gone refl
+    pub tried_drawn : (middle new : Performer) (sink later : S) (o : Outcome) → set_to ≡ o
+        → IsTurned takes dpi o before (Ok tt) middle sink later → DrawsOn middle (Ok tt) new
+        → IsTried takes dpi command s (Ok operation) new sink later
+    tried_drawn middle new sink later None is t f = absurd t
+    tried_drawn middle new sink later (Some done) is t f =
+        let g = gone_with done sink later is t.1 t.2 in
+        let d = f (turned_with done) t.0 in
+        (drawn dpi operation command (turned_with done), named, gone_drawn (turned_with done) g d.0, d.1, g.handed)
+
+    -- a command that is refused where it draws
+    pub tried_undrawn : (middle new : Performer) (sink later : S) (o : Outcome) (fault : CallFault) → set_to ≡ o
+        → IsTurned takes dpi o before (Ok tt) middle sink later → DrawsOn middle (Err fault) new
+        → IsTried takes dpi command s (Err fault) new sink later
+    tried_undrawn middle new sink later None fault is t f = absurd t
+    tried_undrawn middle new sink later (Some done) (Refused kind) is t f =
+        let g = gone_with done sink later is t.1 t.2 in
+        let d = f (turned_with done) t.0 in
+        (tried_by (turned_with done) g.tried_is d, g.quiet kind d)
+    tried_undrawn middle new sink later (Some done) Memory is t f =
+        gone_short (turned_with done) new sink later _ (gone_with done sink later is t.1 t.2) refl
 
 -- ---- the end of the input
 

@@ -126,72 +126,45 @@ module _ {S : Type 0} (takes : S → Page → S → Type 0) (dpi : Dpi) (operati
         ([], sym (append-nil s.pages), same),
       )
 
-  -- what is known where the page was ejected: the settings were set, the page was handed over, and a white one began
-  pub record Ejected (copies : ℕ) (asked : Asked) (old middle last : Performer) (sink later : S) : Type 0 where
-    pub is_in : IsIn dpi s old
-    pub answered_as : Answers (outcome dpi operation value old.is_marked old.environment) (Ok effect) old.environment middle.environment
-    pub yes : ejects effect old.is_marked ≡ true
-    pub few : old.ejected < 256
-    pub page : middle.page ≡ old.page
-    pub ejected : middle.ejected ≡ old.ejected
-    pub performed : middle.performed ≡ old.performed
-    pub raster : middle.raster ≡ old.raster
-    pub fonts : middle.fonts ≡ old.fonts
-    pub copies_are : copies ≡ old.environment.copies
-    pub asks : middle.asks ≡ old.asks
-    pub asked_is : asked ≡ old.environment.asked
-    pub is_ejected : IsEjected asked middle last
-    pub taken : Takes takes copies middle sink later
+  -- the settings were set, the page was handed over, and a white one began
+  module _ {copies : ℕ} {asked : Asked} {old middle last : Performer} (sink later : S) (i : IsIn dpi s old)
+      (a : Answers (outcome dpi operation value old.is_marked old.environment) (Ok effect) old.environment middle.environment)
+      (does : ejects effect old.is_marked ≡ true) (few : old.ejected < 256) (copies_are : copies ≡ old.environment.copies)
+      (asked_is : asked ≡ old.environment.asked) (e : IsEjected asked middle last × Takes takes copies middle sink later)
+      (page : middle.page ≡ old.page) (ejected : middle.ejected ≡ old.ejected) (performed : middle.performed ≡ old.performed)
+      (raster : middle.raster ≡ old.raster) (fonts : middle.fonts ≡ old.fonts) (asks : middle.asks ≡ old.asks) where
+    done_so : (done : Settings × Effect) × (comes_to ≡ Some done) × (middle.environment ≡ done.0) × (ejects done.1 (is_marked s) ≡ true)
+    done_so =
+        let d = answered (outcome dpi operation value old.is_marked old.environment) old.environment a in
+        let yes : ejects d.0.1 (is_marked s) ≡ true = cc in
+        (d.0, (let is = d.1 in cc), d.3, yes)
 
-  pub ejected_as : {copies : ℕ} {asked : Asked} {old middle last : Performer} {sink later : S} → IsIn dpi s old
-      → Answers (outcome dpi operation value old.is_marked old.environment) (Ok effect) old.environment middle.environment
-      → ejects effect old.is_marked ≡ true → old.ejected < 256 → copies ≡ old.environment.copies → asked ≡ old.environment.asked
-      → IsEjected asked middle last × Takes takes copies middle sink later → middle.page ≡ old.page → middle.ejected ≡ old.ejected
-      → middle.performed ≡ old.performed → middle.raster ≡ old.raster → middle.fonts ≡ old.fonts → middle.asks ≡ old.asks
-      → Ejected copies asked old middle last sink later
-  ejected_as i a does few copies is e page ejected performed raster fonts asks = search (rules, e)
+    handed_so : (settings : Settings)
+        → (page_refusal (turned_page settings s) ≡ None) × HandsMore takes dpi s (turned_page settings s) sink later
+    handed_so settings =
+        let count = length-append s.pages (sheet_of s ∷ []) in (
+          pages_fit (turned_page settings s) (omega (arith, i.ejected, few, count)),
+          (sheet_of s ∷ [], refl, (e.1.0, later, handed_sheet i page copies_are e.1.1, e.1.2, refl)),
+        )
 
-  ejected_done : {copies : ℕ} {asked : Asked} {old middle last : Performer} {sink later : S}
-      → Ejected copies asked old middle last sink later
-      → (done : Settings × Effect) × (comes_to ≡ Some done) × (middle.environment ≡ done.0) × (ejects done.1 (is_marked s) ≡ true)
-  ejected_done {old} e =
-      let d = answered (outcome dpi operation value old.is_marked old.environment) old.environment e.answered_as in
-      let yes : ejects d.0.1 (is_marked s) ≡ true = cc in
-      (d.0, (let is = d.1 in cc), d.3, yes)
+    pub turned_ejects : (new : Performer) → IsFollowed last new → IsTurned takes dpi comes_to s (Ok tt) new sink later
+    turned_ejects new f =
+        let d = done_so in
+        let h = handed_so d.0.0 in
+        let environment : last.environment ≡ to_first_line d.0.0 = cc in
+        let size : new.page.bitmap.size ≡ d.0.0.size = cc in
+        let resolution : new.page.bitmap.dpi ≡ dpi = cc (e.0.resolution, i.painted.dpi_is) in
+        let count = length-append s.pages (sheet_of s ∷ []) in
+        let counted : new.ejected ≡ length (s.pages ++ sheet_of s ∷ []) =
+        omega (arith, f.ejected, e.0.ejected, ejected, i.ejected, count) in
+        rw (d.1, d.3)
+        (search (rules, counted, f.fonts, e.0.fonts, fonts, white_painted size resolution (f.white e.0.white)), h.0, h.1)
 
-  ejected_handed : {copies : ℕ} {asked : Asked} {old middle last : Performer} {sink later : S} (settings : Settings)
-      → Ejected copies asked old middle last sink later
-      → (page_refusal (turned_page settings s) ≡ None) × HandsMore takes dpi s (turned_page settings s) sink later
-  ejected_handed {later} settings e =
-      let count = length-append s.pages (sheet_of s ∷ []) in (
-        pages_fit (turned_page settings s) (omega (arith, e.is_in.ejected, e.few, count)),
-        (sheet_of s ∷ [], refl, (e.taken.0, later, handed_sheet e.is_in e.page e.copies_are e.taken.1, e.taken.2, refl)),
-      )
-
-  pub turned_ejects : (copies : ℕ) {asked : Asked} (old : Performer) {middle : Performer} (last new : Performer) (sink later : S)
-      → Ejected copies asked old middle last sink later → IsFollowed last new → IsTurned takes dpi comes_to s (Ok tt) new sink later
-  turned_ejects copies old {middle} last new sink later e f =
-      let i = e.is_in in
-      let d = ejected_done e in
-      let h = ejected_handed d.0.0 e in
-      let environment : last.environment ≡ to_first_line d.0.0 = cc in
-      let size : new.page.bitmap.size ≡ d.0.0.size = cc in
-      let resolution : new.page.bitmap.dpi ≡ dpi = cc (e.is_ejected.resolution, i.painted.dpi_is) in
-      let count = length-append s.pages (sheet_of s ∷ []) in
-      rw (d.1, d.3) (
-        let ejected : new.ejected ≡ length (s.pages ++ sheet_of s ∷ []) =
-            omega (arith, f.ejected, e.is_ejected.ejected, e.ejected, i.ejected, count) in
-            search (rules, ejected, f.fonts, e.is_ejected.fonts, e.fonts, white_painted size resolution (f.white e.is_ejected.white)),
-        h.0,
-        h.1,
-      )
-
-  -- memory ran out after the page was handed over
-  pub turned_short : (copies : ℕ) {asked : Asked} (old : Performer) {middle : Performer} (last new : Performer) (sink later : S)
-      → Ejected copies asked old middle last sink later → IsTurned takes dpi comes_to s (Err Memory) new sink later
-  turned_short copies old last new sink later e =
-      let d = ejected_done e in
-      rw (d.1, d.3) (inr (ejected_handed d.0.0 e))
+    -- memory ran out after the page was handed over
+    pub turned_short : (new : Performer) → IsTurned takes dpi comes_to s (Err Memory) new sink later
+    turned_short new =
+        let d = done_so in
+        rw (d.1, d.3) (inr (handed_so d.0.0))
 
 -- ---- what is drawn
 

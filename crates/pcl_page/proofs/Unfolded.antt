@@ -1,7 +1,7 @@
 -- Performances of commands and of macros, unfolded.
 use Rattle.std.proofs.Common.{◌≡◌, ℕ, zero, suc, ◌+◌, ◌-◌, ◌<◌, Bool, true, false, cond, List, [], ◌∷◌, ◌++◌, length, Option, Some, None, Result, Ok, Err, refl, sym, ◌∙◌, append-nil, arith, inl, inr}
 use Rattle.std.specs.Prelude.{is_some, ◌⊎◌}
-use Rattle.pcl_page.proofs.Names.{Dpi, Kind, MacroDepth, Operation, ControlMacros, Refusal, Value, macro_limit, operation_of, Settings, Said, Running, Action, Keeping, Situation, tried, Run, action_of, keeping_of, acted, managed, counting, defining, after_command, run_of, macro_ended, Performance, done, stopped, unless, then_on, in_order, concluded, and_run, step, commands_left, runs, run_in, entered, HasLevel, rest_of, resumed, begun_among}
+use Rattle.pcl_page.proofs.Names.{Dpi, Kind, MacroDepth, Operation, ControlMacros, Value, macro_limit, operation_of, Settings, Said, Running, Action, Keeping, Situation, tried, Run, action_of, keeping_of, acted, managed, counting, defining, after_command, run_of, macro_ended, Performance, done, stopped, unless, then_on, in_order, concluded, and_run, step, commands_left, runs, run_in, entered, HasLevel, rest_of, resumed, begun_among}
 use Rattle.pcl_page.proofs.Keeping.{then_from, is_counted}
 use Rattle.pcl_page.proofs.Sinks.{Onward, stays_there, onward_on}
 
@@ -78,6 +78,7 @@ pub record Counts (s later : Situation) : Type 0 where
 pub record ActsOnMacros (s later : Situation) : Type 0 where
   pub pages : later.pages ≡ s.pages
   pub performed : later.performed ≡ s.performed
+  pub asks : later.asks ≡ s.asks
 
 same_acts : {s now later : Situation} → ActsOnMacros s now → ◌≡◌ {A = Result Situation Kind} (Ok now) (Ok later) → ActsOnMacros s later
 same_acts {s} {now} {later} a e = let same : now ≡ later = cc in rw same at a
@@ -88,14 +89,15 @@ acted_acts place action e = grind arith
 pub managed_acts : (place : ℕ) (operation : Option Operation) (value : Value) {s later : Situation}
     → managed place operation value s ≡ Ok later → ActsOnMacros s later
 managed_acts place (Some ControlMacros) value e = acted_acts place (action_of value) e
-managed_acts place other value e = same_acts (record { pages = refl; performed = refl }) e
+managed_acts place other value e = same_acts (record { pages = refl; performed = refl; asks = refl }) e
 
 counting_counts : (dpi : Dpi) (place : ℕ) (command : Said) {s later : Situation} → counting dpi place command s ≡ Ok later → Counts s later
 counting_counts dpi place command {s} e =
     let t = then_from (tried dpi command s) (managed place (operation_of command.name) command.value) e in
     let c = is_counted dpi command s t.1 in
     let b = managed_acts place (operation_of command.name) command.value t.2 in
-    record { onward = (c.adds.more, b.pages ∙ c.adds.pages); performed = b.performed ∙ c.adds.performed; few = c.few }
+    let o = c.adds.onward in
+    record { onward = (o.0, cc (b.pages, o.1), cc (b.asks, o.2)); performed = b.performed ∙ c.adds.performed; few = c.few }
 
 -- a command is kept, and nothing changes, or it counts
 abbrev pub KeptOrCounts : Situation → Situation → Type 0
@@ -116,14 +118,13 @@ command_by dpi place command false b e = inr (counting_counts dpi place command 
 abbrev pub Grows : (Situation → Performance) → Type 0
 Grows f = (s : Situation) → Onward s (f s).situation
 
-unless_grows : (why : Option Refusal) (s now : Situation) (f : Situation → Performance) → Onward s now → Grows f
-    → Onward s (unless why now f).situation
-unless_grows None s now f o g = onward_on s now (f now).situation o (g now)
-unless_grows (Some why) s now f o g = o
-
 pub then_grows : (p : Performance) (s : Situation) (f : Situation → Performance) → Onward s p.situation → Grows f
     → Onward s (then_on p f).situation
-then_grows p s f o g = unless_grows p.refusal s p.situation f o g
+then_grows p s f o g =
+    elim p.refusal as (λ why. Onward s (unless why p.situation f).situation) [
+      | None ↦ onward_on s p.situation (f p.situation).situation o (g p.situation)
+      | Some why ↦ o
+    ]
 
 concluded_grows : (dpi : Dpi) (place : ℕ) (command : Said) (s : Situation) (o : Result Situation Kind)
     → after_command dpi place command s ≡ o → Onward s (concluded command s o).situation

@@ -4,19 +4,14 @@ use Rattle.pcl_page.proofs.interpreter.Interpreter.act.Goals as goal
 
 pub returns-in-Execute : goal.returns-in-Execute
 returns-in-Execute c = λ dpi s at. rw c.in-Execute.is
-    (execute_acted c.enter.new.self c.enter.result at c.macro_id-id.ensures c.enter.ensures)
+    (execute_acted at c.macro_id-id.ensures c.enter.new.self c.enter.result c.enter.ensures)
 
 pub returns-in-Call : goal.returns-in-Call
 returns-in-Call c = λ dpi s at. rw c.in-Call.is
-    (call_acted c.enter-in-Call.new.self c.enter-in-Call.result at
-    c.macro_id-id.ensures c.save-saved.ensures.kept c.enter-in-Call.ensures)
+    (call_acted at c.macro_id-id.ensures c.enter-in-Call.new.self c.enter-in-Call.result c.save-saved.ensures.kept c.enter-in-Call.ensures)
 
 pub returns-in-Begin : goal.returns-in-Begin
-returns-in-Begin c = λ dpi s at. rw c.in-Begin.is
-    (begin_acted c.args.place at
-    c.macro_id-id.ensures refl refl c.begin.ensures)
+returns-in-Begin c = λ dpi s at. rw c.in-Begin.is (begin_acted at c.macro_id-id.ensures c.args.place refl refl c.begin.ensures)
 
 pub returns-in-Control : goal.returns-in-Control
-returns-in-Control c = λ dpi s at. rw c.in-Control.is
-    (control_acted c.args.place at
-    c.macro_id-id.ensures refl refl c.control.ensures)
+returns-in-Control c = λ dpi s at. rw c.in-Control.is (control_acted at c.macro_id-id.ensures c.args.place refl refl c.control.ensures)

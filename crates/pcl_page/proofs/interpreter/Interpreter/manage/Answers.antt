@@ -1,6 +1,6 @@
 use Rattle.std.proofs.Common.{◌≡◌, Option, Some, refl, sym, subst, ◌∙◌, inl, inr}
 use Rattle.pcl_page.proofs.Names.{Action, action_of, acted, run_by, IsActed}
-use Rattle.pcl_page.proofs.Interpreted.{reset_acted}
+use Rattle.pcl_page.proofs.Interpreted.{event_acted}
 use Rattle.pcl_page.proofs.interpreter.Interpreter.manage.Goals as goal
 
 pub returns-in-Some : goal.returns-in-Some
@@ -12,6 +12,6 @@ returns-in-Some c = λ dpi s at. rw c.in-ControlMacros.is
 pub returns-in-Reset : goal.returns-in-Reset
 returns-in-Reset c = λ dpi s at.
     elim c.in-Reset.is [
-      | inl e ↦ rw e (reset_acted at refl refl c.control.ensures)
-      | inr e ↦ rw e (reset_acted at refl refl c.control.ensures)
+      | inl e ↦ rw e (event_acted at refl refl c.control.ensures)
+      | inr e ↦ rw e (event_acted at refl refl c.control.ensures)
     ]

@@ -1,7 +1,7 @@
-use Rattle.std.proofs.Common.{◌≤◌, ◌∙◌, Bool, true, false, cond, Option, None, refl, sym, arith}
+use Rattle.std.proofs.Common.{◌≤◌, ◌∙◌, Bool, cond, Option, None, refl, sym, arith}
 use Rattle.pcl_page.proofs.Names.{err_from_is_err_and, view, Raster, rows_in, ends_raster}
 use Rattle.pcl_page.proofs.Turns.{prepared_in}
-use Rattle.pcl_page.proofs.Steps.{counted_in, AtTurn, tried_as, tried_ignored, refused_by, gone_by, tried_drawn, tried_undrawn}
+use Rattle.pcl_page.proofs.Steps.{counted_in, tried_as, tried_ignored, refused_by, tried_drawn, tried_undrawn}
 use Rattle.pcl_page.proofs.performer.Performer.try_command.Goals as goal
 
 -- a raster that may have ended has no more rows than before
@@ -35,25 +35,22 @@ returns-then-is_ignored g c = λ s i.
 
 pub returns-in_err-turn : goal.returns-in_err-turn
 returns-in_err-turn g c = λ s i.
-    let a : AtTurn c.args.dpi c.in-Some.operation (view c.args.command.now) s c.args.self.now =
-    record { is_in = i; few = omega arith; named = sym c.in-Some.ensures; performed = sym c.is_ignored.ensures ∙ c.if-is_ignored.false } in
     let before = prepared_in (counted_in i refl refl refl refl refl refl refl refl) c.prepare.ensures in
     let p = err_from_is_err_and c.from_residual.result c.from_residual.ensures.1 in
-    rw (p.1, p.2) (refused_by _ _ _ _ s c.turn.new.self _ _ _ _ a refl (c.in_err-turn.ensures.turned _ before))
+    rw (p.1, p.2) (refused_by _ _ c.in-Some.operation (view c.args.command.now) s i (omega arith) (sym c.in-Some.ensures)
+    (sym c.is_ignored.ensures ∙ c.if-is_ignored.false) c.turn.new.self _ _ _ _ refl (c.in_err-turn.ensures.turned _ before))
 
 pub returns-in_err-draw : goal.returns-in_err-draw
 returns-in_err-draw g c = λ s i.
-    let a : AtTurn c.args.dpi c.in-Some.operation (view c.args.command.now) s c.args.self.now =
-    record { is_in = i; few = omega arith; named = sym c.in-Some.ensures; performed = sym c.is_ignored.ensures ∙ c.if-is_ignored.false } in
     let before = prepared_in (counted_in i refl refl refl refl refl refl refl refl) c.prepare.ensures in
-    let n = gone_by g.S.PageSink.takes c.args.dpi _ _ s c.turn.new.self _ _ _ a refl (c.in_ok-turn.ensures.turned _ before) in
     let p = err_from_is_err_and c.from_residual-in_err-draw.result c.from_residual-in_err-draw.ensures.1 in
-    rw (p.1, p.2) (tried_undrawn _ _ _ _ s _ _ c.draw.new.self _ _ a n c.in_err-draw.field-0.0 (c.in_err-draw.ensures _ n.is_in))
+    rw (p.1, p.2) (tried_undrawn _ _ c.in-Some.operation (view c.args.command.now) s i (omega arith) (sym c.in-Some.ensures)
+    (sym c.is_ignored.ensures ∙ c.if-is_ignored.false) c.turn.new.self c.draw.new.self _ _ _ c.in_err-draw.field-0.0 refl
+    (c.in_ok-turn.ensures.turned _ before) (λ now there. c.in_err-draw.ensures now there))
 
 pub returns : goal.returns
 returns g c = λ s i.
-    let a : AtTurn c.args.dpi c.in-Some.operation (view c.args.command.now) s c.args.self.now =
-    record { is_in = i; few = omega arith; named = sym c.in-Some.ensures; performed = sym c.is_ignored.ensures ∙ c.if-is_ignored.false } in
     let before = prepared_in (counted_in i refl refl refl refl refl refl refl refl) c.prepare.ensures in
-    let n = gone_by g.S.PageSink.takes c.args.dpi _ _ s c.turn.new.self _ _ _ a refl (c.in_ok-turn.ensures.turned _ before) in
-    tried_drawn _ _ _ _ s _ _ c.draw.new.self _ _ a n (c.in_ok-draw.ensures _ n.is_in)
+    tried_drawn _ _ c.in-Some.operation (view c.args.command.now) s i (omega arith) (sym c.in-Some.ensures)
+    (sym c.is_ignored.ensures ∙ c.if-is_ignored.false) c.turn.new.self c.draw.new.self _ _ _ refl (c.in_ok-turn.ensures.turned _ before)
+    (λ now there. c.in_ok-draw.ensures now there)
