@@ -73,14 +73,4 @@ certified_proved one dpi input output certificate job.Proved i v = refl
 
 pub written_certified : {dpi : Dpi} {format : Format} {input output certificate : List ℕ}
     → IsCertifiedJobOf dpi format input output certificate → IsCertifiedBy dpi input output certificate
-written_certified {format} w = record {
-  pages = w.written.pages;
-  meaning = w.written.meaning;
-  texts = w.written.texts;
-  spelled = w.written.spelled;
-  format = format;
-  proofs = w.certified.proofs;
-  can_be_said = w.certified.can_be_said;
-  certificate_is = w.certified.spelled;
-  proved = w.certified.proved;
-}
+written_certified w = search (w.written, w.certified)

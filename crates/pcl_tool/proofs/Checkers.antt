@@ -1,6 +1,6 @@
 -- What the checker of pages has found after the last page.
 use Rattle.std.proofs.Common.{◌≡◌, ℕ, ◌+◌, List, [], ◌∷◌, ◌++◌, length, take, drop, refl, sym, append_assoc, arith}
-use Rattle.pcl_tool.proofs.Names.{length-drop, length-take-le, take-append-drop, drop-drop, nil_from_length, Dpi, Page, Sheet, Shows, Hands, PageProof, JobVerdict, Checker, IsAnswered, AreProved, IsFirstFailure, text_bytes, IsFound, FindsNext, TakesPage, proofs_left, answer}
+use Rattle.pcl_tool.proofs.Names.{length-drop, length-take-le, take-append-drop, drop-drop, nil_from_length, Dpi, Page, Sheet, Shows, Hands, PageProof, JobVerdict, Verdict, Checker, IsAnswered, AreProved, IsFirstFailure, text_bytes, IsFound, FindsNext, TakesPage, proofs_left, answer}
 use Rattle.pcl_cert.specs.declared.check.Verdict.TheVariants as verdicts
 use Rattle.pcl_tool.specs.declared.job_verdict.JobVerdict.TheVariants as job
 
@@ -59,70 +59,46 @@ module _ (dpi : Dpi) where
       (number : ℕ) × (place ≡ taken + number) × IsFirstFailure dpi sheets texts proofs number verdict
   IsOutcome sheets texts proofs taken found = ⊥
 
-  -- after a page that is proved
-  behind : (sheet : Sheet) (sheets : List Sheet) (texts text rest : List ℕ) (proof : PageProof)
-      (proofs : List PageProof) (taken : ℕ) (found : JobVerdict) → IsAnswered dpi sheet text proof verdicts.Proved
-      → texts ≡ text ++ rest → IsOutcome sheets rest proofs (taken + 1) found
-      → IsOutcome (sheet ∷ sheets) texts (proof ∷ proofs) taken found
-  behind sheet sheets texts text rest proof proofs taken job.Proved p e o = (omega (arith, o.0), (text, rest, p, e, o.1))
-  behind sheet sheets texts text rest proof proofs taken (job.Page place verdict) p e o =
-      let f = o.2 in (
-        o.0 + 1,
-        omega (arith, o.1),
-        record {
-          pages_before = sheet ∷ f.pages_before;
-          sheet = f.sheet;
-          pages_behind = f.pages_behind;
-          pages_are = rw f.pages_are;
-          proofs_before = proof ∷ f.proofs_before;
-          proof = f.proof;
-          proofs_behind = f.proofs_behind;
-          proofs_are = rw f.proofs_are;
-          texts_before = text ++ f.texts_before;
-          text = f.text;
-          texts_behind = f.texts_behind;
-          texts_are = rw (e, f.texts_are, append_assoc);
-          proved_before = (omega (arith, f.proved_before.0), (text, f.texts_before, p, refl, f.proved_before.1));
-          counted = omega (arith, f.counted);
-          answered = f.answered;
-          not_proved = f.not_proved;
-        },
-      )
-  behind sheet sheets texts text rest proof proofs taken found p e o = absurd o
+  -- the first page that isn't proved
+  fails_first : {sheets : List Sheet} {texts : List ℕ} {proofs : List PageProof} {number : ℕ} {verdict : Verdict}
+      (pages_before : List Sheet) (sheet : Sheet) (pages_behind : List Sheet) (proofs_before : List PageProof) (proof : PageProof)
+      (proofs_behind : List PageProof) (texts_before text texts_behind : List ℕ) → sheets ≡ pages_before ++ sheet ∷ pages_behind
+      → proofs ≡ proofs_before ++ proof ∷ proofs_behind → texts ≡ texts_before ++ (text ++ texts_behind)
+      → AreProved dpi pages_before texts_before proofs_before → number ≡ length pages_before + 1
+      → IsAnswered dpi sheet text proof verdict → (verdict ≡ verdicts.Proved → ⊥) → IsFirstFailure dpi sheets texts proofs number verdict
+  fails_first _ _ _ _ _ _ _ _ _ pages_are proofs_are texts_are before counted answered other = search
 
-  -- by what is found of the first page: what becomes of the later ones where it is proved, and that it stays where it isn't
-  at_page : (sheet : Sheet) (sheets : List Sheet) (texts text rest : List ℕ) (proof : PageProof) (proofs : List PageProof) (taken : ℕ)
-      (page : Page) (found last : JobVerdict) → IsFound page text proof (taken + 1) found → Shows dpi page sheet
-      → length text ≡ proof.text_len → texts ≡ text ++ rest
-      → (found ≡ job.Proved → IsOutcome sheets rest proofs (taken + 1) last) → ((found ≡ job.Proved → ⊥) → last ≡ found)
-      → IsOutcome (sheet ∷ sheets) texts (proof ∷ proofs) taken last
-  at_page sheet sheets texts text rest proof proofs taken page job.Proved last is shows long e follows keeps =
-      behind sheet sheets texts text rest proof proofs taken last
-      (record { page = page; shows = shows; as_long = long; verdict_is = is }) e (follows refl)
-  at_page sheet sheets texts text rest proof proofs taken page (job.Page place verdict) last is shows long e follows keeps =
-      rw (keeps (λ (p : job.Page place verdict ≡ job.Proved). cc)) (
-        1,
-        is.0,
-        record {
-          pages_before = [];
-          sheet = sheet;
-          pages_behind = sheets;
-          pages_are = refl;
-          proofs_before = [];
-          proof = proof;
-          proofs_behind = proofs;
-          proofs_are = refl;
-          texts_before = [];
-          text = text;
-          texts_behind = rest;
-          texts_are = e;
-          proved_before = (refl, refl);
-          counted = refl;
-          answered = record { page = page; shows = shows; as_long = long; verdict_is = is.1 };
-          not_proved = is.2;
-        },
-      )
-  at_page sheet sheets texts text rest proof proofs taken page found last is shows long e follows keeps = absurd is
+  module _ (sheet : Sheet) (sheets : List Sheet) (texts text rest : List ℕ) (proof : PageProof) (proofs : List PageProof) (taken : ℕ)
+      (e : texts ≡ text ++ rest) where
+    -- after a page that is proved
+    behind : (found : JobVerdict) → IsAnswered dpi sheet text proof verdicts.Proved → IsOutcome sheets rest proofs (taken + 1) found
+        → IsOutcome (sheet ∷ sheets) texts (proof ∷ proofs) taken found
+    behind job.Proved p o = (omega (arith, o.0), (text, rest, p, e, o.1))
+    behind (job.Page place verdict) p o =
+        let f = o.2 in (
+          o.0 + 1,
+          omega (arith, o.1),
+          fails_first (sheet ∷ f.pages_before) f.sheet f.pages_behind (proof ∷ f.proofs_before) f.proof f.proofs_behind
+              (text ++ f.texts_before) f.text f.texts_behind (rw f.pages_are) (rw f.proofs_are) (rw (e, f.texts_are, append_assoc))
+              (omega (arith, f.proved_before.0), (text, f.texts_before, p, refl, f.proved_before.1)) (omega (arith, f.counted))
+              f.answered f.not_proved,
+        )
+    behind found p o = absurd o
+
+    -- by what is found of the first page: what becomes of the later ones where it is proved, and that it stays where it isn't
+    at_page : (page : Page) (found last : JobVerdict) → IsFound page text proof (taken + 1) found → Shows dpi page sheet
+        → length text ≡ proof.text_len → (found ≡ job.Proved → IsOutcome sheets rest proofs (taken + 1) last)
+        → ((found ≡ job.Proved → ⊥) → last ≡ found) → IsOutcome (sheet ∷ sheets) texts (proof ∷ proofs) taken last
+    at_page page job.Proved last is shows long follows keeps =
+        behind last (record { page = page; shows = shows; as_long = long; verdict_is = is }) (follows refl)
+    at_page page (job.Page place verdict) last is shows long follows keeps =
+        rw (keeps (λ (p : job.Page place verdict ≡ job.Proved). cc)) (
+          1,
+          is.0,
+          fails_first [] sheet sheets [] proof proofs [] text rest refl refl e (refl, refl) refl
+              (record { page = page; shows = shows; as_long = long; verdict_is = is.1 }) is.2,
+        )
+    at_page page found last is shows long follows keeps = absurd is
 
   -- no proof is left after as many pages
   pub none_left : (sheets : List Sheet) (proofs : List PageProof) (old new : Checker) → proofs_left old ≡ proofs
@@ -141,8 +117,8 @@ module _ (dpi : Dpi) where
       let next = simp f at s.2 in
       let found : IsFound h.0 (take proof.text_len texts) proof (taken + 1) h.1.found = rw (← t, ← n) next.1 in
       let rest = drop proof.text_len texts in
-      at_page sheet sheets texts _ rest proof proofs taken h.0 h.1.found new.found found h.2
-      (length-take-le proof.text_len texts (omega (arith, long))) (sym (take-append-drop proof.text_len texts))
+      at_page sheet sheets texts (take proof.text_len texts) rest proof proofs taken (sym (take-append-drop proof.text_len texts)) h.0
+      h.1.found new.found found h.2 (length-take-le proof.text_len texts (omega (arith, long)))
       (λ proved. outcome sheets rest proofs (taken + 1) h.1 new proved (rw (s.1, n)) (rw (next.0, t)) s.0
       (omega (arith, long, length-drop proof.text_len texts)) (omega arith) h.4)
       (λ wrong. stays sheets proofs h.1 new wrong refl s.0 (omega arith) h.4)

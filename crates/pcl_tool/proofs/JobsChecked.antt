@@ -1,6 +1,6 @@
 -- What the checker of a job answers after the last page.
 use Rattle.pcl_tool.proofs.Names.{cases_eq, Dpi, Sheet, Hands, HasPages, CertFault, Format, PageProof, Fails, certificate_at, JobVerdict, Checker, AreCompared, IsFramed, IsJobVerdict, BeginsWith, IsBegun, TakesPage, proofs_left, answer}
-use Rattle.std.proofs.Common.{◌≡◌, ℕ, zero, suc, inl, inr, List, length, refl, arith, Ok}
+use Rattle.std.proofs.Common.{◌≡◌, ℕ, inl, inr, List, length, refl, arith, Ok}
 use Rattle.pcl_cert.specs.declared.fault.CertFault.TheVariants.{Memory}
 use Rattle.pcl_tool.specs.declared.job_verdict.JobVerdict.TheVariants as job
 use Rattle.pcl_tool.proofs.Checkers.{stays, none_left, miscounted, IsOutcome, outcome}
