@@ -28,21 +28,20 @@ control_turned dpi value (Some done) s {later} is e =
     let same : turned done.0 done.1 s ≡ later = cc in
     rw (← same) (stays_pages done s (control_outcome dpi value (is_marked s) s.settings is))
 
-control_by : (dpi : Dpi) (command : Said) (s : Situation) {later : Situation} (ignored : Bool)
-    → cond ignored (Ok s) (taken dpi ControlMacros command.value (prepared dpi ControlMacros s) |> drawn_on dpi ControlMacros command)
-    ≡ Ok later → later.pages ≡ s.pages
-control_by dpi command s {later} true e = let same : s ≡ later = cc in rw (← same) refl
-control_by dpi command s {later} false e =
-    let before = prepared dpi ControlMacros s in
-    let t = then_from (taken dpi ControlMacros command.value before) (drawn_on dpi ControlMacros command) e in
-    let same : t.0 ≡ later = let is = t.2 in cc in
-    rw (← same) (control_turned dpi command.value _ before refl t.1)
-
 -- what is refused for macros ejects nothing
 unmanaged_pages : (dpi : Dpi) (place : ℕ) (operation : Option Operation) (command : Said) (s : Situation) {now : Situation} {kind : Kind}
     → after_named dpi operation command s ≡ Ok now → managed place operation command.value now ≡ Err kind → now.pages ≡ s.pages
 unfolding after
-unmanaged_pages dpi place (Some ControlMacros) command s e m = control_by dpi command s (is_ignored ControlMacros s) e
+unmanaged_pages dpi place (Some ControlMacros) command s {now} e m =
+    let before = prepared dpi ControlMacros s in
+    let on = taken dpi ControlMacros command.value before in
+    let next = drawn_on dpi ControlMacros command in
+    elim (is_ignored ControlMacros s) as (λ ignored. cond ignored (Ok s) (on |> next) ≡ Ok now → now.pages ≡ s.pages) [
+      | true ↦ λ kept. let same : s ≡ now = cc in rw (← same) refl
+      | false ↦ λ is.
+          let t = then_from on next is in
+          let same : t.0 ≡ now = let drawn_is = t.2 in cc in rw (← same) (control_turned dpi command.value _ before refl t.1)
+    ] e
 unmanaged_pages dpi place other command s e m = absurd cc
 
 -- the performer performed the command, and nothing was done to macros yet

@@ -4,7 +4,7 @@ use Rattle.pcl_page.proofs.Names.{Dpi, JobFault, macro_limit, refusal, Said, Pag
 use Rattle.pcl_base.specs.declared.fault.JobFault.TheVariants.{Refused, Memory}
 use Rattle.pcl_page.proofs.Keeping.{end_adds}
 use Rattle.pcl_page.proofs.Sinks.{Onward, stays_there, hands_append, hands_further, goes_from, goes_to}
-use Rattle.pcl_page.proofs.Unfolded.{Grows, then_done, then_assoc, then_grows, all_grow}
+use Rattle.pcl_page.proofs.Unfolded.{Grows, then_done, then_assoc, then_grows, order_grows, runs_grow}
 
 -- ---- what is still to be performed
 
@@ -18,7 +18,8 @@ end_grows dpi end = λ s.
 
 pub rest_grows : (dpi : Dpi) (end : ℕ) (all : List Said) (place : ℕ) (commands : List Said) → Grows (rest_of_job dpi end all place commands)
 rest_grows dpi end all place commands = λ s.
-    then_grows (after_all dpi all place commands s) s _ (all_grow dpi all place commands s) (end_grows dpi end)
+    then_grows (after_all dpi all place commands s) s _
+    (order_grows dpi (runs macro_limit dpi all) place commands (runs_grow macro_limit dpi all) s) (end_grows dpi end)
 
 -- the next command, and the rest after it
 abbrev next_step : Dpi → List Said → ℕ → Said → Situation → Performance

@@ -28,8 +28,7 @@ pub use Rattle.pcl_env.specs.declared.effect.Unsupported.{Unsupported}
 pub use Rattle.pcl_escape.proofs.Names.{Said, view}
 pub use Rattle.pcl_rows.proofs.Decoded.{decoded_is}
 pub use Rattle.pcl_rows.proofs.Names.{decoded}
-pub use Rattle.pcl_fonts.proofs.Histories.{holds_after}
-pub use Rattle.pcl_fonts.proofs.Names.{Character, Font, FontEvent, character_in, info_of}
+pub use Rattle.pcl_fonts.proofs.Names.{Character, Font, character_in, info_of}
 pub use Rattle.pcl_fonts.specs.declared.header.FontInfo.{FontInfo}
 pub use Rattle.pcl_macros.proofs.Names.{Begun, Controls, MacroEvent, control, is_begun, macro_at}
 pub use Rattle.pcl_macros.specs.declared.table.MacroControl.{MacroControl}
@@ -41,7 +40,7 @@ pub use Rattle.pcl_page.specs.Macros.{Run, acted, action_of, after_command, cont
 pub use Rattle.pcl_page.specs.Marks.{Mark, are_marked, dot_at, dots_of, is_black}
 pub use Rattle.pcl_page.specs.Performing.{Performance, Shows, after_all, after_end, and_run, asks_among, commands_left, concluded, done, end_refusal, ended, in_order, pages_of, performance, runs, step, stopped, then_on, unless}
 pub use Rattle.pcl_page.specs.Raster.{Raster, bytes_of_width, cleared_past, ends_raster, first_bits, is_below_height, is_ignored_in_raster, raster_from, row_mark, row_sent, rows_in, scale_of}
-pub use Rattle.pcl_page.specs.Situation.{Sheet, Situation, at_begin, at_end, code_printed, codes_printed, ejects, end_raster, font_now, is_marked, page_refusal, prepared, raster_for_row, settings_below, sheet_of, tried, turned_page, with_event, with_row_in}
+pub use Rattle.pcl_page.specs.Situation.{Sheet, Situation, at_begin, at_end, code_printed, codes_printed, ejects, end_raster, font_now, is_marked, page_refusal, prepared, raster_for_row, settings_below, sheet_of, tried, turned_page, with_row_in}
 pub use Rattle.pcl_page.specs.Text.{are_spaces, behind_blank, behind_character, character_mark, is_proportional, prints, text_refusal}
 pub use Rattle.pcl_page.specs.contracts.raster.Raster.{the_view}
 pub use Rattle.pcl_page.specs.declared.accepting.Counted.{Counted}
@@ -53,5 +52,5 @@ pub use Rattle.pcl_page.specs.declared.macros.Keeping.{Keeping}
 pub use Rattle.pcl_page.specs.declared.macros.Keeping.TheVariants.{Ends, Kept}
 pub use Rattle.pcl_page.specs.declared.performer.Performer.{Performer}
 pub use Rattle.pcl_page.specs.declared.text.Printed.{Printed}
-pub use Rattle.pcl_page.specs.inner.Reflecting.{Draws, EndDone, HandsMore, HasEvent, HasSettings, IsAtCursor, IsDrawn, IsEjected, IsFollowed, IsHanded, IsIn, IsInked, IsLastInked, IsPainted, IsPrepared, IsSent, IsTried, IsTurned, IsWhite, Takes, character_at}
+pub use Rattle.pcl_page.specs.inner.Reflecting.{Draws, EndDone, HandsMore, HasSettings, IsAtCursor, IsDrawn, IsEjected, IsFollowed, IsHanded, IsIn, IsInked, IsLastInked, IsPainted, IsPrepared, IsSent, IsTried, IsTurned, IsWhite, Takes, character_at}
 pub use Rattle.pcl_page.specs.inner.Unfolding.{Enters, GoesOn, HandsFirst, HasLevel, InterpreterEnds, IsActed, IsAsking, IsAt, IsEntered, IsStepped, begun_among, entered, left_in, rest_of, resumed, run_in, work_left}

@@ -1,12 +1,8 @@
 -- What is drawn, text and fonts: the performer follows the situation.
-use Rattle.std.proofs.Common.{◌≡◌, ℕ, suc, ◌+◌, ◌-◌, Bool, true, false, cond, List, [], ◌∷◌, Option, Some, None, ℤ, pos, negsuc, refl, sym, subst, ◌∙◌, rules, arith}
+use Rattle.std.proofs.Common.{◌≡◌, ℕ, suc, ◌+◌, ◌-◌, Bool, true, false, cond, List, ◌∷◌, Option, Some, None, ℤ, pos, negsuc, refl, sym, subst, ◌∙◌, rules, arith}
 use Rattle.std.specs.Prelude.{◌==◌}
-use Rattle.pcl_page.proofs.Names.{Dpi, Side, NoFont, Black, Said, Font, Character, FontInfo, FontEvent, info_of, holds_after, Settings, put_x, advance, font_of, font_in_use, Performer, Printed, Mark, prints, character_mark, are_spaces, is_proportional, text_refusal, behind_character, behind_blank, Situation, with_event, with_row_in, raster_for_row, code_printed, codes_printed, character_at, IsIn, IsDrawn, IsInked, IsAtCursor, IsLastInked, IsSent, HasEvent, HasSettings}
+use Rattle.pcl_page.proofs.Names.{Dpi, Side, NoFont, Black, Said, Font, Character, FontInfo, info_of, Settings, put_x, advance, font_of, font_in_use, Performer, Printed, Mark, prints, character_mark, are_spaces, is_proportional, text_refusal, behind_character, behind_blank, Situation, with_row_in, raster_for_row, code_printed, codes_printed, character_at, IsIn, IsDrawn, IsInked, IsAtCursor, IsLastInked, IsSent, HasSettings}
 use Rattle.pcl_page.proofs.Turns.{drawn_in}
-
-pub event_in : {dpi : Dpi} {event : FontEvent} {s : Situation} {old new : Performer} → IsIn dpi s old → HasEvent event old new
-    → IsIn dpi (with_event event s) new
-event_in i h = search (rules, holds_after h.follows i.fonts, h.bitmap)
 
 pub settings_in : {dpi : Dpi} {settings : Settings} {s : Situation} {old new : Performer} → IsIn dpi s old → HasSettings settings old new
     → IsIn dpi (record s { settings = settings }) new
@@ -128,11 +124,6 @@ code_done {dpi} {proportional} code c p e i =
       in_use = code_use dpi proportional c code p.now ∙ p.in_use;
       left = rw (same_character p code c e) p.left;
     }
-
-pub all_done : {dpi : Dpi} {proportional : Bool} {s : Situation} {codes rest : List ℕ} {performer : Performer}
-    → IsPrintedTo dpi proportional s codes rest performer → rest ≡ []
-    → IsIn dpi (codes_printed dpi proportional (prints s.fonts (font_in_use s.settings)) codes s) performer
-all_done p e = rw (rw e at p.left) at p.is_in
 
 -- ---- with a font and without
 

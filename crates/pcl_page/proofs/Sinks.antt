@@ -3,6 +3,17 @@ use Rattle.std.proofs.Common.{◌≡◌, ◌+◌, List, [], ◌∷◌, ◌++◌,
 use Rattle.pcl_page.proofs.Names.{Dpi, JobFault, Said, Page, Interpreter, Sheet, Situation, Performance, Hands, HandsMore, HandsFirst, GoesOn}
 use Rattle.pcl_base.specs.declared.fault.JobFault.TheVariants.{Refused, Memory}
 
+-- pages are only added, and each with what it is asked with
+abbrev pub Onward : Situation → Situation → Type 0
+Onward s now = (more : List Sheet) × (now.pages ≡ s.pages ++ more) × (length now.asks.pages ≡ length s.asks.pages + length more)
+
+pub stays_there : (s : Situation) → Onward s s
+stays_there s = ([], sym (append-nil s.pages), omega arith)
+
+pub onward_on : (s middle now : Situation) → Onward s middle → Onward middle now → Onward s now
+onward_on s middle now a b =
+    (a.0 ++ b.0, rw (b.1, a.1) (append_assoc s.pages a.0 b.0), omega (arith, a.2, b.2, length-append a.0 b.0))
+
 module _ {S : Type 0} (takes : S → Page → S → Type 0) (dpi : Dpi) where
   pub hands_append : (front back : List Sheet) (old middle new : S) → Hands takes dpi front old middle → Hands takes dpi back middle new
       → Hands takes dpi (front ++ back) old new
@@ -27,18 +38,6 @@ module _ {S : Type 0} (takes : S → Page → S → Type 0) (dpi : Dpi) where
       → HandsFirst takes dpi middle now then new → HandsFirst takes dpi s now old new
   first_on s middle now old then new h k = (h.0 ++ k.0, k.1, rw (k.2, h.1) (simp append_assoc), hands_append h.0 k.0 old then new h.2 k.3)
 
--- pages are only added, and each with what it is asked with
-abbrev pub Onward : Situation → Situation → Type 0
-Onward s now = (more : List Sheet) × (now.pages ≡ s.pages ++ more) × (length now.asks.pages ≡ length s.asks.pages + length more)
-
-pub stays_there : (s : Situation) → Onward s s
-stays_there s = ([], sym (append-nil s.pages), omega arith)
-
-pub onward_on : (s middle now : Situation) → Onward s middle → Onward middle now → Onward s now
-onward_on s middle now a b =
-    (a.0 ++ b.0, rw (b.1, a.1) (append_assoc s.pages a.0 b.0), omega (arith, a.2, b.2, length-append a.0 b.0))
-
-module _ {S : Type 0} (takes : S → Page → S → Type 0) (dpi : Dpi) where
   -- the pages up to a situation are the first of those that there will be
   pub first_of_more : (s middle now : Situation) (old new : S) → HandsMore takes dpi s middle old new → Onward middle now
       → HandsFirst takes dpi s now old new
@@ -51,9 +50,9 @@ module _ {S : Type 0} (takes : S → Page → S → Type 0) (dpi : Dpi) where
   pub goes_from : (all : List Said) (whole : Performance) (s now : Situation) (result : Result (Unit {0}) JobFault) (last : Interpreter)
       (old then new : S) → HandsMore takes dpi s now old then → GoesOn takes dpi all whole now result last then new
       → GoesOn takes dpi all whole s result last old new
-  goes_from all whole s now (Ok unit) last old then new h g = (g.0, g.1, more_on takes dpi s now g.0 old then new h g.2, g.3)
-  goes_from all whole s now (Err (Refused why)) last old then new h g = (g.0, more_on takes dpi s now whole.situation old then new h g.1)
-  goes_from all whole s now (Err Memory) last old then new h g = first_on takes dpi s now whole.situation old then new h g
+  goes_from all whole s now (Ok unit) last old then new h g = (g.0, g.1, more_on s now g.0 old then new h g.2, g.3)
+  goes_from all whole s now (Err (Refused why)) last old then new h g = (g.0, more_on s now whole.situation old then new h g.1)
+  goes_from all whole s now (Err Memory) last old then new h g = first_on s now whole.situation old then new h g
 
   -- the same on the way to the same performance
   pub goes_to : (all : List Said) (whole other : Performance) (s : Situation) (result : Result (Unit {0}) JobFault) (last : Interpreter)

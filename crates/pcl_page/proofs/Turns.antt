@@ -42,10 +42,6 @@ pub answered : (o : Outcome) {effect : Effect} (old : Settings) {new : Settings}
 answered None old a = let e = a.0 in absurd cc
 answered (Some done) {effect} old a = (done, refl, (let e : ◌≡◌ {A = Result Effect Unsupported} (Ok effect) (Ok done.1) = a.0 in cc), a.1)
 
-pub unanswered : (o : Outcome) {e : Unsupported} (old new : Settings) → Answers o (Err e) old new → o ≡ None
-unanswered None old new a = refl
-unanswered (Some done) {e} old new a = let f : ◌≡◌ {A = Result Effect Unsupported} (Err e) (Ok done.1) = a.0 in absurd cc
-
 -- ---- pages that stay
 
 -- with no marks every dot is white

@@ -143,7 +143,7 @@ step_grows : (dpi : Dpi) (f : Said → Run → Situation → Performance) (place
 step_grows dpi f place {command} g = λ s.
     then_grows _ s _ (concluded_grows dpi place command s _ refl) (λ later. run_grows (f command) (run_of command s later) g later)
 
-order_grows : (dpi : Dpi) (f : Said → Run → Situation → Performance) (place : ℕ) (commands : List Said)
+pub order_grows : (dpi : Dpi) (f : Said → Run → Situation → Performance) (place : ℕ) (commands : List Said)
     → ((command : Said) (r : Run) → Grows (f command r)) → Grows (in_order (step dpi f) place commands)
 order_grows dpi f place [] g = stays_there
 order_grows dpi f place (command ∷ commands) g = λ s.
@@ -159,13 +159,9 @@ rest_grows : (levels : ℕ) (dpi : Dpi) (all : List Said) (run : Run) → ((comm
 rest_grows levels dpi all run g = λ s.
     then_grows _ s _ (order_grows dpi (runs levels dpi all) run.next (commands_left all run) g s) (left_grows dpi run.saved)
 
-runs_grow : (levels : ℕ) (dpi : Dpi) (all : List Said) (command : Said) (run : Run) → Grows (runs levels dpi all command run)
+pub runs_grow : (levels : ℕ) (dpi : Dpi) (all : List Said) (command : Said) (run : Run) → Grows (runs levels dpi all command run)
 runs_grow zero dpi all command run = stays_there
 runs_grow (suc levels) dpi all command run = rest_grows levels dpi all run (runs_grow levels dpi all)
-
-pub all_grow : (dpi : Dpi) (all : List Said) (place : ℕ) (commands : List Said)
-    → Grows (in_order (step dpi (runs macro_limit dpi all)) place commands)
-all_grow dpi all place commands = order_grows dpi (runs macro_limit dpi all) place commands (runs_grow macro_limit dpi all)
 
 pub resumed_grow : (levels : ℕ) (dpi : Dpi) (all : List Said) (running : List Running) → Grows (resumed levels dpi all running)
 resumed_grow levels dpi all [] = stays_there

@@ -32,11 +32,8 @@ returns-in_err-run_macros g c =
     let all = g.L.CommandList.commands c.args.commands.now in
     let r = rw (next_is all c.loop-command.place c.in-Some.ensures.command) at c.loop-command.invariant in
     let p = err_from_is_err_and c.from_residual-in_err-run_macros.result c.from_residual-in_err-run_macros.ensures.1 in
-    rw (p.1, p.2) (
-      macros_stopped _ _ _ all _ _ _ _ _ _ _ r _ _ _ _ _ (c.in_ok-perform_at.ensures.done all r.situation r.is_at)
-          (λ s at. c.in_err-run_macros.ensures.done s at),
-      tt,
-    )
+    let on = c.in_ok-perform_at.ensures.done all r.situation r.is_at in
+    rw (p.1, p.2) (macros_stopped _ _ _ all _ _ _ _ _ _ _ r _ _ _ _ _ on (λ s at. c.in_err-run_macros.ensures.done s at), tt)
 
 pub returns : goal.returns
 returns g c =
