@@ -67,38 +67,26 @@ module _ (dpi : Dpi) where
       (alike, all_alike pages kept others found k.3 f.3 (omega arith) a.1)
   all_alike _ _ _ _ k f count a = absurd (grind arith)
 
+  -- the first pages that differ
+  differ_first : {pages others : List Sheet} {number : ℕ} {difference : Difference} (pages_before : List Sheet) (page : Sheet)
+      (pages_after others_before : List Sheet) (other : Sheet) (others_after : List Sheet) → pages ≡ pages_before ++ page ∷ pages_after
+      → others ≡ others_before ++ other ∷ others_after → AllAlike dpi pages_before others_before → number ≡ length pages_before + 1
+      → DifferBy dpi page other difference → DifferFirst dpi pages others number difference
+  differ_first _ _ _ _ _ _ pages_are others_are alike counted differ = search
+
   first_differ : (pages : List Sheet) (kept : List KeptPage) (others : List Sheet) (before : List (Option Difference))
       {difference : Difference} (after : List (Option Difference)) → KeepAll dpi pages kept
       → FindAll dpi kept others (before ++ Some difference ∷ after) → length (before ++ Some difference ∷ after) ≡ length kept
       → AllByRecursion IsAlike before → DifferFirst dpi pages others (length before + 1) difference
-  first_differ (page ∷ pages) (one ∷ kept) (other ∷ others) [] {difference} after k f count a = record {
-    pages_before = [];
-    page = page;
-    pages_after = pages;
-    pages_are = refl;
-    others_before = [];
-    other = other;
-    others_after = others;
-    others_are = refl;
-    alike_before = tt;
-    counted = refl;
-    differ = sheets_differ k.1 f.1 difference (f.2 k.0 k.2 (cc (k.1.resolution, f.1.resolution)));
-  }
+  first_differ (page ∷ pages) (one ∷ kept) (other ∷ others) [] {difference} after k f count a =
+      differ_first [] page pages [] other others refl refl tt refl
+      (sheets_differ k.1 f.1 difference (f.2 k.0 k.2 (cc (k.1.resolution, f.1.resolution))))
   first_differ (page ∷ pages) (one ∷ kept) (other ∷ others) (b ∷ before) after k f count a =
       let rest = first_differ pages kept others before after k.3 f.3 (omega arith) a.1 in
-      record {
-        pages_before = page ∷ rest.pages_before;
-        page = rest.page;
-        pages_after = rest.pages_after;
-        pages_are = cc (rest.pages_are);
-        others_before = other ∷ rest.others_before;
-        other = rest.other;
-        others_after = rest.others_after;
-        others_are = cc (rest.others_are);
-        alike_before = (sheets_alike k.1 f.1 (rw a.0 at (f.2 k.0 k.2 (cc (k.1.resolution, f.1.resolution)))), rest.alike_before);
-        counted = omega (arith, rest.counted);
-        differ = rest.differ;
-      }
+      differ_first (page ∷ rest.pages_before) rest.page rest.pages_after (other ∷ rest.others_before) rest.other rest.others_after
+      (cc (rest.pages_are)) (cc (rest.others_are))
+      (sheets_alike k.1 f.1 (rw a.0 at (f.2 k.0 k.2 (cc (k.1.resolution, f.1.resolution)))), rest.alike_before)
+      (omega (arith, rest.counted)) rest.differ
   first_differ _ _ _ [] after k f count a = absurd (grind arith)
   first_differ _ _ _ (b ∷ before) after k f count a = absurd (grind arith)
 
@@ -125,16 +113,7 @@ pub beside_kept : OnePages → {dpi : Dpi} {first second : List ℕ} {kept : Kep
     → IsAskedComparison dpi first second result
 beside_kept one {dpi} {first} {second} {kept} {others} {other_asks} k meaning asked difference found f is result pages asks =
     let compare = compared_so dpi k.pages kept.pages.items others found difference k.keeps f is in
-    record {
-      pages = k.pages;
-      meaning = k.meaning;
-      asks = asks_of kept.asks;
-      asked = k.asked;
-      others = others;
-      other_meaning = meaning;
-      other_asks = other_asks;
-      other_asked = asked;
-      compare = rw pages compare;
-      compare_asks = asks (λ none.
-          cc (asked_pages one k.meaning k.asked, alike_count dpi k.pages others (rw none at compare), asked_pages one meaning asked));
-    }
+    let compare_pages : Compare dpi k.pages others (of_pages result) = rw pages compare in
+    let compare_asks = asks (λ none.
+    cc (asked_pages one k.meaning k.asked, alike_count dpi k.pages others (rw none at compare), asked_pages one meaning asked)) in
+    search (k, meaning, asked, compare_pages, compare_asks)
