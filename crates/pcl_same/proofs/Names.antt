@@ -1,34 +1,20 @@
 -- What proofs of this crate name of std, of the crates below, and of its own definitions; those above take these from here too.
-pub use Rattle.pcl_base.proofs.Names.{AllByRecursion, MatchOption, append_cancel_left, arith, bit_at, bit_at-lt, bit_at-zero, bit_at_above, bit_at_cat_high, bit_at_xor, bit_xor, cases_lt, command_limit, count_leading_zeros, drop-append-le, drop-append_seam, drop-cons, drop-drop, drop_all, get_or-map, get_or_append_left, get_or_past, get_or_push, is_some, le-ltb, leading_top, length-append, length-drop, length-map, length-take-le, lt-ltb, macro_limit, nat_lt, nat_tests, operation_of, option_or, or-false, page_height, page_row_bytes, page_width, rules, same_from_bits_below, slice_index, take, take-append-drop, take-append-le, take-append_seam, take-length, take-replicate, take_more, take_more_same, xor_of_8}
+pub use Rattle.pcl_base.proofs.Names.{AllByRecursion, MatchOption, append_cancel_left, arith, bit_at, bit_at-lt, bit_at-zero, bit_at_above, bit_at_cat_high, bit_at_xor, bit_xor, cases_lt, count_leading_zeros, drop-append-le, drop-append_seam, drop-cons, drop-drop, drop_all, get_or-map, get_or_append_left, get_or_past, get_or_push, le-ltb, leading_top, length-append, length-drop, length-map, length-take-le, lt-ltb, nat_lt, nat_tests, option_or, or-false, page_height, page_row_bytes, page_width, rules, same_from_bits_below, slice_index, take, take-append-drop, take-append-le, take-append_seam, take-length, take-replicate, take_more, take_more_same, xor_of_8}
 pub use Rattle.pcl_base.proofs.PageBounds.{row_small}
 pub use Rattle.pcl_base.specs.declared.dpi.Dpi.{Dpi}
-pub use Rattle.pcl_base.specs.declared.kind.Kind.{Kind}
-pub use Rattle.pcl_base.specs.declared.kind.Kind.TheVariants.{TooManyCommands}
 pub use Rattle.pcl_base.specs.declared.method.Method.TheVariants.{Delta}
 pub use Rattle.pcl_base.specs.declared.operation.Asking.{Asking}
 pub use Rattle.pcl_base.specs.declared.operation.Asking.TheVariants.{MediaType, OutputBin, PaperSource, SheetSide, Sides}
-pub use Rattle.pcl_base.specs.declared.operation.Operation.{Operation}
-pub use Rattle.pcl_base.specs.declared.operation.Operation.TheVariants.{ControlFonts, ControlMacros, DownloadCharacter, DownloadFont, FillRectangle, PrintText}
 pub use Rattle.pcl_base.specs.declared.refusal.Refusal.{Refusal}
-pub use Rattle.pcl_base.specs.declared.value.Value.{Value}
 pub use Rattle.pcl_bitmap.proofs.Names.{IsPicture, Picture, bit_of_byte, dot, dot_of_row, raster_dot, row_of}
 pub use Rattle.pcl_bitmap.proofs.Pictures.{same_dots}
 pub use Rattle.pcl_bitmap.specs.declared.page.Page.{Page}
-pub use Rattle.pcl_env.specs.Outcome.{outcome}
-pub use Rattle.pcl_env.specs.Settings.{Settings, defaults, font_in_use, nothing_asked}
+pub use Rattle.pcl_env.specs.Settings.{nothing_asked}
 pub use Rattle.pcl_env.specs.declared.asked.Asked.{Asked}
-pub use Rattle.pcl_env.specs.declared.effect.Effect.{Effect}
-pub use Rattle.pcl_env.specs.declared.effect.Effect.TheVariants.{EjectMarked}
-pub use Rattle.pcl_escape.proofs.Names.{Said}
 pub use Rattle.pcl_rows.proofs.Names.{Decodes}
 pub use Rattle.pcl_rows.proofs.OneReading.{one_row}
-pub use Rattle.pcl_fonts.proofs.Names.{Character}
-pub use Rattle.pcl_page.proofs.Jobs.{accepted_pages, has_pages}
-pub use Rattle.pcl_page.proofs.Names.{AllAlike, AreAlike, Asks, Hands, HasAsks, HasPages, IsRefusal, Performance, Run, Sheet, Shows, acted, action_of, after_all, after_command, after_end, and_run, asks_of, commands_left, concluded, counting, defining, definition_ended, done, end_refusal, ended, ends_raster, exit_of, in_order, is_black, is_proportional, keeping_of, macro_ended, managed, pages_of, performance, performance_of, prints, run_of, runs, step, then_on, unless}
-pub use Rattle.pcl_page.specs.declared.macros.Action.{Action}
-pub use Rattle.pcl_page.specs.declared.macros.Action.TheVariants.{End}
-pub use Rattle.pcl_page.specs.declared.macros.Keeping.{Keeping}
-pub use Rattle.pcl_page.specs.declared.macros.Keeping.TheVariants.{Ends, Kept, Refused}
+pub use Rattle.pcl_page.proofs.Jobs.{accepted_pages, has_pages, rest_grows}
+pub use Rattle.pcl_page.proofs.Names.{AllAlike, AreAlike, Asks, Hands, HasAsks, HasPages, IsRefusal, Sheet, Shows, asks_of, at_begin, exit_of, is_black, pages_of, performance_of}
 pub use Rattle.pcl_same.specs.Comparing.{Compare, CompareAsks, IsAskedComparison, IsCompared, IsComparedAsked, IsComparison, of_pages}
 pub use Rattle.pcl_same.specs.Differing.{DifferBy, DifferFirst, IsFirstDot}
 pub use Rattle.pcl_same.specs.DifferingAsks.{AsksDifferBy, DifferAt, ExitsDifferBy, IsFirstSetting, order_of, setting_of}
