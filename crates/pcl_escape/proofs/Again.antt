@@ -1,13 +1,56 @@
--- All steps, the other way: bytes that are whole pieces are read as these, and the first fault is found.
-use Rattle.std.proofs.Common.{◌≡◌, ℕ, zero, suc, ◌+◌, ◌-◌, ◌<◌, ◌≤◌, List, [], ◌∷◌, ◌++◌, length, Option, Some, None, Result, Ok, Err, refl, sym, ◌∙◌, append_assoc, append-nil, length-append, add-zero, zero-add, arith}
-use Rattle.pcl_escape.proofs.Names.{nat_tests, flat_map, AllByRecursion, Refusal, Prefix, prefix_bytes, joined, Said, Reads, step_at, parameter_at, commands_said, with_front, and_then, outcome_of, Parameter, Piece, silent, control, text, two_character, combined, exit, IsPrefix, IsPiece, ArePieces, IsMiddle, IsEnd, IsReading, parameter_bytes, spelling, command_of, parameter_commands, first_place, commands_from, commands_of, Fails, in_parameter, in_line, IsUngrouped, FailsParameter, place_behind, IsFault, unknown_control, lone_escape, no_sequence, unknown_two, no_group, bad_group}
+-- All steps: bytes that are whole pieces are read as these, and the first fault is found; so what is read says what the bytes are.
+use Rattle.std.proofs.Common.{◌≡◌, ℕ, zero, suc, ◌+◌, ◌-◌, ◌<◌, List, [], ◌∷◌, ◌++◌, length, Option, Some, None, Result, Ok, Err, refl, ap, ◌∙◌, append_assoc, append-nil, length-append, add-zero, zero-add, ◌&&◌, ◌==◌, not, is_some, false, arith}
+use Rattle.pcl_escape.proofs.Names.{nat_tests, flat_map, AllByRecursion, JobFault, Refused, Memory, Refusal, Prefix, prefix_bytes, joined, Said, Reads, step_at, parameter_at, with_front, and_then, outcome_of, Yields, Parameter, Piece, combined, IsPrefix, IsPiece, ArePieces, IsMiddle, IsReading, parameter_bytes, spelling, command_of, parameter_commands, first_place, commands_from, commands_of, Fails, in_parameter, in_line, IsUngrouped, IsFault, IsFaultOf, unknown_control, lone_escape, no_sequence, unknown_two, no_group, bad_group}
 use Rattle.pcl_escape.specs.inner.Scan.{start_at, sequence_at, prefix_at, outcome, named_at}
 use Rattle.pcl_escape.proofs.Lines.{foreign}
-use Rattle.pcl_escape.proofs.Steps.{Inside, is_inside, found_shorter, is_middle, is_end, is_wrong, parameter_shorter, parameter_joined, inside_reads}
-use Rattle.pcl_escape.proofs.Starts.{piece_reads, text_again, inside_again, exit_first, exit_again, parts_apart, named_control, named_two}
-use Rattle.pcl_escape.proofs.Runs.{Last, no_more, first_fault, sequence_bytes, place_from, place_from_more, place_in_sequence, place_prefixed, grouped_any, middle_grouped, place_of, place_further, place_in, with_fronts, no_front, step_shorter, GoesOn}
+use Rattle.pcl_escape.proofs.Steps.{Inside, inside_shorter, is_middle, is_end, is_wrong, Stays, parameter_step, parameter_joined, inside_reads, grouped_stays, middle_grouped}
+use Rattle.pcl_escape.proofs.Starts.{Outside, whole_piece, sequence, start_step, inside_again, exit_first, parts_apart, piece_step, piece_long}
+use Rattle.pcl_escape.proofs.Runs.{no_more, first_fault, Reading, reading, job_reading, place_from, place_in_sequence, place_further, grouped_any}
 
--- ---- any number of steps that is enough
+-- ---- fronts and places
+
+-- two fronts are one
+pub with_fronts : (front more : List Said) (read : Result (List Said) Refusal)
+    → with_front front (with_front more read) ≡ with_front (front ++ more) read
+with_fronts front more read = grind (arith, append_assoc front more)
+
+-- an empty front changes nothing
+no_front : (read : Result (List Said) Refusal) → with_front [] read ≡ read
+no_front read = grind arith
+
+-- the place after the front of the bytes
+place_of : (at : ℕ) (front rest : List ℕ) → at + (length (front ++ rest) - length rest) ≡ at + length front
+place_of at front rest = simp length-append (omega arith)
+
+-- a place after a sequence's step, counted from ESC and from the first parameter
+place_in : (at : ℕ) (prefix : Prefix) (more : List ℕ) {rest : ℕ} → rest < length more
+    → at + (length (27 ∷ (prefix_bytes prefix ++ more)) - rest) ≡ first_place at prefix + (length more - rest)
+place_in at prefix more h = simp length-append (omega arith)
+
+-- ---- one step, and the others
+
+-- there is more to read: bytes are left, or a sequence goes on
+abbrev pub GoesOn : Option Prefix → List ℕ → Type 0
+GoesOn inside bytes = (length bytes == 0 && not (is_some inside)) ≡ false
+
+-- each step outside a sequence takes a byte
+start_shorter : {at : ℕ} {bytes : List ℕ} {reads : Reads} → Outside at bytes (Ok reads) → length reads.rest < length bytes
+start_shorter (whole_piece piece rest is alone) = let long = piece_long piece rest is in simp length-append (omega arith)
+start_shorter (sequence prefix more same is n inside stays) = let shorter = inside_shorter inside in simp length-append (omega arith)
+
+-- a step takes a byte
+pub step_shorter : (inside : Option Prefix) (at : ℕ) (bytes : List ℕ) {reads : Reads} → GoesOn inside bytes
+    → step_at inside at bytes ≡ Ok reads → length reads.rest < length bytes
+step_shorter None at [] goes e = absurd cc
+step_shorter None at (byte ∷ bytes) goes e = start_shorter (rw e at (start_step {at = at} {byte = byte} {rest = bytes}))
+step_shorter (Some prefix) at bytes goes e = inside_shorter (rw e at (parameter_step {prefix = prefix} {at = at} {bytes = bytes}))
+
+-- the first step, and then the others
+first_step : (n : ℕ) (inside : Option Prefix) (at : ℕ) (bytes : List ℕ) → GoesOn inside bytes
+    → outcome (suc n) inside at bytes ≡ and_then (step_at inside at bytes)
+    (λ reads. outcome n reads.inside (at + (length bytes - length reads.rest)) reads.rest)
+unfolding outcome
+first_step n inside at bytes goes = grind (arith, nat_tests)
 
 -- two ways to go on that agree on what the step read
 after_same : (read : Result Reads Refusal) (f g : Reads → Result (List Said) Refusal)
@@ -15,185 +58,180 @@ after_same : (read : Result Reads Refusal) (f g : Reads → Result (List Said) R
 after_same read f g h = grind (arith, h)
 
 -- more steps than there are bytes give what any such number of steps gives
-pub enough : (n m : ℕ) (inside : Option Prefix) (at : ℕ) (bytes : List ℕ) → length bytes < n → length bytes < m
+enough : (n m : ℕ) (inside : Option Prefix) (at : ℕ) (bytes : List ℕ) → length bytes < n → length bytes < m
     → outcome n inside at bytes ≡ outcome m inside at bytes
 unfolding outcome
 enough zero m inside at bytes h k = absurd (omega arith)
 enough (suc n) zero inside at bytes h k = absurd (omega arith)
 enough (suc n) (suc m) None at [] h k = refl
-enough (suc n) (suc m) None at (byte ∷ bytes) h k =
-    after_same (start_at at (byte ∷ bytes)) _ _
-    (λ reads e. let shorter = step_shorter None at (byte ∷ bytes) (grind (arith, nat_tests)) e in
+enough (suc n) (suc m) inside at bytes h k = after_same (step_at inside at bytes) _ _
+    (λ reads e. let shorter = step_shorter inside at bytes (grind (arith, nat_tests)) e in
     enough n m reads.inside _ reads.rest (omega arith) (omega arith))
-enough (suc n) (suc m) (Some prefix) at bytes h k =
-    after_same (parameter_at prefix at bytes) _ _
-    (λ reads e. let shorter = parameter_shorter prefix at bytes e in enough n m reads.inside _ reads.rest (omega arith) (omega arith))
+
+-- as many steps as it takes
+abbrev pub all_at : Option Prefix → ℕ → List ℕ → Result (List Said) Refusal
+all_at inside at bytes = outcome (suc (length bytes)) inside at bytes
+
+-- the steps after one of the bytes, which begin at a place
+abbrev pub rest_at : ℕ → List ℕ → Reads → Result (List Said) Refusal
+rest_at begin bytes reads = all_at reads.inside (begin + (length bytes - length reads.rest)) reads.rest
+
+pub one_step : (inside : Option Prefix) (at : ℕ) (bytes : List ℕ) → GoesOn inside bytes
+    → all_at inside at bytes ≡ and_then (step_at inside at bytes) (rest_at at bytes)
+one_step inside at bytes goes = first_step (length bytes) inside at bytes goes ∙ after_same (step_at inside at bytes) _ _
+    (λ reads e. enough (length bytes) (suc (length reads.rest)) reads.inside _ reads.rest (step_shorter inside at bytes goes e) (omega arith))
 
 -- ---- sequences
 
 -- the steps from a parameter on, whose command has the place at; its bytes begin at the place begin
-abbrev steps_in : ℕ → Prefix → ℕ → ℕ → List ℕ → Result (List Said) Refusal
-steps_in n prefix at begin bytes = and_then (parameter_at prefix at bytes)
-    (λ reads. outcome n reads.inside (begin + (length bytes - length reads.rest)) reads.rest)
+abbrev steps_in : Prefix → ℕ → ℕ → List ℕ → Result (List Said) Refusal
+steps_in prefix at begin bytes = and_then (parameter_at prefix at bytes) (rest_at begin bytes)
 
--- whatever the number of steps, if it is enough
-abbrev Gives : ℕ → List ℕ → Result (List Said) Refusal → Type 0
-Gives at bytes read = (n : ℕ) → length bytes < n → outcome n None at bytes ≡ read
+-- what middle parameters say
+abbrev middle_commands : Prefix → ℕ → ℕ → List Parameter → List Said
+middle_commands prefix at begin [] = []
+middle_commands prefix at begin (parameter ∷ middle) =
+    let next = begin + length (parameter_bytes parameter) in command_of prefix at parameter [] ∷ middle_commands prefix next next middle
 
--- the steps from a middle parameter on: one step, and the steps after it
-middle_on : (n : ℕ) {prefix : Prefix} (at begin : ℕ) {parameter : Parameter} (rest : List ℕ) → IsMiddle prefix parameter
-    → steps_in (suc n) prefix at begin (parameter_bytes parameter ++ rest) ≡ with_front (command_of prefix at parameter [] ∷ [])
-    (steps_in n prefix (begin + length (parameter_bytes parameter)) (begin + length (parameter_bytes parameter)) rest)
-unfolding outcome
-middle_on n at begin {parameter} rest is =
-    rw (inside_reads (is_middle parameter rest is), place_of begin (parameter_bytes parameter) rest) refl
+-- with the last one, it's what the sequence says
+all_commands : (prefix : Prefix) (at begin : ℕ) (middle : List Parameter) (end : Parameter) (bytes : List ℕ)
+    → parameter_commands prefix at begin middle end bytes
+    ≡ middle_commands prefix at begin middle ++ command_of prefix (place_from at begin middle) end bytes ∷ []
+all_commands prefix at begin [] end bytes = refl
+all_commands prefix at begin (parameter ∷ middle) end bytes =
+    rw (all_commands prefix (begin + length (parameter_bytes parameter)) (begin + length (parameter_bytes parameter)) middle end bytes) refl
 
--- the steps from a whole rest of a sequence on
-whole_again : (middle : List Parameter) (n : ℕ) {prefix : Prefix} (at begin : ℕ) {end : Parameter} {sent : List ℕ} (behind : List ℕ)
-    {read : Result (List Said) Refusal} → AllByRecursion (IsMiddle prefix) middle → IsEnd prefix end sent
-    → length (flat_map parameter_bytes middle ++ (parameter_bytes end ++ (sent ++ behind))) ≤ n
-    → Gives (begin + length (sequence_bytes middle end sent)) behind read
-    → steps_in n prefix at begin (flat_map parameter_bytes middle ++ (parameter_bytes end ++ (sent ++ behind)))
-    ≡ with_front (parameter_commands prefix at begin middle end sent) read
-whole_again [] n at begin {end} {sent} behind each is h gives =
-    let long = simp length-append at h in
-    let place : begin + (length (parameter_bytes end ++ (sent ++ behind)) - length behind)
-    ≡ begin + length (parameter_bytes end ++ sent) = simp length-append (omega arith) in
-    rw (inside_reads (is_end end sent behind is), place, gives n (omega arith)) refl
-whole_again (parameter ∷ middle) zero at begin behind each is h gives = absurd (let long = simp length-append at h in omega arith)
-whole_again (parameter ∷ middle) (suc n) {prefix} at begin {end} {sent} behind {read} each is h gives =
+-- the steps from middle parameters on
+middle_on : (prefix : Prefix) (middle : List Parameter) (at begin : ℕ) (bytes : List ℕ) → AllByRecursion (IsMiddle prefix) middle
+    → steps_in prefix at begin (flat_map parameter_bytes middle ++ bytes) ≡ with_front (middle_commands prefix at begin middle)
+    (steps_in prefix (place_from at begin middle) (begin + length (flat_map parameter_bytes middle)) bytes)
+middle_on prefix [] at begin bytes each = rw (add-zero, no_front) refl
+middle_on prefix (parameter ∷ middle) at begin bytes each =
     let next = begin + length (parameter_bytes parameter) in
-    let long = simp length-append at h in
-    let place : begin + length (sequence_bytes (parameter ∷ middle) end sent) ≡ next + length (sequence_bytes middle end sent) =
-    simp length-append (omega arith) in
-    let rest = whole_again middle n next next behind each.1 is (simp length-append (omega arith)) (rw place at gives) in
-    rw (append_assoc (parameter_bytes parameter), middle_on n at begin _ each.0, rest)
-    (with_fronts (command_of prefix at parameter [] ∷ []) _ read)
-
--- the steps up to the fault of a parameter
-broken_again : (middle : List Parameter) (n : ℕ) {prefix : Prefix} (at begin : ℕ) {bytes : List ℕ} {refusal : Refusal}
-    → AllByRecursion (IsMiddle prefix) middle → FailsParameter prefix (place_from at begin middle) bytes refusal
-    → length (flat_map parameter_bytes middle ++ bytes) ≤ n → steps_in n prefix at begin (flat_map parameter_bytes middle ++ bytes)
-    ≡ Err refusal
-broken_again [] n at begin each f h = rw (inside_reads (is_wrong f)) refl
-broken_again (parameter ∷ middle) zero at begin each f h = absurd (let long = simp length-append at h in omega arith)
-broken_again (parameter ∷ middle) (suc n) at begin {bytes} each f h =
-    let long = simp length-append at h in
-    rw (append_assoc (parameter_bytes parameter), middle_on n at begin _ each.0)
-    (rw (broken_again middle n _ _ each.1 (rw (← place_from_more begin parameter middle) at f) (simp length-append (omega arith))) refl)
+    let behind = flat_map parameter_bytes middle ++ bytes in
+    rw (append_assoc (parameter_bytes parameter), inside_reads (is_middle parameter behind each.0), place_of begin (parameter_bytes parameter))
+    (rw (one_step (Some prefix) next behind (grind (arith, nat_tests)), middle_on prefix middle next next bytes each.1, with_fronts, place_further) refl)
 
 -- the steps from ESC on are those from the first parameter on, whose command has the place of ESC
-first_on : (n : ℕ) (prefix : Prefix) (at : ℕ) (bytes : List ℕ) {read : Result Reads Refusal} → IsPrefix prefix
-    → IsUngrouped prefix.group bytes → Inside prefix at bytes read
-    → outcome (suc n) None at (27 ∷ (prefix_bytes prefix ++ bytes)) ≡ steps_in n prefix at (first_place at prefix) bytes
-unfolding outcome
-first_on n prefix at bytes {read} is apart inside =
-    rw (inside_again prefix.parameterized prefix.group is apart inside, inside_reads inside)
-    (after_same read _ _ (λ reads f. rw (place_in at prefix bytes (found_shorter (is_inside (rw f at inside)))) refl))
+first_on : (prefix : Prefix) (at : ℕ) {bytes : List ℕ} {read : Result Reads Refusal} → IsPrefix prefix → IsUngrouped prefix.group bytes
+    → Inside prefix at bytes read → Stays read
+    → all_at None at (27 ∷ (prefix_bytes prefix ++ bytes)) ≡ steps_in prefix at (first_place at prefix) bytes
+first_on prefix at {bytes} {read} is apart inside stays =
+    rw (one_step None at (27 ∷ (prefix_bytes prefix ++ bytes)) (grind (arith, nat_tests)))
+    (rw (inside_again prefix.parameterized prefix.group is apart inside stays, inside_reads inside)
+    (after_same read _ _ (λ reads f. rw (place_in at prefix bytes (inside_shorter (rw f at inside))) refl)))
+
+-- a sequence begins with a middle parameter, or with what is behind these
+sequence_on : {prefix : Prefix} (at : ℕ) (middle : List Parameter) {bytes : List ℕ} {read : Result Reads Refusal} → IsPrefix prefix
+    → IsUngrouped prefix.group bytes → AllByRecursion (IsMiddle prefix) middle
+    → Inside prefix (place_from at (first_place at prefix) middle) bytes read → Stays read
+    → all_at None at (27 ∷ (prefix_bytes prefix ++ (flat_map parameter_bytes middle ++ bytes)))
+    ≡ with_front (middle_commands prefix at (first_place at prefix) middle)
+    (and_then read (rest_at (first_place at prefix + length (flat_map parameter_bytes middle)) bytes))
+sequence_on {prefix} at [] is apart each inside stays =
+    rw (first_on prefix at is apart inside stays, inside_reads inside, add-zero, no_front) refl
+sequence_on {prefix} at (parameter ∷ middle) {bytes} is apart each inside stays =
+    let grouped = middle_grouped each.0 in
+    let first = is_middle parameter (flat_map parameter_bytes middle ++ bytes) each.0 in
+    let on = middle_on prefix (parameter ∷ middle) at (first_place at prefix) bytes each in
+    rw (append_assoc (parameter_bytes parameter))
+    (first_on prefix at is (grouped_any prefix.group _ grouped) first (grouped_stays grouped first))
+    ∙ rw (append_assoc (parameter_bytes parameter), inside_reads inside) at on
 
 -- what holds where there is no group character holds where there may be one
 ungrouped_front : (group : Option ℕ) (bytes : List ℕ) → IsUngrouped None bytes → IsUngrouped group bytes
 ungrouped_front group bytes n = grind arith
 
--- a sequence begins with a middle parameter, or with what is behind these
-sequence_on : (n : ℕ) {prefix : Prefix} (at : ℕ) (middle : List Parameter) {bytes : List ℕ} {read : Result Reads Refusal} → IsPrefix prefix
-    → IsUngrouped prefix.group bytes → AllByRecursion (IsMiddle prefix) middle → Inside prefix (place_behind at prefix middle) bytes read
-    → outcome (suc n) None at (27 ∷ (prefix_bytes prefix ++ (flat_map parameter_bytes middle ++ bytes)))
-    ≡ steps_in n prefix at (first_place at prefix) (flat_map parameter_bytes middle ++ bytes)
-sequence_on n {prefix} at [] {bytes} is apart each inside = first_on n prefix at bytes is apart inside
-sequence_on n {prefix} at (parameter ∷ middle) {bytes} is apart each inside =
-    rw (append_assoc (parameter_bytes parameter))
-    (first_on n prefix at _ is (grouped_any prefix.group _ (middle_grouped each.0)) (is_middle parameter _ each.0))
-
--- ---- pieces
-
--- the first step, and then the others
-pub first_step : (n : ℕ) (inside : Option Prefix) (at : ℕ) (bytes : List ℕ) → GoesOn inside bytes
-    → outcome (suc n) inside at bytes ≡ and_then (step_at inside at bytes)
-    (λ reads. outcome n reads.inside (at + (length bytes - length reads.rest)) reads.rest)
-unfolding outcome
-first_step n inside at bytes goes = grind (arith, nat_tests)
-
--- the steps from a piece on that one step reads
-piece_on : (piece : Piece) {n : ℕ} (at : ℕ) {rest : List ℕ} {said : Option Said} {read : Result (List Said) Refusal}
-    → 0 < length (spelling piece) → start_at at (spelling piece ++ rest) ≡ piece_reads said rest
-    → length (spelling piece ++ rest) < suc n → Gives (at + length (spelling piece)) rest read
-    → outcome (suc n) None at (spelling piece ++ rest) ≡ with_front (commands_said said) read
-piece_on piece {n} at {rest} long e h gives =
-    let fits = simp length-append at h in
-    let some : 0 < length (spelling piece ++ rest) = simp length-append (omega arith) in
-    rw (first_step n None at (spelling piece ++ rest) (grind (arith, nat_tests)), e, place_of, gives n (omega arith)) refl
-
--- the steps from any piece on
-piece_again : (piece : Piece) (n at : ℕ) (bytes : List ℕ) {read : Result (List Said) Refusal} → IsPiece piece bytes
-    → length (spelling piece ++ bytes) < n → Gives (at + length (spelling piece)) bytes read
-    → outcome n None at (spelling piece ++ bytes) ≡ with_front (commands_from at piece) read
-unfolding start_at sequence_at named_at
-piece_again piece zero at bytes is h gives = absurd (omega arith)
-piece_again (silent byte) (suc n) at bytes is h gives = piece_on (silent byte) at {said = None} (omega arith) (rw is refl) h gives
-piece_again (control code) (suc n) at bytes is h gives = piece_on (control code) at (omega arith) (named_control at bytes is) h gives
-piece_again (text []) (suc n) at bytes is h gives = absurd is
-piece_again (text (byte ∷ more)) (suc n) at bytes is h gives = piece_on (text (byte ∷ more)) at (omega arith) (text_again is) h gives
-piece_again (two_character byte) (suc n) at bytes is h gives =
-    piece_on (two_character byte) at (omega arith) (named_two at bytes is) h gives
-piece_again (combined prefix middle end sent) (suc n) at bytes is h gives =
-    let long = simp length-append at h in
+-- the steps from a sequence on
+combined_on : (prefix : Prefix) (at : ℕ) (middle : List Parameter) (end : Parameter) (sent bytes : List ℕ)
+    → IsPiece (combined prefix middle end sent) bytes
+    → all_at None at (spelling (combined prefix middle end sent) ++ bytes) ≡ with_front (commands_from at (combined prefix middle end sent))
+    (all_at None (at + length (spelling (combined prefix middle end sent))) bytes)
+combined_on prefix at middle end sent bytes is =
     let field = end.field in
     let apart = parts_apart field.sign field.whole field.fraction end.letter (sent ++ bytes) is.2.field.0 is.2.letter in
     let begins = ungrouped_front prefix.group (parameter_bytes end ++ (sent ++ bytes))
     (rw (parameter_joined field end.letter (sent ++ bytes)) apart) in
-    rw (append_assoc (prefix_bytes prefix), append_assoc (flat_map parameter_bytes middle), append_assoc (parameter_bytes end) sent)
-    (sequence_on n at middle is.0 begins is.1 (is_end end sent bytes is.2)
-    ∙ whole_again middle n at (first_place at prefix) bytes is.1 is.2 (simp length-append (omega arith))
-    (rw (← place_prefixed at prefix (sequence_bytes middle end sent)) at gives))
-piece_again (exit field lines) (suc n) at bytes is h gives = piece_on (exit field lines) at (omega arith) (exit_again is) h gives
+    let first = first_place at prefix in
+    let place : first + length (flat_map parameter_bytes middle) + (length (parameter_bytes end ++ (sent ++ bytes)) - length bytes)
+    ≡ at + length (spelling (combined prefix middle end sent)) = simp length-append (omega arith) in
+    let whole : spelling (combined prefix middle end sent) ++ bytes
+    ≡ 27 ∷ (prefix_bytes prefix ++ (flat_map parameter_bytes middle ++ (parameter_bytes end ++ (sent ++ bytes)))) =
+    rw (append_assoc (prefix_bytes prefix), append_assoc (flat_map parameter_bytes middle), append_assoc (parameter_bytes end) sent) refl in
+    let last = is_end end sent bytes (record { field = is.2.field; letter = is.2.letter; checks = is.2.checks }) in
+    ap (all_at None at) whole ∙ sequence_on at middle is.0 begins is.1 last is.2.stays
+    ∙ rw (place, with_fronts, all_commands prefix at first middle end sent) refl
+
+-- ---- pieces
+
+-- the steps from any piece on
+piece_again : (piece : Piece) (at : ℕ) (bytes : List ℕ) → IsPiece piece bytes
+    → all_at None at (spelling piece ++ bytes) ≡ with_front (commands_from at piece) (all_at None (at + length (spelling piece)) bytes)
+piece_again (combined prefix middle end sent) at bytes is = combined_on prefix at middle end sent bytes is
+piece_again piece at bytes is =
+    let long = piece_long piece bytes is in
+    let some : 0 < length (spelling piece ++ bytes) = simp length-append (omega arith) in
+    rw (one_step None at (spelling piece ++ bytes) (grind (arith, nat_tests)), piece_step piece at bytes is tt, place_of at (spelling piece) bytes) refl
+
+-- pieces are read so
+pieces_again : (pieces : List Piece) (at : ℕ) (behind : List ℕ) → ArePieces pieces behind
+    → all_at None at (flat_map spelling pieces ++ behind)
+    ≡ with_front (commands_of at pieces) (all_at None (at + length (flat_map spelling pieces)) behind)
+pieces_again [] at behind each = rw (add-zero, no_front) refl
+pieces_again (piece ∷ pieces) at behind each =
+    rw (append_assoc (spelling piece), piece_again piece at (flat_map spelling pieces ++ behind) each.0)
+    (rw (pieces_again pieces (at + length (spelling piece)) behind each.1, with_fronts, place_further) refl)
 
 -- the fault at a place outside sequences is found
-fault_found : {n at : ℕ} {bytes : List ℕ} {refusal : Refusal} → Fails at bytes refusal → length bytes < suc n
-    → outcome (suc n) None at bytes ≡ Err refusal
+fault_found : {at : ℕ} {bytes : List ℕ} {refusal : Refusal} → Fails at bytes refusal → all_at None at bytes ≡ Err refusal
 unfolding outcome start_at sequence_at prefix_at named_at
-fault_found {n} {at} (in_parameter prefix middle is apart each f) h =
-    let long = simp length-append at h in
-    rw (sequence_on n at middle is apart each (is_wrong f)) (broken_again middle n at (first_place at prefix) each
-    (rw (← place_in_sequence at prefix middle) at f) (simp length-append (omega arith)))
-fault_found {at} (in_line {bytes = rest} field lines line f x e each ends l p) h =
+fault_found {at} (in_parameter prefix middle is apart each f) =
+    rw (sequence_on at middle is apart each (is_wrong (rw (← place_in_sequence at prefix middle) at f)) tt) refl
+fault_found {at} (in_line {bytes = rest} field lines line f x e each ends l p) =
     let bytes = joined lines ++ (line ++ rest) in
     rw (← parameter_joined field 88 bytes, exit_first at field bytes f x e (foreign lines line rest each ends l p)) refl
-fault_found (unknown_control c s o) h = grind (arith, nat_tests)
-fault_found lone_escape h = refl
-fault_found (no_sequence t p) h = rw (t, p) refl
-fault_found (unknown_two t o) h = grind (arith, nat_tests)
-fault_found (no_group p u) h = grind (arith, nat_tests)
-fault_found (bad_group p u g) h = grind (arith, nat_tests)
-
--- what stands after the last piece is read so
-last_again : (n : ℕ) {at : ℕ} {behind : List ℕ} {last : Result (List Said) Refusal} → Last at behind last → length behind < n
-    → outcome n None at behind ≡ last
-unfolding outcome
-last_again zero ends h = absurd (omega arith)
-last_again (suc n) no_more h = refl
-last_again (suc n) (first_fault f) h = fault_found f h
-
--- pieces and what is after them are read so
-pieces_again : (pieces : List Piece) {n : ℕ} (at : ℕ) {behind : List ℕ} {last : Result (List Said) Refusal} → ArePieces pieces behind
-    → Last (at + length (flat_map spelling pieces)) behind last
-    → length (flat_map spelling pieces ++ behind) < n → outcome n None at (flat_map spelling pieces ++ behind)
-    ≡ with_front (commands_of at pieces) last
-pieces_again [] {n} at {last = last} each ends h = last_again n (rw (add-zero at) at ends) h ∙ sym (no_front last)
-pieces_again (piece ∷ pieces) {n} at {behind} {last} each ends h =
-    let next = at + length (spelling piece) in
-    let more = rw (← place_further at (spelling piece) (flat_map spelling pieces)) at ends in
-    rw (append_assoc (spelling piece)) (rw (piece_again piece n at _ each.0 (rw (append_assoc (spelling piece)) at h)
-    (λ m fits. pieces_again pieces next each.1 more fits)) (with_fronts (commands_from at piece) _ last))
+fault_found (unknown_control c s o) = grind (arith, nat_tests)
+fault_found lone_escape = refl
+fault_found (no_sequence t p) = rw (t, p) refl
+fault_found (unknown_two t o) = grind (arith, nat_tests)
+fault_found (no_group p u) = grind (arith, nat_tests)
+fault_found (bad_group p u g) = grind (arith, nat_tests)
 
 -- ---- whole jobs
 
 -- a reading of the job is what is read
 pub reading_again : {job : List ℕ} {commands : List Said} → IsReading job commands → outcome_of job ≡ Ok commands
-reading_again r =
-    let size = length (flat_map spelling r.pieces) in
-    rw (r.spelled, r.said) (simp append-nil at (pieces_again r.pieces {n = suc size} 0 r.each no_more (simp append-nil (omega arith))))
+unfolding outcome
+reading_again r = rw (r.spelled, r.said) (simp append-nil at (pieces_again r.pieces 0 [] r.each))
 
 -- a first fault of the job is what is found
 pub fault_found_of : {job : List ℕ} {fault : Refusal} → IsFault job fault → outcome_of job ≡ Err fault
-fault_found_of f = rw f.spelled (pieces_again f.front 0 f.each (first_fault (rw zero-add f.fails)) (omega arith))
+fault_found_of f = rw (f.spelled, pieces_again f.front 0 f.behind f.each, zero-add, fault_found f.fails) refl
+
+-- so what is read without fault says what the job is
+all_read : {job : List ℕ} {commands : List Said} → Reading 0 job → outcome_of job ≡ Ok commands → IsReading job commands
+all_read (reading pieces behind each no_more) e =
+    let same = reading_again (record { pieces = pieces; each = each; spelled = append-nil (flat_map spelling pieces); said = refl }) in
+    record { pieces = pieces; each = each; spelled = append-nil (flat_map spelling pieces); said = cc }
+all_read (reading pieces behind each (first_fault refusal f)) e =
+    absurd (let found = fault_found_of (record { front = pieces; each = each; behind = behind; spelled = refl; fails = rw zero-add at f }) in cc)
+
+-- and so does a fault
+broken_off : {job : List ℕ} {fault : Refusal} → Reading 0 job → outcome_of job ≡ Err fault → IsFault job fault
+broken_off (reading pieces behind each no_more) e =
+    absurd (let same = reading_again (record { pieces = pieces; each = each; spelled = append-nil (flat_map spelling pieces); said = refl }) in cc)
+broken_off {fault = fault} (reading pieces behind each (first_fault refusal f)) e =
+    let is : IsFault _ refusal = record { front = pieces; each = each; behind = behind; spelled = refl; fails = rw zero-add at f } in
+    let same : refusal ≡ fault = let found = fault_found_of is in cc in rw same at is
+
+pub reading_of : {job : List ℕ} {commands : List Said} → outcome_of job ≡ Ok commands → IsReading job commands
+reading_of {job} e = all_read (job_reading job) e
+
+pub fault_of : (job : List ℕ) (fault : Refusal) → outcome_of job ≡ Err fault → IsFault job fault
+fault_of job fault e = broken_off (job_reading job) e
+
+-- what yields a fault finds the first one
+pub fault_of_scan : (job : List ℕ) (fault : JobFault) (commands : List Said) → Yields (Err fault) commands (outcome_of job)
+    → IsFaultOf job fault
+fault_of_scan job (Refused fault) commands y = fault_of job fault y
+fault_of_scan job Memory commands y = tt

@@ -10,7 +10,7 @@ use Rattle.pcl_escape.specs.inner.Fields.{field_at}
 use Rattle.pcl_escape.specs.inner.Scan.{named_at, text_at, parameter_at, ungrouped_at, prefix_at, sequence_at, start_at, outcome}
 use Rattle.pcl_escape.specs.Checks.{parameter_checks}
 use Rattle.pcl_escape.specs.inner.Lines.{lines_from}
-use Rattle.pcl_escape.proofs.Runs.{reading_of, fault_of}
+use Rattle.pcl_escape.proofs.Again.{reading_of, fault_of}
 
 abbrev said : ℕ → Name → Sign → ℕ → List ℕ → Said
 said at name sign parts bytes = record { at = at; name = name; value = record { sign = sign; parts = parts }; bytes = bytes }

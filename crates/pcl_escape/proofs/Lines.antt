@@ -1,6 +1,6 @@
 -- The lines after a universal exit: what is skipped is what they are, both ways.
-use Rattle.std.proofs.Common.{◌≡◌, ℕ, zero, suc, ◌+◌, ◌-◌, ◌<◌, ◌≤◌, Bool, true, false, ◌==◌, not, nat_eq, if◌then◌else◌, IsTrue, List, [], ◌∷◌, ◌++◌, length, take, drop, ◌⊎◌, inl, inr, Result, Ok, Err, refl, sym, ap, subst, ◌∙◌, append_assoc, append-nil, length-append, length-drop, length-take-le, take-append-drop, take_at, drop_at, add-zero, eqb-true, arith}
-use Rattle.pcl_escape.proofs.Names.{codes, flat_map-append, bytes_eq, is_job_line, names_language, names_pcl, HasNoFeed, IsLine, joined, AreOtherLines, AreLines, to_other_bytes, to_pcl, line_len, lines_at}
+use Rattle.std.proofs.Common.{◌≡◌, ℕ, zero, suc, ◌+◌, ◌-◌, ◌<◌, ◌≤◌, true, false, ◌==◌, not, nat_eq, if◌then◌else◌, IsTrue, List, [], ◌∷◌, ◌++◌, length, take, drop, ◌⊎◌, inl, inr, Result, Ok, Err, refl, sym, ap, subst, ◌∙◌, append_assoc, append-nil, length-append, length-drop, take-append-drop, take_at, drop_at, add-zero, eqb-true, arith}
+use Rattle.pcl_escape.proofs.Names.{cases_Bool, codes, flat_map-append, bytes_eq, is_job_line, names_language, names_pcl, HasNoFeed, IsLine, joined, AreOtherLines, AreLines, to_other_bytes, to_pcl, line_len, lines_at}
 use Rattle.pcl_escape.specs.inner.Lines.{lines_from}
 use Rattle.pcl_escape.proofs.Fields.{by_test}
 
@@ -62,26 +62,50 @@ found_again {line} (inr (same, none)) = rw (same, text_again line [] none) (omeg
 
 -- ---- one step
 
--- the step at a line
-at_line : {line behind : List ℕ} (more place : ℕ) → IsLine line behind
-    → lines_from (suc more) place (line ++ behind) ≡ (if not (names_language line) then lines_from more (place + length line) behind
-    else (if names_pcl line then Ok behind else Err place))
-unfolding lines_from
-at_line {line} {behind} more place is =
-    rw (found_again is.1, take_at line behind _ refl, drop_at line behind _ refl, word_before (codes "@PJL") line behind is.0) refl
-
 -- the bytes after a line are fewer
 behind_shorter : (bytes : List ℕ) → is_job_line bytes ≡ true → length (drop (line_len bytes) bytes) < length bytes
 behind_shorter bytes e = simp length-drop (omega (arith, line_long bytes e, line_within bytes))
 
 -- any number of steps that is enough
-pub lines_enough : (n m place : ℕ) (bytes : List ℕ) → length bytes < n → length bytes < m
-    → lines_from n place bytes ≡ lines_from m place bytes
+lines_enough : (n m place : ℕ) (bytes : List ℕ) → length bytes < n → length bytes < m → lines_from n place bytes ≡ lines_from m place bytes
 unfolding lines_from
 lines_enough zero m place bytes h k = absurd (omega arith)
 lines_enough (suc n) zero place bytes h k = absurd (omega arith)
 lines_enough (suc n) (suc m) place bytes h k =
     grind (arith, behind_shorter bytes, lines_enough n m (place + line_len bytes) (drop (line_len bytes) bytes))
+
+-- a line is skipped, or ends the skipping
+at_line : {line behind : List ℕ} (place : ℕ) → IsLine line behind
+    → lines_at place (line ++ behind) ≡ (if not (names_language line) then lines_at (place + length line) behind
+    else (if names_pcl line then Ok behind else Err place))
+unfolding lines_from
+at_line {line} {behind} place is =
+    let some = line_long line is.0 in
+    let within = line_within line in
+    let fewer : length behind < length (line ++ behind) = simp length-append (omega arith) in
+    rw (found_again is.1, take_at line behind _ refl, drop_at line behind _ refl, word_before (codes "@PJL") line behind is.0)
+    (rw (lines_enough (length (line ++ behind)) (suc (length behind)) (place + length line) behind fewer (omega arith)) refl)
+
+-- so do other bytes than a line of the job language
+pub at_other_bytes : (place : ℕ) {bytes : List ℕ} → false ≡ is_job_line bytes → lines_at place bytes ≡ Ok bytes
+unfolding lines_from
+at_other_bytes place e = rw (← e) refl
+
+-- the line at the front, cut off
+pub record IsCut (bytes line behind : List ℕ) : Type 0 where
+  pub job : true ≡ is_job_line bytes
+  pub line_is : line ≡ take (line_len bytes) bytes
+  pub behind_is : behind ≡ drop (line_len bytes) bytes
+
+-- is skipped, or ends the skipping
+pub at_cut : (place : ℕ) {bytes line behind : List ℕ} → IsCut bytes line behind
+    → lines_at place bytes ≡ (if not (names_language line) then lines_at (place + (length bytes - length behind)) behind
+    else (if names_pcl line then Ok behind else Err place))
+at_cut place {bytes} {line} {behind} cut =
+    let is : IsLine line behind = rw (cut.line_is, cut.behind_is) (line_is bytes (sym cut.job)) in
+    let whole : bytes ≡ line ++ behind = rw (cut.line_is, cut.behind_is) (sym (take-append-drop (line_len bytes) bytes)) in
+    let len : length (line ++ behind) - length behind ≡ length line = simp length-append (omega arith) in
+    rw (whole, len) (at_line place is)
 
 -- ---- from the steps to the lines
 
@@ -113,99 +137,48 @@ line_first {place} {line} is none (foreign lines last rest each ends l p) =
     rw (further, ← append_assoc line (joined lines) (last ++ rest)) (foreign (line ∷ lines) last rest (is, none, each) ends l p)
 
 -- what the steps give says what the bytes are
-pub lines_split : (n : ℕ) {place : ℕ} {bytes : List ℕ} → length bytes < n → Lines place bytes (lines_from n place bytes)
-unfolding lines_from
+lines_split : (n : ℕ) {place : ℕ} {bytes : List ℕ} → length bytes < n → Lines place bytes (lines_at place bytes)
 lines_split zero h = absurd (omega arith)
-lines_split (suc n) {place} {bytes} h =
-    let line = take (line_len bytes) bytes in
-    let behind = drop (line_len bytes) bytes in
-    by_test (Lines place bytes) (not (is_job_line bytes)) (λ other. skipped [] bytes (to_other_bytes [] tt (grind arith))) (λ job.
-    let e : is_job_line bytes ≡ true = grind arith in
-    let is = line_is bytes e in
-    let shorter = behind_shorter bytes e in
-    let long = length-take-le (line_len bytes) bytes (line_within bytes) in
-    let next = lines_from n (place + line_len bytes) behind in
-    let read = if not (names_language line) then next else (if names_pcl line then Ok behind else Err place) in
-    subst (λ (bs : List ℕ). Lines place bs read) (take-append-drop (line_len bytes) bytes)
-    (by_test (Lines place (line ++ behind)) (not (names_language line))
-    (λ l. line_first is (grind arith) (rw long (lines_split n (omega arith))))
-    (λ l. let asks : names_language line ≡ true = grind arith in by_test (Lines place (line ++ behind)) (names_pcl line)
-    (λ p. rw (← append-nil line) (skipped (line ∷ []) behind (to_pcl [] line tt is asks p)))
-    (λ p. subst (λ (k : ℕ). Lines place (line ++ behind) (Err k)) (add-zero place) (foreign [] line behind tt is asks p)))))
+lines_split (suc n) {place} {bytes} h = elim (cases_Bool (is_job_line bytes)) [
+  | inr other ↦ rw (at_other_bytes place (sym other)) (skipped [] bytes (to_other_bytes [] tt other))
+  | inl job ↦
+      let line = take (line_len bytes) bytes in
+      let behind = drop (line_len bytes) bytes in
+      let is = line_is bytes job in
+      let shorter = behind_shorter bytes job in
+      subst (λ (bs : List ℕ). Lines place bs (lines_at place bs)) (take-append-drop (line_len bytes) bytes)
+      (rw (at_line place is) (by_test (Lines place (line ++ behind)) (not (names_language line))
+      (λ l. line_first is (grind arith) (lines_split n (omega arith)))
+      (λ l. let asks : names_language line ≡ true = grind arith in by_test (Lines place (line ++ behind)) (names_pcl line)
+      (λ p. rw (← append-nil line) (skipped (line ∷ []) behind (to_pcl [] line tt is asks p)))
+      (λ p. subst (λ (k : ℕ). Lines place (line ++ behind) (Err k)) (add-zero place) (foreign [] line behind tt is asks p)))))
+]
 
--- ---- from the lines to the steps
-
--- after lines that ask for no language, the steps go on
-others_again : (lines : List (List ℕ)) (n place : ℕ) (behind : List ℕ) {read : Result (List ℕ) ℕ} → AreOtherLines lines behind
-    → length (joined lines ++ behind) < n → ((m : ℕ) → length behind < m → lines_from m (place + length (joined lines)) behind ≡ read)
-    → lines_from n place (joined lines ++ behind) ≡ read
-others_again [] n place behind each h gives = rw (← add-zero place) (gives n h)
-others_again (line ∷ lines) zero place behind each h gives = absurd (omega arith)
-others_again (line ∷ lines) (suc n) place behind each h gives =
-    let some = line_long line each.0.0 in
-    let within = line_within line in
-    let long = simp length-append at h in
-    let further : place + length line + length (joined lines) ≡ place + length (line ++ joined lines) = simp length-append (omega arith) in
-    rw (append_assoc line (joined lines) behind, at_line n place each.0, each.1)
-    (others_again lines n (place + length line) behind each.2 (simp length-append (omega arith)) (λ m fits. rw further (gives m fits)))
-
--- at other bytes the steps end
-other_bytes : (m place : ℕ) {behind : List ℕ} → length behind < m → is_job_line behind ≡ false → lines_from m place behind ≡ Ok behind
-unfolding lines_from
-other_bytes m place h e = grind arith
-
--- so do they at a line that asks for a language
-asking_line : (m place : ℕ) {line behind : List ℕ} {pcl : Bool} → length (line ++ behind) < m → IsLine line behind
-    → names_language line ≡ true → names_pcl line ≡ pcl → lines_from m place (line ++ behind) ≡ (if pcl then Ok behind else Err place)
-asking_line zero place h is l p = absurd (omega arith)
-asking_line (suc m) place h is l p = at_line m place is ∙ rw (l, p) refl
-
--- lines are skipped, and one that asks for another language is found
-pub lines_again : {place : ℕ} {bytes : List ℕ} {read : Result (List ℕ) ℕ} → Lines place bytes read → lines_at place bytes ≡ read
-lines_again {place} (skipped all rest (to_other_bytes lines each e)) =
-    others_again lines (suc (length (joined lines ++ rest))) place rest each (omega arith)
-    (λ m fits. other_bytes m (place + length (joined lines)) fits e)
-lines_again {place} (skipped all rest (to_pcl lines line each ends l p)) =
-    rw (last_joined lines line rest) (others_again lines (suc (length (joined lines ++ (line ++ rest)))) place (line ++ rest) each
-    (omega arith) (λ m fits. asking_line m (place + length (joined lines)) fits ends l p))
-lines_again {place} (foreign lines line rest each ends l p) =
-    others_again lines (suc (length (joined lines ++ (line ++ rest)))) place (line ++ rest) each
-    (omega arith) (λ m fits. asking_line m (place + length (joined lines)) fits ends l p)
-
--- ---- the code's step
-
--- other bytes than a line of the job language
-pub at_other_bytes : (place : ℕ) {bytes : List ℕ} → false ≡ is_job_line bytes → lines_at place bytes ≡ Ok bytes
-at_other_bytes place {bytes} e = other_bytes (suc (length bytes)) place (omega arith) (sym e)
-
--- the line at the front, cut off
-pub record IsCut (bytes line behind : List ℕ) : Type 0 where
-  pub job : true ≡ is_job_line bytes
-  pub line_is : line ≡ take (line_len bytes) bytes
-  pub behind_is : behind ≡ drop (line_len bytes) bytes
-
--- a line that asks for no language is skipped
-pub at_other_line : (place : ℕ) {bytes line behind : List ℕ} → IsCut bytes line behind → false ≡ names_language line
-    → lines_at place bytes ≡ lines_at (place + (length bytes - length behind)) behind
-unfolding lines_from
-at_other_line place {bytes} {behind} cut l =
-    let within = line_within bytes in
-    let shorter = behind_shorter bytes (sym cut.job) in
-    let none : names_language (take (line_len bytes) bytes) ≡ false = cc in
-    let rest = drop (line_len bytes) bytes in
-    let len : length bytes - length behind ≡ line_len bytes = omega (arith, ap length cut.behind_is, length-drop (line_len bytes) bytes) in
-    rw (len, cut.behind_is, ← cut.job, none)
-    (lines_enough (length bytes) (suc (length rest)) (place + line_len bytes) rest shorter (omega arith))
-
--- one that asks for a language ends the skipping
-pub at_asking_line : (place : ℕ) {bytes line behind : List ℕ} {pcl : Bool} → IsCut bytes line behind → true ≡ names_language line
-    → pcl ≡ names_pcl line → lines_at place bytes ≡ (if pcl then Ok behind else Err place)
-unfolding lines_from
-at_asking_line place cut l p = rw (← cut.job, ← cut.line_is, ← l, ← p, cut.behind_is) refl
+pub lines_are : (place : ℕ) (bytes : List ℕ) → Lines place bytes (lines_at place bytes)
+lines_are place bytes = lines_split (suc (length bytes)) (omega arith)
 
 -- what stands after lines is no longer than what stands before them
 skipped_within : {place : ℕ} {bytes rest : List ℕ} → Lines place bytes (Ok rest) → length rest ≤ length bytes
 skipped_within (skipped lines rest each) = simp length-append (omega arith)
 
 pub lines_within : (place : ℕ) (bytes rest : List ℕ) → lines_at place bytes ≡ Ok rest → length rest ≤ length bytes
-lines_within place bytes rest e = skipped_within (rw e at (lines_split (suc (length bytes)) {place = place} {bytes = bytes} (omega arith)))
+lines_within place bytes rest e = skipped_within (rw e at (lines_are place bytes))
+
+-- ---- from the lines to the steps
+
+-- lines that ask for no language are skipped
+others_again : (lines : List (List ℕ)) (place : ℕ) (behind : List ℕ) → AreOtherLines lines behind
+    → lines_at place (joined lines ++ behind) ≡ lines_at (place + length (joined lines)) behind
+others_again [] place behind each = rw add-zero refl
+others_again (line ∷ lines) place behind each =
+    let further : place + length line + length (joined lines) ≡ place + length (line ++ joined lines) = simp length-append (omega arith) in
+    rw (append_assoc line (joined lines) behind, at_line place each.0, each.1)
+    (others_again lines (place + length line) behind each.2 ∙ rw further refl)
+
+-- so are all lines, and one that asks for another language is found
+pub lines_again : {place : ℕ} {bytes : List ℕ} {read : Result (List ℕ) ℕ} → Lines place bytes read → lines_at place bytes ≡ read
+lines_again {place} (skipped all rest (to_other_bytes lines each e)) = others_again lines place rest each ∙ at_other_bytes _ (sym e)
+lines_again {place} (skipped all rest (to_pcl lines line each ends l p)) =
+    rw (last_joined lines line rest) (others_again lines place (line ++ rest) each ∙ at_line _ ends ∙ rw (l, p) refl)
+lines_again {place} (foreign lines line rest each ends l p) =
+    others_again lines place (line ++ rest) each ∙ at_line _ ends ∙ rw (l, p) refl

@@ -1,13 +1,12 @@
 -- The steps of the loop: each takes the front off the reading.
-use Rattle.std.proofs.Common.{◌≡◌, ℕ, suc, ◌+◌, ◌-◌, ◌≤◌, true, false, ◌==◌, is_some, List, ◌++◌, length, Option, Result, Ok, Err, refl, sym, append-nil, arith}
+use Rattle.std.proofs.Common.{◌≡◌, ℕ, ◌+◌, ◌-◌, ◌≤◌, true, false, ◌==◌, is_some, List, ◌++◌, length, Option, Result, Ok, Err, refl, sym, append-nil, arith}
 use Rattle.pcl_escape.proofs.Names.{Refusal, Prefix, Said, Reads, step_at, commands_said, with_front, nat_tests}
 use Rattle.pcl_escape.specs.inner.Scan.{outcome}
-use Rattle.pcl_escape.proofs.Runs.{with_fronts, GoesOn, step_shorter}
-use Rattle.pcl_escape.proofs.Again.{first_step, enough}
+use Rattle.pcl_escape.proofs.Again.{with_fronts, GoesOn, step_shorter, all_at, one_step}
 
 -- what was read before, and what is still read of the rest of so many bytes
 abbrev pub so_far : List Said → ℕ → Option Prefix → List ℕ → Result (List Said) Refusal
-so_far front total inside rest = with_front front (outcome (suc (length rest)) inside (total - length rest) rest)
+so_far front total inside rest = with_front front (all_at inside (total - length rest) rest)
 
 -- a command goes over to what was read before
 pub one_more : (front : List Said) (total : ℕ) (inside : Option Prefix) (rest : List ℕ) (reads : Reads) → length rest ≤ total
@@ -16,13 +15,12 @@ pub one_more : (front : List Said) (total : ℕ) (inside : Option Prefix) (rest 
 one_more front total inside rest reads h goes e =
     let shorter = step_shorter inside (total - length rest) rest goes e in
     let place : (total - length rest) + (length rest - length reads.rest) ≡ total - length reads.rest = omega arith in
-    let steps = enough (suc (length reads.rest)) (length rest) reads.inside (total - length reads.rest) reads.rest (omega arith) shorter in
-    rw (first_step (length rest) inside (total - length rest) rest goes, e, place, steps) (sym (with_fronts front _ _))
+    rw (one_step inside (total - length rest) rest goes, e, place) (sym (with_fronts front _ _))
 
 -- a fault of a step is the job's
 pub stops_at : (front : List Said) (total : ℕ) (inside : Option Prefix) (rest : List ℕ) {fault : Refusal} → GoesOn inside rest
     → step_at inside (total - length rest) rest ≡ Err fault → so_far front total inside rest ≡ Err fault
-stops_at front total inside rest goes e = rw (first_step (length rest) inside (total - length rest) rest goes, e) refl
+stops_at front total inside rest goes e = rw (one_step inside (total - length rest) rest goes, e) refl
 
 -- at the end all was read
 pub is_done : (front : List Said) (total : ℕ) (inside : Option Prefix) (rest : List ℕ) → true ≡ (length rest == 0) → false ≡ is_some inside

@@ -1,23 +1,36 @@
 -- What a step reads outside sequences: a whole piece, the first parameter of a sequence, or a fault.
-use Rattle.std.proofs.Common.{◌≡◌, ◌↔◌, ℕ, suc, ◌+◌, ◌-◌, ◌<◌, true, false, ◌==◌, IsTrue, is_some, List, [], ◌∷◌, ◌++◌, length, take, take_at, drop, Option, Some, None, Result, Ok, Err, inl, inr, refl, sym, ap, subst₂, ◌∙◌, append_assoc, length-append, arith}
-use Rattle.pcl_escape.proofs.Names.{eqb-true, cases_Bool, nat_tests, prefix_len, nil_from_length, One, Truncated, UnsupportedCommand, Operation, Refusal, Sign, Absent, operation_of, Prefix, is_silent, is_control, is_text, is_two_character, is_parameterized, is_ungrouped, is_group, is_last, prefix_bytes, Spelled, field_bytes, field_value, is_digit, exit_name, is_exit, parameter_checks, joined, lines_at, Said, Reads, refuse, named_by, before_rest, skipped_by, with_lines, commands_said, Parameter, Piece, silent, control, text, two_character, exit, IsField, IsPrefix, IsNoText, IsRun, IsExit, IsPiece, parameter_bytes, spelling, bare_command, text_command, exit_command, commands_from, Fails, unknown_control, lone_escape, no_sequence, unknown_two, no_group, bad_group, in_line, IsUngrouped, cut, Pass, StopsAt, front_yes, front_split, front_again}
+use Rattle.std.proofs.Common.{◌≡◌, ◌↔◌, ℕ, ◌+◌, ◌-◌, ◌<◌, true, false, ◌==◌, IsTrue, is_some, List, [], ◌∷◌, ◌++◌, length, take, take_at, drop, Option, Some, None, Result, Ok, Err, inl, inr, refl, sym, ap, subst₂, ◌∙◌, append_assoc, length-append, arith}
+use Rattle.pcl_escape.proofs.Names.{eqb-true, cases_Bool, nat_tests, prefix_len, nil_from_length, One, Truncated, UnsupportedCommand, Operation, Refusal, Sign, Absent, operation_of, Prefix, is_silent, is_control, is_text, is_two_character, is_parameterized, is_ungrouped, is_group, is_last, prefix_bytes, Spelled, field_bytes, field_value, is_digit, exit_name, is_exit, parameter_checks, joined, lines_at, Said, Reads, refuse, named_by, before_rest, skipped_by, with_lines, Parameter, Piece, silent, control, text, two_character, combined, exit, IsField, IsPrefix, IsNoText, IsRun, IsPiece, parameter_bytes, parameter_name, spelling, bare_command, text_command, exit_command, Fails, unknown_control, lone_escape, no_sequence, unknown_two, no_group, bad_group, in_line, IsUngrouped, cut, Pass, StopsAt, front_yes, front_split, front_again}
 use Rattle.pcl_escape.specs.inner.Fields.{field_at}
 use Rattle.pcl_escape.specs.inner.Scan.{named_at, text_at, ungrouped_at, prefix_at, sequence_at, start_at, parameter_at}
 use Rattle.pcl_escape.proofs.Fields.{by_test}
-use Rattle.pcl_escape.proofs.Lines.{Lines, skipped, foreign, lines_split, lines_again}
+use Rattle.pcl_escape.proofs.Lines.{Lines, skipped, foreign, lines_are, lines_again}
 use Rattle.pcl_escape.proofs.Checks.{exit_takes_none}
-use Rattle.pcl_escape.proofs.Steps.{Inside, is_middle, is_end, is_wrong, Found, is_inside, is_leave, IsLast, is_leaving, end_reads, parameter_step, grouped_step, parameter_joined, last_again, middle_stays, inside_reads}
+use Rattle.pcl_escape.proofs.Steps.{Inside, is_middle, is_end, is_wrong, IsLast, Stays, end_reads, parameter_step, grouped_stays, parameter_joined, inside_reads}
 
 -- what a step reads of a whole piece, which gives a command or none
 abbrev pub piece_reads : Option Said → List ℕ → Result Reads Refusal
 piece_reads said rest = Ok record { said = said; rest = rest; inside = None }
 
+-- what a piece says that one step reads
+abbrev pub says : ℕ → Piece → Option Said
+says at (control code) = Some (bare_command at code)
+says at (text bytes) = Some (text_command at bytes)
+says at (two_character byte) = Some (bare_command at byte)
+says at (exit field lines) = Some (exit_command at field lines)
+says at other = None
+
+-- one step reads the piece
+abbrev pub IsAlone : Piece → Type 0
+IsAlone (combined prefix middle end bytes) = ⊥
+IsAlone other = Unit {0}
+
 -- what the bytes outside sequences begin with, and what a step reads of them
 pub data Outside (at : ℕ) : List ℕ → Result Reads Refusal → Type 0 where
-  whole_piece : (piece : Piece) (rest : List ℕ) (said : Option Said) → IsPiece piece rest → 0 < length (spelling piece)
-      → commands_from at piece ≡ commands_said said → Outside at (spelling piece ++ rest) (piece_reads said rest)
+  whole_piece : (piece : Piece) (rest : List ℕ) → IsPiece piece rest → IsAlone piece
+      → Outside at (spelling piece ++ rest) (piece_reads (says at piece) rest)
   sequence : (prefix : Prefix) (bytes : List ℕ) (read : Result Reads Refusal) → IsPrefix prefix → IsUngrouped prefix.group bytes
-      → Inside prefix at bytes read → Outside at (27 ∷ (prefix_bytes prefix ++ bytes)) read
+      → Inside prefix at bytes read → Stays read → Outside at (27 ∷ (prefix_bytes prefix ++ bytes)) read
   wrong : {bytes : List ℕ} {fault : Refusal} → Fails at bytes fault → Outside at bytes (Err fault)
 
 -- ---- names
@@ -45,8 +58,7 @@ text_run {at} {byte} {rest} t =
     let behind = drop (prefix_len is_text rest) rest in
     let reads : List ℕ × List ℕ → Result Reads Refusal = λ parts. piece_reads (Some (text_command at parts.0)) parts.1 in
     subst₂ (Outside at) (ap (λ (bs : List ℕ). byte ∷ bs) (sym f.joined)) (ap reads (sym (front_yes is_text rest t)))
-    (whole_piece (text (byte ∷ run)) behind (Some (text_command at (byte ∷ run)))
-    ((t, f.pass), (no_text behind).0 f.stops) (omega arith) refl)
+    (whole_piece (text (byte ∷ run)) behind ((t, f.pass), (no_text behind).0 f.stops) tt)
 
 -- ---- universal exits
 
@@ -72,7 +84,7 @@ exit_lines : {at : ℕ} (field : Spelled) {bytes : List ℕ} {read : Result (Lis
     (skipped_by bytes (Some (exit_command at field [])) read)
 exit_lines field f x e (skipped lines rest each) =
     rw (before_rest_is (joined lines) rest, ← exit_joined field (joined lines) rest)
-    (whole_piece (exit field lines) rest _ (record { field_is = f; leaves = x; checks = e; lines_are = each }) (omega arith) refl)
+    (whole_piece (exit field lines) rest (record { field_is = f; leaves = x; checks = e; lines_are = each }) tt)
 exit_lines field f x e (foreign lines line rest each ends l p) =
     rw (parameter_joined field 88 (joined lines ++ (line ++ rest))) (wrong (in_line field lines line f x e each ends l p))
 
@@ -89,7 +101,7 @@ exit_reads at field bytes x =
 -- a leaving parameter of a sequence without a group character is an exit, which has no data
 leave_step : {at : ℕ} {field : Spelled} {sent : List ℕ} (rest : List ℕ) {byte letter : ℕ}
     → IsLast (ungrouped byte) (record { field = field; letter = letter }) sent
-    → is_leaving (ungrouped byte) (record { field = field; letter = letter }) ≡ true
+    → is_exit (parameter_name (ungrouped byte) letter) (field_value field) ≡ true
     → Outside at (27 ∷ byte ∷ ((field_bytes field ++ letter ∷ []) ++ (sent ++ rest)))
     (with_lines (at + 2) (length ((field_bytes field ++ letter ∷ []) ++ (sent ++ rest)))
     (end_reads (ungrouped byte) at (record { field = field; letter = letter }) sent rest))
@@ -101,18 +113,20 @@ leave_step {at} {field} {sent} rest {byte} {letter} is x =
     let checks = rw (percent_is, letter_is) at is.checks in
     let none : sent ≡ [] = nil_from_length sent (exit_takes_none 88 (field_value field) (length sent) checks) in
     rw (percent_is, letter_is, none, exit_reads at field rest leaves)
-    (exit_lines field is.field leaves (rw none at checks) (lines_split (suc (length rest)) {bytes = rest} (omega arith)))
+    (exit_lines field is.field leaves (rw none at checks) (lines_are _ rest))
 
 -- ---- sequences without a group character
 
--- what was found there
-ungrouped_found : {at byte : ℕ} {bytes : List ℕ} {read : Result Reads Refusal} → is_ungrouped byte ≡ true → IsUngrouped None bytes
-    → Found (ungrouped byte) at bytes read → Outside at (27 ∷ byte ∷ bytes) (with_lines (at + 2) (length bytes) read)
-ungrouped_found u n (is_inside (is_middle parameter rest m)) = absurd (let never = m.letter in cc)
-ungrouped_found {byte} {bytes} u n (is_inside (is_end parameter sent rest e)) =
-    rw e.stays (sequence (ungrouped byte) bytes _ u n (is_end parameter sent rest e))
-ungrouped_found {byte} {bytes} {read} u n (is_inside (is_wrong f)) = sequence (ungrouped byte) bytes read u n (is_wrong f)
-ungrouped_found u n (is_leave parameter sent rest is x) = leave_step rest is x
+-- what is inside of one
+ungrouped_step : {at byte : ℕ} {bytes : List ℕ} {read : Result Reads Refusal} → is_ungrouped byte ≡ true → IsUngrouped None bytes
+    → Inside (ungrouped byte) at bytes read → Outside at (27 ∷ byte ∷ bytes) (with_lines (at + 2) (length bytes) read)
+ungrouped_step u n (is_middle parameter rest m) = absurd (let never = m.letter in cc)
+ungrouped_step {byte} {bytes} {read} u n (is_wrong f) = sequence (ungrouped byte) bytes read u n (is_wrong f) tt
+ungrouped_step {byte} {bytes} u n (is_end parameter sent rest is) =
+    elim (cases_Bool (is_exit (parameter_name (ungrouped byte) parameter.letter) (field_value parameter.field))) [
+      | inl x ↦ leave_step rest is x
+      | inr stays ↦ rw stays (sequence (ungrouped byte) bytes _ u n (is_end parameter sent rest is) stays)
+    ]
 
 -- ---- sequences
 
@@ -121,14 +135,14 @@ prefix_step : {at byte : ℕ} (rest : List ℕ) → IsTrue (is_parameterized byt
 unfolding prefix_at ungrouped_at
 prefix_step {at} {byte} [] p = elim (cases_Bool (is_ungrouped byte)) [
   | inl u ↦ sequence (ungrouped byte) [] (refuse Truncated at (One byte)) u tt
-      (is_wrong (cut (record { sign = Absent; whole = []; fraction = None }) (tt, tt)))
+      (is_wrong (cut (record { sign = Absent; whole = []; fraction = None }) (tt, tt))) tt
   | inr u ↦ wrong (no_group p u)
 ]
 prefix_step {at} {byte} (group ∷ rest) p =
     let prefix : Prefix = record { parameterized = byte; group = Some group } in
     by_test (Outside at (27 ∷ byte ∷ group ∷ rest)) (is_group group)
-    (λ g. sequence prefix rest (parameter_at prefix at rest) (p, g) tt (grouped_step refl))
-    (λ g. by_test (Outside at (27 ∷ byte ∷ group ∷ rest)) (is_ungrouped byte) (λ u. ungrouped_found u g parameter_step)
+    (λ g. sequence prefix rest (parameter_at prefix at rest) (p, g) tt parameter_step (grouped_stays {at = at} refl parameter_step))
+    (λ g. by_test (Outside at (27 ∷ byte ∷ group ∷ rest)) (is_ungrouped byte) (λ u. ungrouped_step u g parameter_step)
     (λ u. wrong (bad_group p u g)))
 
 -- a sequence, by its second byte
@@ -137,40 +151,40 @@ unfolding sequence_at named_at
 sequence_step [] = wrong lone_escape
 sequence_step {at} (byte ∷ rest) =
     by_test (Outside at (27 ∷ byte ∷ rest)) (is_two_character byte) (λ t. named_step (operation_of (One byte))
-    (λ n. whole_piece (two_character byte) rest (Some (bare_command at byte)) (t, n) (omega arith) refl) (λ n. wrong (unknown_two t n)))
+    (λ n. whole_piece (two_character byte) rest (t, n) tt) (λ n. wrong (unknown_two t n)))
     (λ t. by_test (Outside at (27 ∷ byte ∷ rest)) (is_parameterized byte) (λ p. prefix_step rest p) (λ p. wrong (no_sequence t p)))
 
 -- a step outside sequences reads what the bytes begin with
 pub start_step : {at byte : ℕ} {rest : List ℕ} → Outside at (byte ∷ rest) (start_at at (byte ∷ rest))
 unfolding start_at named_at
 start_step {at} {byte} {rest} =
-    by_test (Outside at (byte ∷ rest)) (is_silent byte) (λ s. whole_piece (silent byte) rest None s (omega arith) refl)
+    by_test (Outside at (byte ∷ rest)) (is_silent byte) (λ s. whole_piece (silent byte) rest s tt)
     (λ s. by_test (Outside at (byte ∷ rest)) (byte == 27) (λ e. rw (eqb-true byte 27 e) (sequence_step rest))
     (λ e. by_test (Outside at (byte ∷ rest)) (is_control byte) (λ c. named_step (operation_of (One byte))
-    (λ n. whole_piece (control byte) rest (Some (bare_command at byte)) (c, s, n) (omega arith) refl) (λ n. wrong (unknown_control c s n)))
+    (λ n. whole_piece (control byte) rest (c, s, n) tt) (λ n. wrong (unknown_control c s n)))
     (λ c. text_run (rw (s, c, e) refl))))
 
 -- ---- from the parts to the step
 
 -- a step reads a control code that is performed
-pub named_control : {code : ℕ} (at : ℕ) (rest : List ℕ) → IsPiece (control code) rest
+named_control : {code : ℕ} (at : ℕ) (rest : List ℕ) → IsPiece (control code) rest
     → start_at at (code ∷ rest) ≡ piece_reads (Some (bare_command at code)) rest
 unfolding start_at named_at
 named_control at rest is = grind (arith, nat_tests)
 
 -- a step reads a two-character sequence that is performed
-pub named_two : {byte : ℕ} (at : ℕ) (rest : List ℕ) → IsPiece (two_character byte) rest
+named_two : {byte : ℕ} (at : ℕ) (rest : List ℕ) → IsPiece (two_character byte) rest
     → start_at at (27 ∷ byte ∷ rest) ≡ piece_reads (Some (bare_command at byte)) rest
 unfolding start_at sequence_at named_at
 named_two at rest is = grind (arith, nat_tests)
 
 -- a step at a parameterized character looks at the group character
-pub at_prefix : (at byte : ℕ) (rest : List ℕ) → is_parameterized byte ≡ true → start_at at (27 ∷ byte ∷ rest) ≡ prefix_at at byte rest
+at_prefix : (at byte : ℕ) (rest : List ℕ) → is_parameterized byte ≡ true → start_at at (27 ∷ byte ∷ rest) ≡ prefix_at at byte rest
 unfolding start_at sequence_at
 at_prefix at byte rest p = grind (arith, nat_tests)
 
 -- a step reads a run of text
-pub text_again : {at byte : ℕ} {more rest : List ℕ} → IsRun (byte ∷ more) rest
+text_again : {at byte : ℕ} {more rest : List ℕ} → IsRun (byte ∷ more) rest
     → start_at at ((byte ∷ more) ++ rest) ≡ piece_reads (Some (text_command at (byte ∷ more))) rest
 unfolding start_at text_at
 text_again {at} {byte} {more} {rest} is =
@@ -194,22 +208,20 @@ unfolding prefix_at ungrouped_at parameter_at field_at
 ungrouped_again at parameterized [] p n = at_prefix at parameterized [] (grind (arith, nat_tests))
 ungrouped_again at parameterized (byte ∷ bytes) p n = at_prefix at parameterized (byte ∷ bytes) (grind (arith, nat_tests)) ∙ rw (n, p) refl
 
--- what stands inside a sequence is no universal exit, after which more is read
-no_lines : {prefix : Prefix} {at : ℕ} {bytes : List ℕ} {read : Result Reads Refusal} (begin len : ℕ)
-    → Inside prefix at bytes read → with_lines begin len read ≡ read
-no_lines begin len (is_middle parameter rest m) = rw (middle_stays m) refl
-no_lines begin len (is_end parameter sent rest e) = rw e.stays refl
-no_lines begin len (is_wrong f) = refl
+-- where no universal exit is read, no lines are
+no_lines : (begin len : ℕ) (read : Result Reads Refusal) → Stays read → with_lines begin len read ≡ read
+no_lines begin len (Ok reads) s = rw s refl
+no_lines begin len (Err fault) s = refl
 
 -- a step reads the first parameter as it would inside
 pub inside_again : (parameterized : ℕ) (group : Option ℕ) {at : ℕ} {bytes : List ℕ} {read : Result Reads Refusal}
     → IsPrefix (record { parameterized = parameterized; group = group }) → IsUngrouped group bytes
-    → Inside (record { parameterized = parameterized; group = group }) at bytes read
+    → Inside (record { parameterized = parameterized; group = group }) at bytes read → Stays read
     → start_at at (27 ∷ (prefix_bytes (record { parameterized = parameterized; group = group }) ++ bytes)) ≡ read
 unfolding prefix_at
-inside_again parameterized None {at} {bytes} p n inside =
-    ungrouped_again at parameterized bytes p n ∙ rw (inside_reads inside) (no_lines (at + 2) (length bytes) inside)
-inside_again parameterized (Some group) {at} {bytes} p n inside =
+inside_again parameterized None {at} {bytes} {read} p n inside s =
+    ungrouped_again at parameterized bytes p n ∙ rw (inside_reads inside) (no_lines (at + 2) (length bytes) read s)
+inside_again parameterized (Some group) {at} {bytes} p n inside s =
     at_prefix at parameterized (group ∷ bytes) p.0 ∙ rw p.1 (inside_reads inside)
 
 -- ---- universal exits
@@ -223,10 +235,25 @@ exit_first at field bytes f x e lines =
     let last : IsLast (ungrouped 37) (exit_parameter field) [] = record { field = f; letter = refl; checks = e } in
     ungrouped_again at 37 (parameter_bytes (exit_parameter field) ++ bytes) refl
     (rw (parameter_joined field 88 bytes) (parts_apart field.sign field.whole field.fraction 88 bytes f.0 refl))
-    ∙ rw (last_again at bytes last, exit_reads at field bytes x, lines_again lines) refl
+    ∙ rw (inside_reads (is_end (exit_parameter field) [] bytes last), exit_reads at field bytes x, lines_again lines) refl
 
-pub exit_again : {at : ℕ} {field : Spelled} {lines : List (List ℕ)} {rest : List ℕ} → IsExit field lines rest
-    → start_at at (spelling (exit field lines) ++ rest) ≡ piece_reads (Some (exit_command at field lines)) rest
-exit_again {at} {field} {lines} {rest} is =
+-- ---- whole pieces
+
+-- a step reads the piece
+pub piece_step : (piece : Piece) (at : ℕ) (rest : List ℕ) → IsPiece piece rest → IsAlone piece
+    → start_at at (spelling piece ++ rest) ≡ piece_reads (says at piece) rest
+unfolding start_at
+piece_step (silent byte) at rest is alone = rw is refl
+piece_step (control code) at rest is alone = named_control at rest is
+piece_step (text []) at rest is alone = absurd is
+piece_step (text (byte ∷ more)) at rest is alone = text_again is
+piece_step (two_character byte) at rest is alone = named_two at rest is
+piece_step (combined prefix middle end bytes) at rest is alone = absurd alone
+piece_step (exit field lines) at rest is alone =
     let first = exit_first at field (joined lines ++ rest) is.field_is is.leaves is.checks (skipped lines rest is.lines_are) in
     rw (exit_joined field (joined lines) rest, first, before_rest_is (joined lines) rest) refl
+
+-- which has bytes
+pub piece_long : (piece : Piece) (rest : List ℕ) → IsPiece piece rest → 0 < length (spelling piece)
+piece_long (text []) rest is = absurd is
+piece_long piece rest is = omega arith

@@ -1,6 +1,6 @@
-use Rattle.std.proofs.Common.{◌≡◌, Bool, true, if◌then◌else◌, ◌≤◌, ◌+◌, ◌-◌, length, Ok, Err, sym, ap, ◌∙◌, arith}
+use Rattle.std.proofs.Common.{◌≡◌, Bool, true, if◌then◌else◌, ◌≤◌, ◌+◌, ◌-◌, length, Ok, Err, refl, sym, ◌∙◌, arith}
 use Rattle.pcl_escape.proofs.Names.{names_language, names_pcl, lines_at}
-use Rattle.pcl_escape.proofs.Lines.{IsCut, at_other_bytes, at_other_line, at_asking_line}
+use Rattle.pcl_escape.proofs.Lines.{IsCut, at_other_bytes, at_cut}
 use Rattle.pcl_escape.proofs.Squeezed.{slice_names_language, slice_names_pcl}
 use Rattle.pcl_escape.proofs.exit.skip_lines.Goals as goal
 use Rattle.pcl_escape.proofs.exit.skip_lines.Goals.{After-front-1}
@@ -13,7 +13,7 @@ cut_off c = record { job = c.loop-line-test.ensures.value; line_is = cc; behind_
 asking : (c : After-front-1) {pcl : Bool} → true ≡ names_language c.split_at.result.0.now → pcl ≡ names_pcl c.split_at.result.0.now
     → lines_at c.args.place c.args.bytes.now
     ≡ (if pcl then Ok c.split_at.result.1.now else Err (c.args.place + (length c.args.bytes.now - length c.loop-line.rest.now)))
-asking c asks says = sym c.loop-line.invariant.same ∙ at_asking_line _ (cut_off c) asks says
+asking c asks says = sym c.loop-line.invariant.same ∙ at_cut _ (cut_off c) ∙ rw (← asks, ← says) refl
 
 pub returns-then-eq : goal.returns-then-eq
 returns-then-eq c =
@@ -41,7 +41,7 @@ loop-line-preserved c =
     let place : c.args.place + (length c.args.bytes.now - length behind) ≡ at + (length rest - length behind) = omega arith in
     record {
       within = omega arith;
-      same = ap (λ k. lines_at k behind) place ∙ sym (at_other_line at (cut_off (goal.at.loop-line-preserved c).After-front-1) other)
+      same = rw place (sym (at_cut at (cut_off (goal.at.loop-line-preserved c).After-front-1) ∙ rw (← other) refl))
           ∙ c.loop-line.invariant.same;
     }
 

@@ -1,5 +1,5 @@
 use Rattle.pcl_escape.proofs.Names.{sym, subst, IsReading}
-use Rattle.pcl_escape.proofs.Runs.{reading_of, fault_of_scan}
+use Rattle.pcl_escape.proofs.Again.{reading_of, fault_of_scan}
 use Rattle.pcl_escape.proofs.job.read_commands.Goals as goal
 
 pub returns-in-Ok-clause-reading : goal.returns-in-Ok-clause-reading

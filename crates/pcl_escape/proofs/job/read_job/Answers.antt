@@ -1,4 +1,4 @@
-use Rattle.pcl_escape.proofs.Runs.{reading_of, fault_of_scan}
+use Rattle.pcl_escape.proofs.Again.{reading_of, fault_of_scan}
 use Rattle.pcl_escape.proofs.job.read_job.Goals as goal
 
 pub returns-in-Ok-clause-reading : goal.returns-in-Ok-clause-reading

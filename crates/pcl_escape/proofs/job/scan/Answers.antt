@@ -5,7 +5,7 @@ use Rattle.pcl_escape.proofs.Places.{step_placed}
 use Rattle.pcl_escape.proofs.job.scan.Given.{Over}
 use Rattle.pcl_escape.proofs.job.scan.Goals as goal
 use Rattle.pcl_escape.proofs.job.scan.Goals.{After-read_step, then-not-is_empty, else-not-is_empty+then-is_some}
-use Rattle.pcl_escape.proofs.Runs.{step_shorter, GoesOn}
+use Rattle.pcl_escape.proofs.Again.{step_shorter, GoesOn}
 
 -- what the loop's test says
 more_to_read : (g : Over) (c : After-read_step g) → GoesOn c.loop-inside.inside c.loop-inside.rest.now
