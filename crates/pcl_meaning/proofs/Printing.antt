@@ -201,15 +201,12 @@ rows_below (suc count) size dpi [] a = a
 rows_below (suc count) size dpi (row ∷ rows) a = rows_below count size dpi rows a.1
 
 -- the tokens are performed after row k, and ink the dots of the rows that they print
-record IsPrinted (size : Size) (dpi : Dpi) (t : Settings) (deeds : List Deed) (rows : List (List ℕ)) (k : ℕ) (from : Situation)
+data IsPrinted (size : Size) (dpi : Dpi) (t : Settings) (deeds : List Deed) (rows : List (List ℕ)) (k : ℕ) (from : Situation)
     (inked : List Mark) (pages : List Sheet) : Type 0 where
-  last : Method
-  end : ℕ
-  seed : List ℕ
-  all : List Mark
-  count : ℕ
-  leads : AreLeading dpi deeds from (in_body size dpi t last end seed all pages count)
-  black : (x y : ℕ) → x < page_width size dpi → is_black all x y ≡ (dot_from k rows x y || is_black inked x y)
+  is_printed : (last : Method) (end : ℕ) (seed : List ℕ) (all : List Mark) (count : ℕ)
+      → AreLeading dpi deeds from (in_body size dpi t last end seed all pages count)
+      → ((x y : ℕ) → x < page_width size dpi → is_black all x y ≡ (dot_from k rows x y || is_black inked x y))
+      → IsPrinted size dpi t deeds rows k from inked pages
 
 -- a newer mark beside dots of rows below it
 newer_mark : (below row older : Bool) → (below || cond row true older) ≡ ((row || below) || older)
@@ -227,30 +224,17 @@ printed_after : {size : Size} {dpi : Dpi} {t : Settings} {d : Deed} {deeds : Lis
     → length next.pages ≤ 256 → IsPrinted size dpi t deeds below further next newer pages → ((x y : ℕ) → x < page_width size dpi
     → (dot_from further below x y || is_black newer x y) ≡ (dot_from k rows x y || is_black inked x y))
     → IsPrinted size dpi t (d ∷ deeds) rows k from inked pages
-printed_after {next = next} one fits r same = record {
-  last = r.last;
-  end = r.end;
-  seed = r.seed;
-  all = r.all;
-  count = r.count;
-  leads = record { leads = (next, one, pages_fit next fits, r.leads.leads) };
-  black = λ x y within. r.black x y within ∙ same x y within;
-}
+printed_after {next = next} one fits (is_printed last end seed all count rest black) same =
+    is_printed last end seed all count (record { leads = (next, one, pages_fit next fits, rest.leads) })
+    (λ x y within. black x y within ∙ same x y within)
 
 body_printed : (inside : Bool) (tokens : List Token) {size : Size} {dpi : Dpi} (t : Settings) {m : Method} {seed : List ℕ}
     (rows : List (List ℕ)) (k : ℕ) (inked : List Mark) (pages : List Sheet) (n : ℕ)
     → PrintsRows inside m seed tokens rows → AllByRecursion (IsRowOf size dpi) rows → length seed ≡ bytes_of_width (page_width size dpi)
     → length pages ≤ 256 → IsPrinted size dpi t (body_deeds tokens) rows k (in_body size dpi t m k seed inked pages n) inked pages
 unfolding PrintsRows
-body_printed false [] t {m} {seed} rows k inked pages n p are long fits = record {
-  last = m;
-  end = k;
-  seed = seed;
-  all = inked;
-  count = n;
-  leads = record { leads = refl };
-  black = λ x y within. rw (white_from k rows x y p) refl;
-}
+body_printed false [] t {m} {seed} rows k inked pages n p are long fits =
+    is_printed m k seed inked n (record { leads = refl }) (λ x y within. rw (white_from k rows x y p) refl)
 body_printed false (opening ∷ tokens) t {seed} rows k inked pages n p are long fits =
     body_printed true tokens t rows k inked pages n p are long fits
 body_printed true (method digits next ends ∷ tokens) {size} {dpi} t {m} {seed} rows k inked pages n p are long fits =
@@ -335,17 +319,19 @@ pub text_taken : {dpi : Dpi} {size : Size} {copies : ℕ} {rows : List (List ℕ
     (printed : IsPageText dpi size copies rows text)
     {t : Settings} {pages : List Sheet} {n : ℕ} → IsBetween t → length pages < 256
     → IsTextTaken dpi size copies (text_deeds dpi size copies printed.tokens) rows (between t pages n) pages
-text_taken {dpi} {size} {copies} {rows} printed {t} {pages} {n} b few =
+text_taken {dpi} {size} {copies} {rows} text {t} {pages} {n} b few =
     let u = ready dpi size copies t in
     let m = n + 1 + 1 + 1 + 1 + 1 + 1 + 1 + 1 in
-    let start = start_leads size dpi copies pages n b printed.some_copies printed.few_copies (omega arith) in
-    let body = body_printed false printed.tokens u rows 0 [] pages m printed.prints printed.rows_are (length-replicate _ 0) (omega arith) in
-    let end = end_leads size dpi u body.last body.end body.seed body.all pages body.count b.height b.asked few in
-    record {
-      settings = _;
-      stands = end.0;
-      inked = body.all;
-      count = body.count + 1 + 1;
-      leads = leading_append start (leading_append body.leads end.1);
-      black = λ x y within. body.black x y within ∙ all_rows rows x y;
-    }
+    let start = start_leads size dpi copies pages n b text.some_copies text.few_copies (omega arith) in
+    elim (body_printed false text.tokens u rows 0 [] pages m text.prints text.rows_are (length-replicate _ 0) (omega arith)) [
+      | is_printed last k seed inked count body black ↦
+          let end = end_leads size dpi u last k seed inked pages count b.height b.asked few in
+          record {
+            settings = _;
+            stands = end.0;
+            inked = inked;
+            count = count + 1 + 1;
+            leads = leading_append start (leading_append body end.1);
+            black = λ x y within. black x y within ∙ all_rows rows x y;
+          }
+    ]

@@ -1,5 +1,5 @@
 -- Bytes that are read as deeds, wherever in a job they stand.
-use Rattle.std.proofs.Common.{◌≡◌, ℕ, zero, suc, ◌+◌, ◌*◌, ◌≤◌, true, false, List, [], ◌∷◌, ◌++◌, length, Some, None, Ok, refl, sym, ap, ◌∙◌, append_assoc, append-nil, arith}
+use Rattle.std.proofs.Common.{◌≡◌, ℕ, ◌+◌, ◌*◌, ◌≤◌, true, false, List, [], ◌∷◌, ◌++◌, length, Some, None, Ok, refl, sym, ap, ◌∙◌, append_assoc, append-nil, arith}
 use Rattle.pcl_meaning.proofs.Names.{flat_map, AllByRecursion, flat_map-append, nat_tests, Three, Operation, RasterRow, Absent, Value, takes_data, whole_of, Prefix, may_go_on, is_last, parameter_name, prefix_bytes, Spelled, field_value, in_range, number_of, data_checks, is_exit, Said, Piece, combined, Parameter, parameter_bytes, spelling, IsPrefix, IsMiddle, IsEnd, IsPiece, ArePieces, parameter_commands, first_place, commands_from, commands_of, place_further, IsSpelled}
 use Rattle.pcl_base.specs.Operation.{operation_of}
 use Rattle.pcl_escape.specs.Checks.{parameter_checks}
@@ -83,38 +83,28 @@ IsMeant prefix parameter bytes deed =
     (operation_of (parameter_name prefix parameter.letter) ≡ Some deed.operation)
     × (field_value parameter.field ≡ deed.value) × (bytes ≡ deed.bytes)
 
+-- middle parameters, whose commands are the deeds
 abbrev pub AreMeant : Prefix → List Parameter → List Deed → Type 0
 AreMeant prefix [] [] = Unit {0}
-AreMeant prefix (parameter ∷ middle) (deed ∷ deeds) = IsMeant prefix parameter [] deed × AreMeant prefix middle deeds
+AreMeant prefix (parameter ∷ middle) (deed ∷ deeds) =
+    IsMiddle prefix parameter × IsMeant prefix parameter [] deed × AreMeant prefix middle deeds
 AreMeant prefix middle deeds = ⊥
 
-pub meant_more : (prefix : Prefix) (middle : List Parameter) (deeds : List Deed) (parameter : Parameter) {deed : Deed}
-    → AreMeant prefix middle deeds → IsMeant prefix parameter [] deed → AreMeant prefix (middle ++ parameter ∷ []) (deeds ++ deed ∷ [])
-meant_more prefix [] [] parameter a m = (m, tt)
-meant_more prefix (first ∷ middle) (one ∷ deeds) parameter a m = (a.0, meant_more prefix middle deeds parameter a.1 m)
-meant_more prefix middle deeds parameter a m = absurd a
-
-pub middle_more : {prefix : Prefix} (middle : List Parameter) {parameter : Parameter}
-    → AllByRecursion (IsMiddle prefix) middle → IsMiddle prefix parameter → AllByRecursion (IsMiddle prefix) (middle ++ parameter ∷ [])
-middle_more [] a m = (m, tt)
-middle_more (first ∷ middle) a m = (a.0, middle_more middle a.1 m)
+meant_more : {prefix : Prefix} (middle : List Parameter) (deeds : List Deed) {parameter : Parameter} {deed : Deed}
+    → AreMeant prefix middle deeds → IsMiddle prefix parameter → IsMeant prefix parameter [] deed
+    → AreMeant prefix (middle ++ parameter ∷ []) (deeds ++ deed ∷ [])
+meant_more [] [] a is m = (is, m, tt)
+meant_more (first ∷ middle) (one ∷ deeds) a is m = (a.0, a.1, meant_more middle deeds a.2 is m)
+meant_more middle deeds a is m = absurd a
 
 parameters_said : (prefix : Prefix) (middle : List Parameter) (end : Parameter) {bytes : List ℕ} (deeds : List Deed) {last : Deed}
-    (at begin : ℕ) → AreMeant prefix middle deeds → IsMeant prefix end bytes last
-    → AreSaid (parameter_commands prefix at begin middle end bytes) (deeds ++ last ∷ [])
-parameters_said prefix [] end [] at begin a m = (m, tt)
-parameters_said prefix (parameter ∷ middle) end (deed ∷ deeds) at begin a m =
-    let behind = begin + length (parameter_bytes parameter) in
-    (a.0, parameters_said prefix middle end deeds behind behind a.1 m)
-parameters_said prefix middle end deeds at begin a m = absurd a
-
-pub reads_sequence : {prefix : Prefix} (middle : List Parameter) {end : Parameter} {bytes : List ℕ} (deeds : List Deed) {last : Deed}
-    → IsPrefix prefix → AllByRecursion (IsMiddle prefix) middle → AreMeant prefix middle deeds
-    → IsEnd prefix end bytes → IsMeant prefix end bytes last
-    → ReadsAs (27 ∷ (prefix_bytes prefix ++ (flat_map parameter_bytes middle ++ (parameter_bytes end ++ bytes)))) (deeds ++ last ∷ [])
-reads_sequence {prefix} middle {end} {bytes} deeds is each meant ends m =
-    reads_piece (combined prefix middle end bytes) (λ behind. (is, each, ends))
-    (λ at. parameters_said prefix middle end deeds at (first_place at prefix) meant m)
+    → AreMeant prefix middle deeds → IsMeant prefix end bytes last → AllByRecursion (IsMiddle prefix) middle
+    × ((at begin : ℕ) → AreSaid (parameter_commands prefix at begin middle end bytes) (deeds ++ last ∷ []))
+parameters_said prefix [] end [] a m = (tt, λ at begin. (m, tt))
+parameters_said prefix (parameter ∷ middle) end (deed ∷ deeds) a m =
+    let rest = parameters_said prefix middle end deeds a.2 m in
+    ((a.0, rest.0), λ at begin. let behind = begin + length (parameter_bytes parameter) in (a.1, rest.1 behind behind))
+parameters_said prefix middle end deeds a m = absurd a
 
 -- ---- parameters that are numbers
 
@@ -133,9 +123,6 @@ value_is digits {n} s = let parts : number_of digits * 10000 + 0 ≡ n * 10000 =
 pub whole_is : (n : ℕ) → whole_of (number_value n) ≡ n
 whole_is n = omega arith
 
-pub number_bytes : (digits : List ℕ) (letter : ℕ) → parameter_bytes (number_parameter digits letter) ≡ digits ++ letter ∷ []
-number_bytes digits letter = ap (λ (bytes : List ℕ). bytes ++ letter ∷ []) (append-nil digits)
-
 in_range_is : {n : ℕ} → n ≤ 65535 → in_range (number_value n) ≡ true
 in_range_is le = grind (arith, nat_tests)
 
@@ -147,22 +134,57 @@ pub record IsSetting (prefix : Prefix) (letter : ℕ) (digits : List ℕ) (n : �
   pub alone : takes_data operation ≡ false
   pub stays : is_exit (parameter_name prefix letter) (field_value (number_field digits)) ≡ false
 
-module _ {prefix : Prefix} {letter : ℕ} {digits : List ℕ} {n : ℕ} {operation : Operation} (s : IsSetting prefix letter digits n operation)
-  where
+pub setting : {prefix : Prefix} {letter : ℕ} {digits : List ℕ} {n : ℕ} {operation : Operation} → IsSpelled digits n → n ≤ 65535
+    → operation_of (parameter_name prefix letter) ≡ Some operation → takes_data operation ≡ false
+    → is_exit (parameter_name prefix letter) (field_value (number_field digits)) ≡ false → IsSetting prefix letter digits n operation
+setting spelled small named alone stays =
+    record { spelled = spelled; small = small; named = named; alone = alone; stays = stays }
+
+-- the bytes are middle parameters of a sequence, whose commands are the deeds
+pub record ReadsInside (prefix : Prefix) (bytes : List ℕ) (deeds : List Deed) : Type 0 where
+  pub prefix_is : IsPrefix prefix
+  pub middle : List Parameter
+  pub spelled : bytes ≡ flat_map parameter_bytes middle
+  pub meant : AreMeant prefix middle deeds
+
+pub begin_inside : {prefix : Prefix} → IsPrefix prefix → ReadsInside prefix [] []
+begin_inside is = record { prefix_is = is; middle = []; spelled = refl; meant = tt }
+
+module _ {prefix : Prefix} {before : List ℕ} {deeds : List Deed} (r : ReadsInside prefix before deeds) {digits : List ℕ} {letter : ℕ} where
+  -- a last parameter
+  pub end_inside : {bytes : List ℕ} {last : Deed} → IsEnd prefix (number_parameter digits letter) bytes
+      → IsMeant prefix (number_parameter digits letter) bytes last
+      → ReadsAs (27 ∷ (prefix_bytes prefix ++ (before ++ (digits ++ letter ∷ bytes)))) (deeds ++ last ∷ [])
+  end_inside {bytes} ends m =
+      let end = number_parameter digits letter in
+      let said = parameters_said prefix r.middle end deeds r.meant m in
+      let piece = reads_piece (combined prefix r.middle end bytes) (λ behind. (r.prefix_is, said.0, ends))
+      (λ at. said.1 at (first_place at prefix)) in
+      rw r.spelled (simp (append_assoc, append-nil) at piece)
+
+  module _ {n : ℕ} {operation : Operation} (s : IsSetting prefix letter digits n operation) where
     setting_checks : parameter_checks (parameter_name prefix letter) letter (field_value (number_field digits)) 0 ≡ Ok 0
     unfolding parameter_checks
     setting_checks =
         ap (λ (value : Value). parameter_checks (parameter_name prefix letter) letter value 0) (value_is digits s.spelled)
         ∙ rw (in_range_is s.small, s.named, s.alone) refl
 
-    pub setting_middle : may_go_on prefix letter ≡ true → IsMiddle prefix (number_parameter digits letter)
-    setting_middle goes = record { field = (s.spelled.0, tt); letter = goes; checks = setting_checks }
+    -- a setting after which the sequence goes on
+    pub set_inside : may_go_on prefix letter ≡ true
+        → ReadsInside prefix (before ++ (digits ++ letter ∷ [])) (deeds ++ deed operation (number_value n) [] ∷ [])
+    set_inside goes = record {
+      prefix_is = r.prefix_is;
+      middle = r.middle ++ number_parameter digits letter ∷ [];
+      spelled = rw r.spelled (simp (flat_map-append, append_assoc, append-nil));
+      meant = meant_more r.middle deeds r.meant (record { field = (s.spelled.0, tt); letter = goes; checks = setting_checks })
+          (s.named, value_is digits s.spelled, refl);
+    }
 
-    pub setting_end : is_last letter ≡ true → IsEnd prefix (number_parameter digits letter) []
-    setting_end last = record { field = (s.spelled.0, tt); letter = last; checks = setting_checks; stays = s.stays }
-
-    pub setting_meant : IsMeant prefix (number_parameter digits letter) [] (deed operation (number_value n) [])
-    setting_meant = (s.named, value_is digits s.spelled, refl)
+    -- one that ends it
+    pub set_last : is_last letter ≡ true
+        → ReadsAs (27 ∷ (prefix_bytes prefix ++ (before ++ (digits ++ letter ∷ [])))) (deeds ++ deed operation (number_value n) [] ∷ [])
+    set_last last = end_inside (record { field = (s.spelled.0, tt); letter = last; checks = setting_checks; stays = s.stays })
+        (s.named, value_is digits s.spelled, refl)
 
 -- ---- a row that is sent
 
