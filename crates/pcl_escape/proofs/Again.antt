@@ -1,11 +1,11 @@
 -- All steps: bytes that are whole pieces are read as these, and the first fault is found; so what is read says what the bytes are.
-use Rattle.std.proofs.Common.{◌≡◌, ℕ, zero, suc, ◌+◌, ◌-◌, ◌<◌, List, [], ◌∷◌, ◌++◌, length, Option, Some, None, Result, Ok, Err, refl, ap, ◌∙◌, append_assoc, append-nil, length-append, add-zero, zero-add, ◌&&◌, ◌==◌, not, is_some, false, arith}
-use Rattle.pcl_escape.proofs.Names.{nat_tests, flat_map, AllByRecursion, JobFault, Refused, Memory, Refusal, Prefix, prefix_bytes, joined, Said, Reads, step_at, parameter_at, with_front, and_then, outcome_of, Yields, Parameter, Piece, combined, IsPrefix, IsPiece, ArePieces, IsMiddle, IsReading, parameter_bytes, spelling, command_of, parameter_commands, first_place, commands_from, commands_of, Fails, in_parameter, in_line, IsUngrouped, IsFault, IsFaultOf, unknown_control, lone_escape, no_sequence, unknown_two, no_group, bad_group}
+use Rattle.std.proofs.Common.{◌≡◌, ℕ, zero, suc, ◌+◌, ◌-◌, ◌<◌, List, [], ◌∷◌, ◌++◌, length, Option, Some, None, Result, Ok, Err, refl, ap, ◌⊎◌, inl, inr, ◌∙◌, append_assoc, append-nil, length-append, add-zero, zero-add, ◌&&◌, ◌==◌, not, is_some, false, arith}
+use Rattle.pcl_escape.proofs.Names.{nat_tests, flat_map, AllByRecursion, JobFault, Refused, Memory, Refusal, Prefix, prefix_bytes, joined, Said, Reads, step_at, parameter_at, with_front, and_then, outcome_of, Yields, Parameter, Piece, combined, IsPrefix, IsPiece, ArePieces, IsMiddle, IsReading, parameter_bytes, spelling, command_of, parameter_commands, first_place, commands_from, commands_of, Fails, in_parameter, in_line, IsUngrouped, place_behind, IsFault, IsFaultOf, unknown_control, lone_escape, no_sequence, unknown_two, no_group, bad_group}
 use Rattle.pcl_escape.specs.inner.Scan.{start_at, sequence_at, prefix_at, outcome, named_at}
 use Rattle.pcl_escape.proofs.Lines.{foreign}
 use Rattle.pcl_escape.proofs.Steps.{Inside, inside_shorter, is_middle, is_end, is_wrong, Stays, parameter_step, parameter_joined, inside_reads, grouped_stays, middle_grouped}
 use Rattle.pcl_escape.proofs.Starts.{Outside, whole_piece, sequence, start_step, inside_again, exit_first, parts_apart, piece_step, piece_long}
-use Rattle.pcl_escape.proofs.Runs.{no_more, first_fault, Reading, reading, job_reading, place_from, place_in_sequence, place_further, grouped_any}
+use Rattle.pcl_escape.proofs.Runs.{no_more, first_fault, Reading, reading, is_read, place_further, grouped_any}
 
 -- ---- fronts and places
 
@@ -93,7 +93,24 @@ middle_commands prefix at begin [] = []
 middle_commands prefix at begin (parameter ∷ middle) =
     let next = begin + length (parameter_bytes parameter) in command_of prefix at parameter [] ∷ middle_commands prefix next next middle
 
--- with the last one, it's what the sequence says
+-- the place of the command after these parameters, of which the first begins at the place begin, and its command has the place at
+abbrev place_from : ℕ → ℕ → List Parameter → ℕ
+place_from at begin [] = at
+place_from at begin (parameter ∷ middle) =
+    let next = begin + length (parameter_bytes parameter) in place_from next next middle
+
+place_from_is : (begin : ℕ) (middle : List Parameter) → place_from begin begin middle ≡ begin + length (flat_map parameter_bytes middle)
+place_from_is begin [] = rw add-zero refl
+place_from_is begin (parameter ∷ middle) = rw (place_from_is (begin + length (parameter_bytes parameter)) middle, place_further) refl
+
+-- in a sequence that begins at ESC the parameters begin after its prefix
+place_in_sequence : (at : ℕ) (prefix : Prefix) (middle : List Parameter)
+    → place_from at (first_place at prefix) middle ≡ place_behind at prefix middle
+place_in_sequence at prefix [] = refl
+place_in_sequence at prefix (parameter ∷ middle) =
+    place_from_is _ middle ∙ place_further (first_place at prefix) (parameter_bytes parameter) (flat_map parameter_bytes middle)
+
+-- with the last one, they say what the sequence says
 all_commands : (prefix : Prefix) (at begin : ℕ) (middle : List Parameter) (end : Parameter) (bytes : List ℕ)
     → parameter_commands prefix at begin middle end bytes
     ≡ middle_commands prefix at begin middle ++ command_of prefix (place_from at begin middle) end bytes ∷ []
@@ -208,27 +225,25 @@ reading_again r = rw (r.spelled, r.said) (simp append-nil at (pieces_again r.pie
 pub fault_found_of : {job : List ℕ} {fault : Refusal} → IsFault job fault → outcome_of job ≡ Err fault
 fault_found_of f = rw (f.spelled, pieces_again f.front 0 f.behind f.each, zero-add, fault_found f.fails) refl
 
--- so what is read without fault says what the job is
-all_read : {job : List ℕ} {commands : List Said} → Reading 0 job → outcome_of job ≡ Ok commands → IsReading job commands
-all_read (reading pieces behind each no_more) e =
-    let same = reading_again (record { pieces = pieces; each = each; spelled = append-nil (flat_map spelling pieces); said = refl }) in
-    record { pieces = pieces; each = each; spelled = append-nil (flat_map spelling pieces); said = cc }
-all_read (reading pieces behind each (first_fault refusal f)) e =
-    absurd (let found = fault_found_of (record { front = pieces; each = each; behind = behind; spelled = refl; fails = rw zero-add at f }) in cc)
+-- each job has the one or the other
+known : {job : List ℕ} → Reading 0 job → ((commands : List Said) × IsReading job commands) ⊎ ((fault : Refusal) × IsFault job fault)
+known (reading pieces behind each no_more) =
+    inl (commands_of 0 pieces, record { pieces = pieces; each = each; spelled = append-nil (flat_map spelling pieces); said = refl })
+known (reading pieces behind each (first_fault fault f)) =
+    inr (fault, record { front = pieces; each = each; behind = behind; spelled = refl; fails = rw zero-add at f })
 
--- and so does a fault
-broken_off : {job : List ℕ} {fault : Refusal} → Reading 0 job → outcome_of job ≡ Err fault → IsFault job fault
-broken_off (reading pieces behind each no_more) e =
-    absurd (let same = reading_again (record { pieces = pieces; each = each; spelled = append-nil (flat_map spelling pieces); said = refl }) in cc)
-broken_off {fault = fault} (reading pieces behind each (first_fault refusal f)) e =
-    let is : IsFault _ refusal = record { front = pieces; each = each; behind = behind; spelled = refl; fails = rw zero-add at f } in
-    let same : refusal ≡ fault = let found = fault_found_of is in cc in rw same at is
-
+-- so what is read says what the job is
 pub reading_of : {job : List ℕ} {commands : List Said} → outcome_of job ≡ Ok commands → IsReading job commands
-reading_of {job} e = all_read (job_reading job) e
+reading_of {job} {commands} e = elim (known (is_read (suc (length job)) 0 job (omega arith))) [
+  | inl r ↦ let same : r.0 ≡ commands = (let again = reading_again r.1 in cc) in rw same at r.1
+  | inr f ↦ absurd (let found = fault_found_of f.1 in cc)
+]
 
 pub fault_of : (job : List ℕ) (fault : Refusal) → outcome_of job ≡ Err fault → IsFault job fault
-fault_of job fault e = broken_off (job_reading job) e
+fault_of job fault e = elim (known (is_read (suc (length job)) 0 job (omega arith))) [
+  | inl r ↦ absurd (let again = reading_again r.1 in cc)
+  | inr f ↦ let same : f.0 ≡ fault = (let found = fault_found_of f.1 in cc) in rw same at f.1
+]
 
 -- what yields a fault finds the first one
 pub fault_of_scan : (job : List ℕ) (fault : JobFault) (commands : List Said) → Yields (Err fault) commands (outcome_of job)

@@ -1,6 +1,6 @@
 -- The lines after a universal exit: what is skipped is what they are, both ways.
 use Rattle.std.proofs.Common.{◌≡◌, ℕ, zero, suc, ◌+◌, ◌-◌, ◌<◌, ◌≤◌, true, false, ◌==◌, not, nat_eq, if◌then◌else◌, IsTrue, List, [], ◌∷◌, ◌++◌, length, take, drop, ◌⊎◌, inl, inr, Result, Ok, Err, refl, sym, ap, subst, ◌∙◌, append_assoc, append-nil, length-append, length-drop, take-append-drop, take_at, drop_at, add-zero, eqb-true, arith}
-use Rattle.pcl_escape.proofs.Names.{cases_Bool, codes, flat_map-append, bytes_eq, is_job_line, names_language, names_pcl, HasNoFeed, IsLine, joined, AreOtherLines, AreLines, to_other_bytes, to_pcl, line_len, lines_at}
+use Rattle.pcl_escape.proofs.Names.{cases_Bool, codes, flat_map, flat_map-append, bytes_eq, is_job_line, names_language, names_pcl, HasNoFeed, IsLine, joined, AreOtherLines, AreLines, to_other_bytes, to_pcl, line_len, lines_at}
 use Rattle.pcl_escape.specs.inner.Lines.{lines_from}
 use Rattle.pcl_escape.proofs.Fields.{by_test}
 
@@ -116,16 +116,17 @@ pub data Lines (place : ℕ) : List ℕ → Result (List ℕ) ℕ → Type 0 whe
       → IsTrue (names_language line) → names_pcl line ≡ false
       → Lines place (joined lines ++ (line ++ rest)) (Err (place + length (joined lines)))
 
--- a last line is joined to the others
-last_joined : (lines : List (List ℕ)) (line rest : List ℕ) → joined (lines ++ line ∷ []) ++ rest ≡ joined lines ++ (line ++ rest)
-last_joined lines line rest = simp (flat_map-append, append-nil, append_assoc)
+-- a last one is joined to the others
+pub last_joined : {A : Type 0} (f : A → List ℕ) (all : List A) (last : A) (rest : List ℕ)
+    → flat_map f (all ++ last ∷ []) ++ rest ≡ flat_map f all ++ (f last ++ rest)
+last_joined f all last rest = simp (flat_map-append, append-nil, append_assoc)
 
 -- one more line that asks for no language
 more_lines : {line : List ℕ} {all : List (List ℕ)} {rest : List ℕ} → IsLine line (joined all ++ rest) → names_language line ≡ false
     → AreLines all rest → AreLines (line ∷ all) rest
 more_lines {line} is none (to_other_bytes lines each e) = to_other_bytes (line ∷ lines) (is, none, each) e
 more_lines {line} {rest} is none (to_pcl lines last each ends l p) =
-    to_pcl (line ∷ lines) last (rw (last_joined lines last rest) at is, none, each) ends l p
+    to_pcl (line ∷ lines) last (rw (last_joined (λ (bs : List ℕ). bs) lines last rest) at is, none, each) ends l p
 
 -- a line in front
 line_first : {place : ℕ} {line behind : List ℕ} {read : Result (List ℕ) ℕ} → IsLine line behind → names_language line ≡ false
@@ -179,6 +180,6 @@ others_again (line ∷ lines) place behind each =
 pub lines_again : {place : ℕ} {bytes : List ℕ} {read : Result (List ℕ) ℕ} → Lines place bytes read → lines_at place bytes ≡ read
 lines_again {place} (skipped all rest (to_other_bytes lines each e)) = others_again lines place rest each ∙ at_other_bytes _ (sym e)
 lines_again {place} (skipped all rest (to_pcl lines line each ends l p)) =
-    rw (last_joined lines line rest) (others_again lines place (line ++ rest) each ∙ at_line _ ends ∙ rw (l, p) refl)
+    rw (last_joined (λ (bs : List ℕ). bs) lines line rest) (others_again lines place (line ++ rest) each ∙ at_line _ ends ∙ rw (l, p) refl)
 lines_again {place} (foreign lines line rest each ends l p) =
     others_again lines place (line ++ rest) each ∙ at_line _ ends ∙ rw (l, p) refl
