@@ -51,7 +51,7 @@ abbrev pub with_front : Head → List ℕ → List ℕ → List ℕ → List ℕ
 with_front h new old rest = take (offset_of h) old ++ (given_by h new ++ rest)
 
 module _ {method : Method} {bytes : List ℕ} {h : Head} {new rest : List ℕ} (old : List ℕ) (is : IsHead method h) where
-  pub Fills-cut : IsCutFront bytes h new rest
+  Fills-cut : IsCutFront bytes h new rest
       → Fills method bytes old (with_front h new old (drop (offset_of h + length (given_by h new)) old))
   Fills-cut cut = record {
     whole = [];
@@ -66,7 +66,7 @@ module _ {method : Method} {bytes : List ℕ} {h : Head} {new rest : List ℕ} (
     row_is = rw cut.new_is;
   }
 
-  pub Fills-cons : {row : List ℕ} → IsWholeFront bytes h new rest
+  Fills-cons : {row : List ℕ} → IsWholeFront bytes h new rest
       → Fills method rest (drop (offset_of h + length (given_by h new)) old) row → Fills method bytes old (with_front h new old row)
   Fills-cons front f = record {
     whole = record { head = h; bytes = new } ∷ f.whole;
@@ -81,7 +81,7 @@ module _ {method : Method} {bytes : List ℕ} {h : Head} {new rest : List ℕ} (
     row_is = ap (with_front h new old) f.row_is;
   }
 
-Fills-parts : {method : Method} {bytes : List ℕ} {h : Head} (new : List ℕ) {rest : List ℕ} (old : List ℕ) {row : List ℕ} (whole : Bool)
+pub Fills-parts : {method : Method} {bytes : List ℕ} {h : Head} (new : List ℕ) {rest : List ℕ} (old : List ℕ) {row : List ℕ} (whole : Bool)
     → IsHead method h → MatchBool whole (IsWholeFront bytes h new rest) (IsCutFront bytes h new rest)
     → Fills method rest (drop (offset_of h + length (given_by h new)) old) row → Fills method bytes old (with_front h new old row)
 Fills-parts new old true is front f = Fills-cons old is front f
@@ -90,7 +90,7 @@ Fills-parts new old false is front f =
     rw (nothing.row_is ∙ none_is_nothing nothing.whole nothing.parts) (Fills-cut old is front)
 
 -- bytes that stand for themselves lie over the row from its start on
-pub Fills-plain : (bytes old : List ℕ) → Fills Plain bytes old (bytes ++ drop (length bytes) old)
+Fills-plain : (bytes old : List ℕ) → Fills Plain bytes old (bytes ++ drop (length bytes) old)
 Fills-plain [] old = Fills-none Plain old
 Fills-plain (byte ∷ bytes) old =
     rw (← (rw one-add at (drop-drop (length bytes) 1 old)))
