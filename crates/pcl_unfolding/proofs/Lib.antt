@@ -1,4 +1,3 @@
 pub mod Names
-pub mod Added
 pub mod Told
 pub mod Examples

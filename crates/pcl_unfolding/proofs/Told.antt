@@ -1,27 +1,53 @@
 -- Performing and unfolding say the same.
-use Rattle.std.proofs.Common.{◌≡◌, ℕ, ◌+◌, ◌-◌, zero, suc, Bool, true, false, List, [], ◌∷◌, length, Option, Some, None, Result, Ok, Err, refl, sym, ap, subst, ◌∙◌, if◌then◌else◌, arith}
+use Rattle.std.proofs.Common.{◌≡◌, ◌++◌, append_assoc, length-append, ℕ, ◌+◌, ◌-◌, zero, suc, Bool, true, false, List, [], ◌∷◌, length, Option, Some, None, Result, Ok, Err, refl, sym, ap, subst, ◌∙◌, if◌then◌else◌, arith}
 use Rattle.std.specs.Prelude.{◌&&◌}
-use Rattle.pcl_unfolding.proofs.Names.{option_map, Dpi, Kind, Operation, ControlMacros, Refusal, Value, macro_limit, operation_of, Settings, kept, Said, MacroBody, Action, Call, Keeping, Ends, Situation, Run, run_with, run_by, run_from, macro_ended, keeping_of, counting, defining, after_command, Performance, done, then_on, in_order, concluded, and_run, step, runs, after_end, Item, performed, enter, situations, now, ago, or_as_before, Unfolding, goes_on, unless, in_turn, keeps, control_in, body_run, commands_in, Bodies, with_body, with_command, add, ended_by, unfolded, performed_by, PerformingIsUnfolding}
+use Rattle.pcl_unfolding.proofs.Names.{end_of, option_map, Dpi, Kind, Operation, ControlMacros, Refusal, Value, macro_limit, operation_of, Settings, kept, Said, MacroBody, Action, Call, Keeping, Ends, Situation, Run, run_with, run_by, run_from, macro_ended, keeping_of, counting, defining, after_command, Performance, done, then_on, in_order, concluded, and_run, step, runs, after_end, Item, performed, enter, situations, now, ago, or_as_before, Unfolding, goes_on, unless, in_turn, keeps, control_in, body_run, commands_in, Bodies, with_body, with_command, add, ended_by, unfolded, performed_by, PerformingIsUnfolding}
 use Rattle.pcl_page.specs.Performing.{unless as unless_performed}
-use Rattle.pcl_unfolding.proofs.Added.{GoesOn, within, unfolded_adds, looked_back}
+
+-- ---- lists that go on
+
+-- one list has the other after some items more
+abbrev pub GoesOn : List Item → List Item → Type 0
+GoesOn old new = (more : List Item) × (new ≡ more ++ old)
+
+goes_on_more : {old mid new : List Item} → GoesOn old mid → GoesOn mid new → GoesOn old new
+goes_on_more {old} a b = (b.0 ++ a.0, b.1 ∙ ap (λ (items : List Item). b.0 ++ items) a.1 ∙ sym (append_assoc b.0 a.0 old))
+
+one_more : {old items : List Item} (item : Item) → GoesOn old items → GoesOn old (item ∷ items)
+one_more item a = (item ∷ a.0, ap (λ (items : List Item). item ∷ items) a.1)
+
+-- ---- the look back
+
+pub looked_back : (dpi : Dpi) (more old : List Item) → ago (length (more ++ old) - length old) (situations dpi (more ++ old)) ≡ now dpi old
+looked_back dpi [] old = let none : length old - length old ≡ 0 = omega arith in rw none refl
+looked_back dpi (item ∷ more) old =
+    let next : length (item ∷ (more ++ old)) - length old ≡ suc (length (more ++ old) - length old) =
+    omega (arith, length-append more old) in rw next (looked_back dpi more old)
 
 -- ---- one after the other
 
-told_on : (dpi : Dpi) (why : Option Refusal) (items : List Item) (next : Situation → Performance) (add_next : List Item → Unfolding)
-    → next (now dpi items) ≡ performed_by dpi (add_next items)
-    → unless_performed why (now dpi items) next ≡ performed_by dpi (unless why items add_next)
-told_on dpi why items next add_next told = grind arith
+-- performing says what the unfolding does, which only adds items to the list
+abbrev IsTold : Dpi → List Item → Performance → Unfolding → Type 0
+IsTold dpi items performance u = (performance ≡ performed_by dpi u) × GoesOn items u.items
+
+told_on : (dpi : Dpi) {old : List Item} (why : Option Refusal) (items : List Item) (next : Situation → Performance)
+    (add_next : List Item → Unfolding) → GoesOn old items → IsTold dpi items (next (now dpi items)) (add_next items)
+    → IsTold dpi old (unless_performed why (now dpi items) next) (unless why items add_next)
+told_on dpi None items next add_next goes told = (told.0, goes_on_more goes told.1)
+told_on dpi (Some why) items next add_next goes told = (refl, goes)
 
 turn_told : (dpi : Dpi) (perform : ℕ → Said → Situation → Performance) (add_one : ℕ → Said → List Item → Unfolding)
     → ((place : ℕ) (command : Said) (items : List Item)
-    → perform place command (now dpi items) ≡ performed_by dpi (add_one place command items))
+    → IsTold dpi items (perform place command (now dpi items)) (add_one place command items))
     → (place : ℕ) (commands : List Said) (items : List Item)
-    → in_order perform place commands (now dpi items) ≡ performed_by dpi (in_turn add_one place commands items)
-turn_told dpi perform add_one told place [] items = refl
+    → IsTold dpi items (in_order perform place commands (now dpi items)) (in_turn add_one place commands items)
+turn_told dpi perform add_one told place [] items = (refl, ([], refl))
 turn_told dpi perform add_one told place (command ∷ commands) items =
     let first = add_one place command items in
-    ap (λ (p : Performance). then_on p (in_order perform (place + 1) commands)) (told place command items)
-    ∙ told_on dpi first.refusal first.items _ _ (turn_told dpi perform add_one told (place + 1) commands first.items)
+    let one = told place command items in
+    let rest = told_on dpi first.refusal first.items (in_order perform (place + 1) commands) (in_turn add_one (place + 1) commands) one.1
+    (turn_told dpi perform add_one told (place + 1) commands first.items) in
+    (ap (λ (p : Performance). then_on p (in_order perform (place + 1) commands)) one.0 ∙ rest.0, rest.1)
 
 -- ---- the macro that a command runs
 
@@ -41,7 +67,7 @@ run_is_by control s = grind arith
 -- running a body and unfolding it say the same
 abbrev pub AreTold : Dpi → (Said → Run → Situation → Performance) → Bodies → Type 0
 AreTold dpi run bodies = (command : Said) (control : Option Action) (body : MacroBody) (items : List Item)
-    → run command (run_with (saved_by control (now dpi items)) body) (now dpi items) ≡ performed_by dpi (bodies command control body items)
+    → IsTold dpi items (run command (run_with (saved_by control (now dpi items)) body) (now dpi items)) (bodies command control body items)
 
 from_told : (operation : Option Operation) (value : Value) (s : Situation)
     → run_from operation value s ≡ run_with_body (control_in operation value) s
@@ -57,40 +83,42 @@ later_told run command same s led = grind (arith, same)
 
 module _ (dpi : Dpi) (run : Said → Run → Situation → Performance) (bodies : Bodies) (told : AreTold dpi run bodies) where
   body_told : (command : Said) (control : Option Action) (body : Option MacroBody) (items : List Item)
-      → and_run (run command) (option_map (run_with (saved_by control (now dpi items))) body) (now dpi items)
-      ≡ performed_by dpi (with_body bodies command control body items)
-  body_told command control None items = refl
+      → IsTold dpi items (and_run (run command) (option_map (run_with (saved_by control (now dpi items))) body) (now dpi items))
+      (with_body bodies command control body items)
+  body_told command control None items = (refl, ([], refl))
   body_told command control (Some body) items = told command control body items
 
   -- a command by what it leads to
   led_told : (place : ℕ) (command : Said) (control : Option Action) (items : List Item) (led : Result Situation Kind)
       → after_command dpi place command (now dpi items) ≡ led
-      → then_on (concluded command (now dpi items) led) (λ (later : Situation). and_run (run command) (run_with_body control later) later)
-      ≡ performed_by dpi (with_command bodies place command control led items)
-  led_told place command control items (Err kind) e = refl
+      → IsTold dpi items
+      (then_on (concluded command (now dpi items) led) (λ (later : Situation). and_run (run command) (run_with_body control later) later))
+      (with_command bodies place command control led items)
+  led_told place command control items (Err kind) e = (refl, ([], refl))
   led_told place command control items (Ok later) e =
       let here : now dpi (performed place command ∷ items) ≡ later = ap (or_as_before (now dpi items)) e in
-      rw (← here) (body_told command control _ (performed place command ∷ items))
+      let told = body_told command control (body_run control later) (performed place command ∷ items) in
+      (rw (← here) (rw (← here) at told.0), goes_on_more (one_more (performed place command) ([], refl)) told.1)
 
   -- in a definition or outside
   step_by : (place : ℕ) (command : Said) (items : List Item) (begun : Bool) (keeping : Keeping)
       → after_command dpi place command (now dpi items)
       ≡ (if begun then defining dpi place keeping command (now dpi items) else counting dpi place command (now dpi items))
-      → then_on (concluded command (now dpi items)
+      → IsTold dpi items (then_on (concluded command (now dpi items)
       (if begun then defining dpi place keeping command (now dpi items) else counting dpi place command (now dpi items)))
       (λ (later : Situation).
-      and_run (run command) (if begun then None else run_from (operation_of command.name) command.value later) later)
-      ≡ performed_by dpi (if begun && keeps keeping then goes_on items else with_command bodies place command
+      and_run (run command) (if begun then None else run_from (operation_of command.name) command.value later) later))
+      (if begun && keeps keeping then goes_on items else with_command bodies place command
       (if begun then None else control_in (operation_of command.name) command.value)
       (if begun then defining dpi place keeping command (now dpi items) else counting dpi place command (now dpi items)) items)
   step_by place command items true Ends e = led_told place command None items _ e
-  step_by place command items true other e = refl
+  step_by place command items true other e = (refl, ([], refl))
   step_by place command items false keeping e =
-      later_told run command (λ later. from_told (operation_of command.name) command.value later) (now dpi items) _
-      ∙ led_told place command (control_in (operation_of command.name) command.value) items _ e
+      let led = led_told place command (control_in (operation_of command.name) command.value) items _ e in
+      (later_told run command (λ later. from_told (operation_of command.name) command.value later) (now dpi items) _ ∙ led.0, led.1)
 
   step_told : (place : ℕ) (command : Said) (items : List Item)
-      → step dpi run place command (now dpi items) ≡ performed_by dpi (add dpi bodies place command items)
+      → IsTold dpi items (step dpi run place command (now dpi items)) (add dpi bodies place command items)
   step_told place command items = step_by place command items _ (keeping_of (operation_of command.name) command.value) refl
 
 -- ---- macros
@@ -107,15 +135,16 @@ end_told dpi (Some Call) items inner goes =
 end_told dpi other items inner goes = refl
 
 runs_told : (levels : ℕ) (dpi : Dpi) (all : List Said) → AreTold dpi (runs levels dpi all) (unfolded levels dpi all)
-runs_told zero dpi all command control body items = refl
+runs_told zero dpi all command control body items = (refl, ([], refl))
 runs_told (suc levels) dpi all command control body items =
-    let inner = in_turn (add dpi (unfolded levels dpi all)) body.from (commands_in all body) (enter ∷ items) in
+    let begun = enter ∷ items in
     let ends = λ (later : Situation). done (macro_ended dpi (saved_by control (now dpi items)) later) in
-    ap (λ (p : Performance). then_on p ends)
-    (turn_told dpi (step dpi (runs levels dpi all)) (add dpi (unfolded levels dpi all))
-    (step_told dpi _ (unfolded levels dpi all) (runs_told levels dpi all)) body.from (commands_in all body) (enter ∷ items))
-    ∙ told_on dpi inner.refusal inner.items ends (ended_by control (enter ∷ items))
-    (end_told dpi control items inner.items (within dpi (unfolded levels dpi all) (unfolded_adds levels dpi all) all body (enter ∷ items)))
+    let inner = in_turn (add dpi (unfolded levels dpi all)) body.from (commands_in all body) begun in
+    let turn = turn_told dpi (step dpi (runs levels dpi all)) (add dpi (unfolded levels dpi all))
+    (step_told dpi _ (unfolded levels dpi all) (runs_told levels dpi all)) body.from (commands_in all body) begun in
+    let end = told_on dpi inner.refusal inner.items ends (ended_by control begun) turn.1
+    (end_told dpi control items inner.items turn.1, one_more (end_of control (length inner.items - length begun)) ([], refl)) in
+    (ap (λ (p : Performance). then_on p ends) turn.0 ∙ end.0, goes_on_more (one_more enter ([], refl)) end.1)
 
 -- ---- a job
 
@@ -123,4 +152,4 @@ pub performing_told : PerformingIsUnfolding
 performing_told dpi end commands =
     ap (λ (p : Performance). then_on p (after_end dpi end))
     (turn_told dpi (step dpi (runs macro_limit dpi commands)) (add dpi (unfolded macro_limit dpi commands))
-    (step_told dpi _ (unfolded macro_limit dpi commands) (runs_told macro_limit dpi commands)) 0 commands [])
+    (step_told dpi _ (unfolded macro_limit dpi commands) (runs_told macro_limit dpi commands)) 0 commands []).0
