@@ -1,5 +1,5 @@
 -- How far deeds bring a situation.
-use Rattle.std.proofs.Common.{◌≡◌, ℕ, ◌+◌, ◌≤◌, ◌<◌, false, cond, List, [], ◌∷◌, ◌++◌, length, Some, None, Result, Ok, Err, refl, ap, subst, ◌∙◌, arith}
+use Rattle.std.proofs.Common.{◌≡◌, ℕ, ◌+◌, ◌≤◌, ◌<◌, false, cond, List, [], ◌∷◌, ◌++◌, length, Some, None, Result, Ok, Err, refl, ap, ◌∙◌, arith}
 use Rattle.pcl_meaning.proofs.Names.{is_some, Dpi, Kind, UnsupportedCommand, Empty, Operation, Reset, ControlMacros, ControlFonts, Value, Said, outcome, Run, managed, after_command, run_from, run_of, Performance, done, in_order, step, then_from, after_adds, tried_as}
 use Rattle.pcl_page.specs.Situation.{Situation, is_marked, drawn, draw_refusal, ◌|>◌, turned_by, drawn_on, counted, prepared, is_ignored, after, page_refusal, within_page_limit, tried}
 use Rattle.pcl_meaning.proofs.Deeds.{Deed}
@@ -48,22 +48,15 @@ abbrev pub does : Dpi → Deed → Situation → Result Situation Kind
 does dpi d s = after dpi d.operation (said_of d) (counted s) |> quietly d.operation d.value
 
 -- the deeds lead from a situation to another, and none of them is refused
-abbrev pub Leads : Dpi → List Deed → Situation → Situation → Type 0
-Leads dpi [] s later = later ≡ s
-Leads dpi (d ∷ deeds) s later = (next : Situation) × (does dpi d s ≡ Ok next) × (page_refusal next ≡ None) × Leads dpi deeds next later
-
-leads_append : (dpi : Dpi) (one two : List Deed) (s middle later : Situation) → Leads dpi one s middle → Leads dpi two middle later
-    → Leads dpi (one ++ two) s later
-leads_append dpi [] two s middle later a b = subst (λ (z : Situation). Leads dpi two z later) a b
-leads_append dpi (d ∷ one) two s middle later a b = (a.0, a.1, a.2, leads_append dpi one two a.0 middle later a.3 b)
-
--- the same, in a form from which the deeds and the situations are known
-pub record AreLeading (dpi : Dpi) (deeds : List Deed) (s later : Situation) : Type 0 where
-  pub leads : Leads dpi deeds s later
+pub data AreLeading (dpi : Dpi) : List Deed → Situation → Situation → Type 0 where
+  stay : {s : Situation} → AreLeading dpi [] s s
+  lead : {d : Deed} {deeds : List Deed} {s next later : Situation} → does dpi d s ≡ Ok next → page_refusal next ≡ None
+      → AreLeading dpi deeds next later → AreLeading dpi (d ∷ deeds) s later
 
 pub leading_append : {dpi : Dpi} {one two : List Deed} {s middle later : Situation} → AreLeading dpi one s middle
     → AreLeading dpi two middle later → AreLeading dpi (one ++ two) s later
-leading_append {one = one} a b = record { leads = leads_append _ one _ _ _ _ a.leads b.leads }
+leading_append stay b = b
+leading_append (lead e fits a) b = lead e fits (leading_append a b)
 
 -- what a deed does to macros: nothing that can run, and it opens no definition
 record IsQuiet (operation : Operation) (value : Value) (s next : Situation) : Type 0 where
@@ -116,12 +109,12 @@ command_done {dpi} place command {d} {s} {next} is done fits few none =
 
 -- performing commands that are deeds leads where the deeds do
 pub commands_done : (dpi : Dpi) (f : Said → Run → Situation → Performance) (place : ℕ) (commands : List Said) (deeds : List Deed)
-    (s : Situation) {later : Situation} → AreSaid commands deeds → Leads dpi deeds s later → s.performed + length deeds ≤ 100000000
+    (s : Situation) {later : Situation} → AreSaid commands deeds → AreLeading dpi deeds s later → s.performed + length deeds ≤ 100000000
     → s.begun ≡ None → (in_order (step dpi f) place commands s ≡ done later) × (later.begun ≡ None)
-commands_done dpi f place [] [] s a l few none = (cc, rw l none)
-commands_done dpi f place (command ∷ commands) (d ∷ deeds) s a l few none =
-    let one = is_done l.1 in
-    let is = command_done place command a.0 one l.2 (omega arith) none in
-    let rest = commands_done dpi f (place + 1) commands deeds l.0 a.1 l.3 (omega (arith, one.performed)) (one.begun ∙ none) in
-    (rw (is.0, is.1) rest.0, rest.1)
+commands_done dpi f place [] [] s a stay few none = (refl, none)
+commands_done dpi f place (command ∷ commands) (d ∷ deeds) s a (lead e fits rest) few none =
+    let one = is_done e in
+    let is = command_done place command a.0 one fits (omega arith) none in
+    let more = commands_done dpi f (place + 1) commands deeds _ a.1 rest (omega (arith, one.performed)) (one.begun ∙ none) in
+    (rw (is.0, is.1) more.0, more.1)
 commands_done dpi f place commands deeds s a l few none = absurd a

@@ -8,7 +8,7 @@ use Rattle.pcl_page.specs.Situation.{after}
 use Rattle.pcl_meaning.proofs.Deeds.{Deed}
 use Rattle.pcl_meaning.proofs.Readings.{ReadsAs, reads_joined, reads_none, said_many}
 use Rattle.pcl_meaning.proofs.Sequences.{token_deeds, body_deeds, reset, tokens_read, start_read, end_read, frame_read}
-use Rattle.pcl_meaning.proofs.Following.{Leads, AreLeading, leading_append, commands_done}
+use Rattle.pcl_meaning.proofs.Following.{AreLeading, stay, lead, leading_append, commands_done}
 use Rattle.pcl_meaning.proofs.Dots.{page_dot}
 use Rattle.pcl_meaning.proofs.Printing.{IsBetween, reset_fonts, reset_macros, between, text_deeds, text_taken}
 
@@ -69,8 +69,8 @@ job_accepted {dpi} {text} {deeds} t {pages} n read leads fits few =
     let commands = commands_of 0 r.pieces in
     let first = between defaults [] 1 in
     let last = closed pages (n + 1) in
-    let closes : AreLeading dpi (reset ∷ []) (between t pages n) last = record { leads = (last, refl, pages_fit last fits, refl) } in
-    let whole : Leads dpi all at_begin last = (first, refl, pages_fit first (lit≤ tt), (leading_append leads closes).leads) in
+    let closes : AreLeading dpi (reset ∷ []) (between t pages n) last = lead refl (pages_fit last fits) stay in
+    let whole : AreLeading dpi all at_begin last = lead refl (pages_fit first (lit≤ tt)) (leading_append leads closes) in
     let count : at_begin.performed + length all ≤ 100000000 = omega (arith, length-append deeds (reset ∷ [])) in
     let c = commands_done dpi (runs macro_limit dpi commands) 0 commands all at_begin (r.said 0) whole count refl in
     let performed : performance_of dpi job commands ≡ done (at_end dpi last) =
@@ -140,7 +140,7 @@ texts_taken [] {t} {pages} {n} p b few = record {
   again = [];
   settings = t;
   count = n;
-  leads = record { leads = rw (append-nil pages) refl };
+  leads = rw (append-nil pages) stay;
   alike = tt;
   same_many = refl;
   few = omega arith;

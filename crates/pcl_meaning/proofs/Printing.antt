@@ -10,7 +10,7 @@ use Rattle.pcl_output.specs.Tokens.{PrintsRows}
 use Rattle.pcl_meaning.proofs.Deeds.{Deed, deed}
 use Rattle.pcl_meaning.proofs.Readings.{number_value, whole_is}
 use Rattle.pcl_meaning.proofs.Sequences.{body_deeds, start_deeds, end_deeds}
-use Rattle.pcl_meaning.proofs.Following.{said_of, quietly, does, Leads, AreLeading, leading_append}
+use Rattle.pcl_meaning.proofs.Following.{said_of, quietly, does, AreLeading, stay, lead, leading_append}
 use Rattle.pcl_meaning.proofs.Dots.{dot_from, first_row, white_from, skipped_dots, row_inks}
 use Rattle.pcl_meaning.proofs.Pads.{cleared_is}
 
@@ -142,7 +142,7 @@ unfolding after
 set_leads {dpi} {operation} {value} {t} {next} {pages} {n} fits set turns draws rest =
     let at = between next pages (n + 1) in
     let prepared = prepared_is dpi (ends_raster operation) {t = t} {pages = pages} {n = n + 1} in
-    record { leads = (at, rw (prepared, set, turns) (draws at), pages_fit at fits, rest.leads) }
+    lead {next = at} (rw (prepared, set, turns) (draws at)) (pages_fit at fits) rest
 
 start_leads : (size : Size) (dpi : Dpi) (copies : ℕ) {t : Settings} (pages : List Sheet) (n : ℕ) → IsBetween t → 0 < copies → copies < 100
     → length pages ≤ 256 → AreLeading dpi (start_deeds dpi copies size) (between t pages n)
@@ -154,7 +154,7 @@ start_leads size dpi copies {t} pages n b some few fits =
     let u = ready dpi size copies t in
     let last = in_body size dpi u Plain 0 (zeros size dpi) [] pages (m + 1) in
     let begun : AreLeading dpi (deed StartRaster (number_value 0) [] ∷ []) (between u pages m) last =
-    record { leads = (last, start_after dpi m b, pages_fit last fits, refl) } in
+    lead (start_after dpi m b) (pages_fit last fits) stay in
     set_leads fits (copies_out dpi copies t some few) refl (λ s. refl)
     (set_leads fits (size_out dpi size _) refl (λ s. refl)
     (set_leads fits (top_out dpi sized) refl (λ s. refl)
@@ -225,7 +225,7 @@ printed_after : {size : Size} {dpi : Dpi} {t : Settings} {d : Deed} {deeds : Lis
     → (dot_from further below x y || is_black newer x y) ≡ (dot_from k rows x y || is_black inked x y))
     → IsPrinted size dpi t (d ∷ deeds) rows k from inked pages
 printed_after {next = next} one fits (is_printed last end seed all count rest black) same =
-    is_printed last end seed all count (record { leads = (next, one, pages_fit next fits, rest.leads) })
+    is_printed last end seed all count (lead one (pages_fit next fits) rest)
     (λ x y within. black x y within ∙ same x y within)
 
 body_printed : (inside : Bool) (tokens : List Token) {size : Size} {dpi : Dpi} (t : Settings) {m : Method} {seed : List ℕ}
@@ -234,7 +234,7 @@ body_printed : (inside : Bool) (tokens : List Token) {size : Size} {dpi : Dpi} (
     → length pages ≤ 256 → IsPrinted size dpi t (body_deeds tokens) rows k (in_body size dpi t m k seed inked pages n) inked pages
 unfolding PrintsRows
 body_printed false [] t {m} {seed} rows k inked pages n p are long fits =
-    is_printed m k seed inked n (record { leads = refl }) (λ x y within. rw (white_from k rows x y p) refl)
+    is_printed m k seed inked n stay (λ x y within. rw (white_from k rows x y p) refl)
 body_printed false (opening ∷ tokens) t {seed} rows k inked pages n p are long fits =
     body_printed true tokens t rows k inked pages n p are long fits
 body_printed true (method digits next ends ∷ tokens) {size} {dpi} t {m} {seed} rows k inked pages n p are long fits =
@@ -290,9 +290,9 @@ end_leads size dpi t m k seed marks pages n none asked few =
     let sheet : Sheet = record { size = t.size; copies = t.copies; marks = marks } in
     let last = between (to_first_line (before_feed u)) (pages ++ sheet ∷ []) (n + 1 + 1) in
     let fits = pages_fit last (omega (arith, length-append pages (sheet ∷ []))) in
-    let fed : Leads dpi (deed FormFeed zero_value [] ∷ []) middle last = (last, feed_after dpi u marks pages (n + 1) asked, fits, refl) in (
+    let fed = lead {s = middle} {next = last} (feed_after dpi u marks pages (n + 1) asked) fits stay in (
       feed_between u.feed_returns u refl none asked,
-      record { leads = (middle, end_after size dpi t m k seed n, pages_fit middle (omega arith), fed) },
+      lead (end_after size dpi t m k seed n) (pages_fit middle (omega arith)) fed,
     )
 
 -- ---- a whole text
