@@ -1,6 +1,6 @@
 -- Whole jobs of page texts are accepted, and mean the pages of the texts.
-use Rattle.std.proofs.Common.{◌≡◌, ℕ, ◌+◌, ◌*◌, ◌<◌, ◌≤◌, List, [], ◌∷◌, ◌++◌, length, Option, Some, None, refl, sym, ap, subst, ◌∙◌, append_assoc, append-nil, length-append, arith, lit≤, false}
-use Rattle.pcl_meaning.proofs.Names.{flat_map, nat_tests, Dpi, Kind, Size, Refusal, macro_limit, command_limit, page_width, page_height, page_row_bytes, height_small, commands_of, IsReading, Settings, defaults, nothing_asked, dot, Page, Temporary, control, pages_fit, Mark, is_black, Sheet, Situation, at_begin, at_end, Shows, Performance, done, unless, then_on, runs, after_all, end_refusal, ended, after_end, pages_of, asks_among, Asks, HasPages, HasAsks, performance_of, Token, method, commands_in, command_count, token_bytes, start_bytes, end_bytes, frame_bytes, IsPageText, bitmap_rows, IsWrittenPage, AreAlike, AllAlike, PrintEach, most_commands, nothing_for, dot_of_rows, job_of, MeansRows}
+use Rattle.std.proofs.Common.{◌≡◌, ℕ, ◌+◌, ◌*◌, ◌<◌, ◌≤◌, List, [], ◌∷◌, ◌++◌, length, Option, None, refl, sym, ap, subst, ◌∙◌, append_assoc, append-nil, length-append, arith, lit≤, false}
+use Rattle.pcl_meaning.proofs.Names.{flat_map, nat_tests, Dpi, Size, Refusal, macro_limit, command_limit, page_width, page_height, page_row_bytes, height_small, commands_of, IsReading, Settings, defaults, nothing_asked, dot, Page, Temporary, control, pages_fit, Mark, is_black, Sheet, Situation, at_begin, at_end, Shows, Performance, done, unless, then_on, runs, after_all, end_refusal, after_end, pages_of, asks_among, Asks, HasPages, HasAsks, performance_of, Token, method, command_count, token_bytes, start_bytes, end_bytes, frame_bytes, IsPageText, bitmap_rows, IsWrittenPage, AreAlike, AllAlike, PrintEach, most_commands, nothing_for, dot_of_rows, job_of, MeansRows}
 use Rattle.pcl_env.specs.Outcome.{outcome}
 use Rattle.pcl_macros.specs.declared.table.MacroControl.TheVariants as macros
 use Rattle.pcl_macros.specs.History.{control as macro_control}
@@ -24,13 +24,10 @@ text_read {dpi} {size} {copies} {rows} printed =
     (sym (printed.spelled ∙ append_assoc (start_bytes dpi copies size) (flat_map token_bytes printed.tokens) end_bytes))
     (reads_joined (start_read dpi size small) (reads_joined (tokens_read false printed.tokens _ _ rows printed.prints few) end_read))
 
-token_counted : (token : Token) → length (token_deeds token) ≡ commands_in token
-token_counted token = grind arith
-
 body_counted : (tokens : List Token) → length (body_deeds tokens) ≡ command_count tokens
 body_counted [] = refl
 body_counted (token ∷ tokens) =
-    omega (arith, length-append (token_deeds token) (body_deeds tokens), token_counted token, body_counted tokens)
+    grind (arith, length-append (token_deeds token) (body_deeds tokens), body_counted tokens)
 
 text_counted : (dpi : Dpi) (size : Size) (copies : ℕ) (tokens : List Token)
     → length (text_deeds dpi size copies tokens) ≡ command_count tokens + 10
@@ -177,13 +174,9 @@ Fits whole = whole.refusal ≡ None → length (pages_of whole) ≤ 256
 end_fits : (dpi : Dpi) (s : Situation) → end_refusal dpi s ≡ None → length (at_end dpi s).pages ≤ 256
 end_fits dpi s n = grind (arith, nat_tests)
 
-ended_fits : (dpi : Dpi) (end : ℕ) (s : Situation) (why : Option Kind) → end_refusal dpi s ≡ why → Fits (ended dpi end why s)
-ended_fits dpi end s why e = grind (arith, end_fits)
-
 -- it is the end of the input that tells
 unless_fits : (dpi : Dpi) (end : ℕ) (why : Option Refusal) (s : Situation) → Fits (unless why s (after_end dpi end))
-unless_fits dpi end None s = ended_fits dpi end s (end_refusal dpi s) refl
-unless_fits dpi end (Some why) s = λ n. absurd cc
+unless_fits dpi end why s = grind (arith, end_fits dpi s)
 
 pub job_fits : {dpi : Dpi} {job : List ℕ} {pages : List Sheet} → HasPages dpi job pages → length pages ≤ 256
 job_fits {dpi} {job} h =

@@ -1,6 +1,6 @@
 -- Performing the deeds of a page text prints its page.
-use Rattle.std.proofs.Common.{◌≡◌, ℕ, zero, suc, ◌+◌, ◌-◌, ◌*◌, ◌/◌, ◌<◌, ◌≤◌, Bool, true, false, cond, ◌||◌, nat_le, List, [], ◌∷◌, ◌++◌, length, drop, replicate, Option, Some, None, refl, ◌∙◌, length-append, arith, Ok}
-use Rattle.pcl_meaning.proofs.Names.{not, nat_lt, AllByRecursion, length-replicate, map-append, or-false, nat_tests, Dpi, Dpi300, Dpi600, Method, Plain, Horizontal, Vertical, PclUnit, Operation, FormFeed, PageSize, Copies, TopMargin, Move, RasterResolution, RasterWidth, StartRaster, EndRasterResetMethod, RasterMethod, RasterOffset, RasterRow, Size, Executive, Letter, Legal, A4, Value, dots_per_inch, method_code, code_of, page_width, units_high, zero_value, Effect, Settings, put, put_x, put_y, to_first_line, nothing_asked, with_size, before_feed, return_carriage, Temporary, FontEvent, control, MacroEvent, Asked, pages_fit, with_page, Mark, is_black, dot_at, Raster, ends_raster, scale_of, raster_from, bytes_of_width, row_sent, row_mark, IsRowData, decoded_is, Token, opening, method, skip, send, IsRowOf, IsPageText, nothing_for, dot_of_rows}
+use Rattle.std.proofs.Common.{◌≡◌, ℕ, zero, suc, ◌+◌, ◌-◌, ◌*◌, ◌/◌, ◌<◌, ◌≤◌, Bool, true, false, cond, ◌||◌, ◌==◌, nat_le, List, [], ◌∷◌, ◌++◌, length, drop, replicate, Option, Some, None, refl, ◌∙◌, length-append, arith, Ok}
+use Rattle.pcl_meaning.proofs.Names.{not, nat_lt, AllByRecursion, length-replicate, map-append, or-false, nat_tests, Dpi, Dpi300, Dpi600, Method, Plain, Horizontal, Vertical, PclUnit, Operation, FormFeed, PageSize, Copies, TopMargin, Move, RasterResolution, RasterWidth, StartRaster, EndRasterResetMethod, RasterMethod, RasterOffset, RasterRow, Size, Executive, Value, dots_per_inch, method_code, code_of, page_width, units_high, zero_value, Effect, Settings, put, put_x, put_y, to_first_line, nothing_asked, with_size, before_feed, return_carriage, Temporary, FontEvent, control, MacroEvent, Asked, pages_fit, with_page, Mark, is_black, dot_at, Raster, ends_raster, scale_of, raster_from, bytes_of_width, row_sent, row_mark, IsRowData, decoded_is, Token, opening, method, skip, send, IsRowOf, IsPageText, nothing_for, dot_of_rows}
 use Rattle.pcl_env.specs.declared.effect.Effect.TheVariants as page
 use Rattle.pcl_env.specs.Outcome.{outcome}
 use Rattle.pcl_macros.specs.declared.table.MacroControl.TheVariants as macros
@@ -92,11 +92,7 @@ resolution_out Dpi600 t = refl
 width_out : (size : Size) (dpi : Dpi) (t : Settings) → outcome dpi RasterWidth (number_value (page_width size dpi)) false t
     ≡ Some (record t { raster_width = Some (page_width size dpi) }, page.Stay)
 unfolding outcome
-width_out Executive Dpi300 t = refl
-width_out Letter Dpi300 t = refl
-width_out Legal Dpi300 t = refl
-width_out A4 Dpi300 t = refl
-width_out size dpi t = refl
+width_out size dpi t = let some : (page_width size dpi == 0) ≡ false = grind (arith, nat_tests) in rw (whole_is (page_width size dpi), some) refl
 
 -- the settings of a text's raster
 abbrev pub ready : Dpi → Size → ℕ → Settings → Settings
@@ -116,11 +112,8 @@ in_body size dpi t m k seed marks pages n =
 abbrev zeros : Size → Dpi → List ℕ
 zeros size dpi = replicate (bytes_of_width (page_width size dpi)) 0
 
-first_dot : (dpi : Dpi) {y : ℕ} → y ≡ 0 → dot_at dpi y ≡ 0
-first_dot dpi e = grind arith
-
-one_scale : (dpi : Dpi) (size : Size) {top : ℕ} {height : Option ℕ} → height ≡ None → top ≡ 0
-    → record (body_raster size dpi 0 (zeros size dpi)) { top = top; scale = scale_of dpi (dots_per_inch dpi); height = height }
+one_scale : (dpi : Dpi) (size : Size) {y : ℕ} {height : Option ℕ} → height ≡ None → y ≡ 0
+    → record (body_raster size dpi 0 (zeros size dpi)) { top = dot_at dpi y; scale = scale_of dpi (dots_per_inch dpi); height = height }
     ≡ body_raster size dpi 0 (zeros size dpi)
 one_scale dpi size h t = grind arith
 
@@ -130,7 +123,7 @@ start_after : {size : Size} (dpi : Dpi) {copies : ℕ} {t : Settings} {pages : L
 unfolding after outcome
 start_after {size} dpi {copies} {t} {pages} n b =
     let raster : raster_from dpi 0 (ready dpi size copies t) ≡ body_raster size dpi 0 (zeros size dpi) =
-    one_scale dpi size b.height (first_dot dpi (omega arith)) in rw (raster, b.method) refl
+    one_scale dpi size b.height (omega arith) in rw (raster, b.method) refl
 
 -- a command that sets something between texts, and the deeds behind it
 set_leads : {dpi : Dpi} {operation : Operation} {value : Value} {t next : Settings} {effect : Effect} {pages : List Sheet} {n : ℕ}
