@@ -9,6 +9,7 @@ pub use Rattle.pcl_base.specs.declared.kind.Kind.{Kind}
 pub use Rattle.pcl_base.specs.declared.kind.Kind.TheVariants.{UnsupportedCommand}
 pub use Rattle.pcl_base.specs.declared.method.Method.{Method}
 pub use Rattle.pcl_base.specs.declared.method.Method.TheVariants.{Plain}
+pub use Rattle.pcl_base.specs.declared.name.Name.{Name}
 pub use Rattle.pcl_base.specs.declared.name.Name.TheVariants.{Empty, Three}
 pub use Rattle.pcl_base.specs.declared.operation.Axis.TheVariants.{Horizontal, Vertical}
 pub use Rattle.pcl_base.specs.declared.operation.Operation.{Operation}
@@ -16,7 +17,7 @@ pub use Rattle.pcl_base.specs.declared.operation.Operation.TheVariants.{ControlF
 pub use Rattle.pcl_base.specs.declared.operation.Unit.TheVariants.{PclUnit}
 pub use Rattle.pcl_base.specs.declared.refusal.Refusal.{Refusal}
 pub use Rattle.pcl_base.specs.declared.size.Size.{Size}
-pub use Rattle.pcl_base.specs.declared.size.Size.TheVariants.{A4, Executive, Legal, Letter}
+pub use Rattle.pcl_base.specs.declared.size.Size.TheVariants.{Executive}
 pub use Rattle.pcl_base.specs.declared.value.Sign.TheVariants.{Absent}
 pub use Rattle.pcl_base.specs.declared.value.Value.{Value}
 pub use Rattle.pcl_bitmap.proofs.Bytes.{bit_of_byte-zero}
@@ -27,7 +28,7 @@ pub use Rattle.pcl_env.specs.Outcome.{before_feed, outcome, return_carriage}
 pub use Rattle.pcl_env.specs.Settings.{Settings, defaults, nothing_asked, put, put_x, put_y, to_first_line, with_size}
 pub use Rattle.pcl_env.specs.declared.asked.Asked.{Asked}
 pub use Rattle.pcl_env.specs.declared.effect.Effect.{Effect}
-pub use Rattle.pcl_escape.proofs.Names.{ArePieces, IsEnd, IsMiddle, IsPiece, IsPrefix, IsReading, Parameter, Piece, Said, Spelled, combined, commands_from, commands_of, data_checks, field_value, first_place, in_range, is_exit, is_last, may_go_on, parameter_bytes, parameter_commands, parameter_name, prefix_bytes, spelling, two_character}
+pub use Rattle.pcl_escape.proofs.Names.{ArePieces, IsEnd, IsMiddle, IsPiece, IsPrefix, IsReading, Parameter, PassesChecks, Piece, Said, Spelled, combined, commands_from, commands_of, data_checks, field_value, first_place, in_range, is_exit, is_last, may_go_on, parameter_bytes, parameter_commands, parameter_name, prefix_bytes, spelling, two_character}
 pub use Rattle.pcl_escape.proofs.Runs.{place_further}
 pub use Rattle.pcl_escape.specs.declared.step.Prefix.{Prefix}
 pub use Rattle.pcl_rows.proofs.Decoded.{decoded_is}
@@ -35,10 +36,11 @@ pub use Rattle.pcl_rows.proofs.Names.{IsRowData}
 pub use Rattle.pcl_fonts.proofs.Names.{FontEvent, control}
 pub use Rattle.pcl_fonts.specs.declared.fonts.FontControl.TheVariants.{Temporary}
 pub use Rattle.pcl_macros.proofs.Names.{MacroEvent}
-pub use Rattle.pcl_output.proofs.Names.{AreWhite, IsPageText, IsRowOf, IsSpelled, IsWhite, PrintsPage, Token, bitmap_rows, command_count, commands_in, end_bytes, frame_bytes, method, opening, send, skip, start_bytes, token_bytes}
+pub use Rattle.pcl_output.proofs.Names.{AreWhite, IsPageText, IsRowOf, IsSpelled, IsWhite, PrintsPage, Token, bitmap_rows, command_count, end_bytes, frame_bytes, method, opening, send, skip, start_bytes, token_bytes}
+pub use Rattle.pcl_output.specs.Tokens.{letter}
 pub use Rattle.pcl_output.proofs.Numbers.{decimal_spelled}
 pub use Rattle.pcl_page.proofs.Keeping.{after_adds, then_from}
-pub use Rattle.pcl_page.proofs.Names.{AllAlike, AreAlike, Asks, HasAsks, HasPages, Mark, Performance, Raster, Run, Sheet, Shows, Situation, after_all, after_command, after_end, asks_among, at_begin, at_end, bytes_of_width, cleared_past, done, dot_at, end_refusal, ended, ends_raster, first_bits, in_order, is_black, managed, pages_of, performance_of, raster_from, row_mark, row_sent, run_from, run_of, runs, scale_of, step, then_on, unless, with_page}
+pub use Rattle.pcl_page.proofs.Names.{AllAlike, AreAlike, Asks, HasAsks, HasPages, Mark, Performance, Raster, Run, Sheet, Shows, Situation, after_all, after_command, after_end, asks_among, at_begin, at_end, bytes_of_width, cleared_past, done, dot_at, end_refusal, ends_raster, first_bits, in_order, is_black, managed, pages_of, performance_of, raster_from, row_mark, row_sent, run_from, run_of, runs, scale_of, step, then_on, unless, with_page}
 pub use Rattle.pcl_page.proofs.Steps.{tried_as}
 pub use Rattle.pcl_page.proofs.Turns.{pages_fit}
 pub use Rattle.pcl_writer.proofs.Names.{IsWrittenPage}

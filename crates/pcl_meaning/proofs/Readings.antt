@@ -1,6 +1,6 @@
 -- Bytes that are read as deeds, wherever in a job they stand.
-use Rattle.std.proofs.Common.{◌≡◌, ℕ, ◌+◌, ◌*◌, ◌≤◌, true, false, List, [], ◌∷◌, ◌++◌, length, Some, None, Ok, refl, sym, ap, ◌∙◌, append_assoc, append-nil, arith}
-use Rattle.pcl_meaning.proofs.Names.{flat_map, AllByRecursion, flat_map-append, nat_tests, Three, Operation, RasterRow, Absent, Value, takes_data, whole_of, Prefix, may_go_on, is_last, parameter_name, prefix_bytes, Spelled, field_value, in_range, number_of, data_checks, is_exit, Said, Piece, combined, Parameter, parameter_bytes, spelling, IsPrefix, IsMiddle, IsEnd, IsPiece, ArePieces, parameter_commands, first_place, commands_from, commands_of, place_further, IsSpelled}
+use Rattle.std.proofs.Common.{◌≡◌, ℕ, ◌+◌, ◌*◌, ◌≤◌, true, false, List, [], ◌∷◌, ◌++◌, length, Some, None, Result, Ok, if◌then◌else◌, refl, sym, ap, ◌∙◌, append_assoc, append-nil, arith}
+use Rattle.pcl_meaning.proofs.Names.{Name, PassesChecks, flat_map, AllByRecursion, flat_map-append, nat_tests, Kind, Three, Operation, RasterRow, Absent, Value, takes_data, whole_of, Prefix, may_go_on, is_last, parameter_name, prefix_bytes, Spelled, field_value, in_range, number_of, data_checks, is_exit, Said, Piece, combined, Parameter, parameter_bytes, spelling, IsPrefix, IsMiddle, IsEnd, IsPiece, ArePieces, parameter_commands, first_place, commands_from, commands_of, place_further, IsSpelled}
 use Rattle.pcl_base.specs.Operation.{operation_of}
 use Rattle.pcl_escape.specs.Checks.{parameter_checks}
 use Rattle.pcl_meaning.proofs.Deeds.{Deed, deed}
@@ -127,18 +127,18 @@ in_range_is : {n : ℕ} → n ≤ 65535 → in_range (number_value n) ≡ true
 in_range_is le = grind (arith, nat_tests)
 
 -- a parameter that sets something: its number, in range, and an operation without data, which is no universal exit
-pub record IsSetting (prefix : Prefix) (letter : ℕ) (digits : List ℕ) (n : ℕ) (operation : Operation) : Type 0 where
-  pub spelled : IsSpelled digits n
-  pub small : n ≤ 65535
-  pub named : operation_of (parameter_name prefix letter) ≡ Some operation
-  pub alone : takes_data operation ≡ false
-  pub stays : is_exit (parameter_name prefix letter) (field_value (number_field digits)) ≡ false
+pub data IsSetting (prefix : Prefix) (letter : ℕ) (digits : List ℕ) (n : ℕ) (operation : Operation) : Type 0 where
+  setting : IsSpelled digits n → n ≤ 65535 → operation_of (parameter_name prefix letter) ≡ Some operation → takes_data operation ≡ false
+      → is_exit (parameter_name prefix letter) (field_value (number_field digits)) ≡ false → IsSetting prefix letter digits n operation
 
-pub setting : {prefix : Prefix} {letter : ℕ} {digits : List ℕ} {n : ℕ} {operation : Operation} → IsSpelled digits n → n ≤ 65535
-    → operation_of (parameter_name prefix letter) ≡ Some operation → takes_data operation ≡ false
-    → is_exit (parameter_name prefix letter) (field_value (number_field digits)) ≡ false → IsSetting prefix letter digits n operation
-setting spelled small named alone stays =
-    record { spelled = spelled; small = small; named = named; alone = alone; stays = stays }
+-- the checks of a parameter that is a number in range, of an operation
+checks_are : (name : Name) (digits : List ℕ) {n : ℕ} {operation : Operation} (letter left : ℕ) {checks : Result ℕ Kind}
+    → IsSpelled digits n → n ≤ 65535 → operation_of name ≡ Some operation
+    → (if takes_data operation then data_checks letter (number_value n) left else Ok 0) ≡ checks
+    → parameter_checks name letter (field_value (number_field digits)) left ≡ checks
+unfolding parameter_checks
+checks_are name digits letter left s small named e =
+    ap (λ (value : Value). parameter_checks name letter value left) (value_is digits s) ∙ rw (in_range_is small, named) e
 
 -- the bytes are middle parameters of a sequence, whose commands are the deeds
 pub record ReadsInside (prefix : Prefix) (bytes : List ℕ) (deeds : List Deed) : Type 0 where
@@ -162,29 +162,27 @@ module _ {prefix : Prefix} {before : List ℕ} {deeds : List Deed} (r : ReadsIns
       (λ at. said.1 at (first_place at prefix)) in
       rw r.spelled (simp (append_assoc, append-nil) at piece)
 
-  module _ {n : ℕ} {operation : Operation} (s : IsSetting prefix letter digits n operation) where
-    setting_checks : parameter_checks (parameter_name prefix letter) letter (field_value (number_field digits)) 0 ≡ Ok 0
-    unfolding parameter_checks
-    setting_checks =
-        ap (λ (value : Value). parameter_checks (parameter_name prefix letter) letter value 0) (value_is digits s.spelled)
-        ∙ rw (in_range_is s.small, s.named, s.alone) refl
+  -- a setting after which the sequence goes on
+  pub set_inside : {n : ℕ} {operation : Operation} → IsSetting prefix letter digits n operation → may_go_on prefix letter ≡ true
+      → ReadsInside prefix (before ++ (digits ++ letter ∷ [])) (deeds ++ deed operation (number_value n) [] ∷ [])
+  set_inside (setting spelled small named alone stays) goes =
+      let checks : PassesChecks prefix (number_parameter digits letter) [] =
+      checks_are _ digits letter 0 spelled small named (rw alone refl) in
+      record {
+        prefix_is = r.prefix_is;
+        middle = r.middle ++ number_parameter digits letter ∷ [];
+        spelled = rw r.spelled (simp (flat_map-append, append_assoc, append-nil));
+        meant = meant_more r.middle deeds r.meant (record { field = (spelled.0, tt); letter = goes; checks = checks })
+            (named, value_is digits spelled, refl);
+      }
 
-    -- a setting after which the sequence goes on
-    pub set_inside : may_go_on prefix letter ≡ true
-        → ReadsInside prefix (before ++ (digits ++ letter ∷ [])) (deeds ++ deed operation (number_value n) [] ∷ [])
-    set_inside goes = record {
-      prefix_is = r.prefix_is;
-      middle = r.middle ++ number_parameter digits letter ∷ [];
-      spelled = rw r.spelled (simp (flat_map-append, append_assoc, append-nil));
-      meant = meant_more r.middle deeds r.meant (record { field = (s.spelled.0, tt); letter = goes; checks = setting_checks })
-          (s.named, value_is digits s.spelled, refl);
-    }
-
-    -- one that ends it
-    pub set_last : is_last letter ≡ true
-        → ReadsAs (27 ∷ (prefix_bytes prefix ++ (before ++ (digits ++ letter ∷ [])))) (deeds ++ deed operation (number_value n) [] ∷ [])
-    set_last last = end_inside (record { field = (s.spelled.0, tt); letter = last; checks = setting_checks; stays = s.stays })
-        (s.named, value_is digits s.spelled, refl)
+  -- one that ends it
+  pub set_last : {n : ℕ} {operation : Operation} → IsSetting prefix letter digits n operation → is_last letter ≡ true
+      → ReadsAs (27 ∷ (prefix_bytes prefix ++ (before ++ (digits ++ letter ∷ [])))) (deeds ++ deed operation (number_value n) [] ∷ [])
+  set_last (setting spelled small named alone stays) last =
+      let checks : PassesChecks prefix (number_parameter digits letter) [] =
+      checks_are _ digits letter 0 spelled small named (rw alone refl) in
+      end_inside (record { field = (spelled.0, tt); letter = last; checks = checks; stays = stays }) (named, value_is digits spelled, refl)
 
 -- ---- a row that is sent
 
@@ -198,16 +196,10 @@ row_named = refl
 count_checks : (n : ℕ) → data_checks 87 (number_value n) n ≡ Ok n
 count_checks n = grind (arith, nat_tests)
 
-row_checks : (digits : List ℕ) {n : ℕ} → IsSpelled digits n → n ≤ 65535
-    → parameter_checks (Three 42 98 87) 87 (field_value (number_field digits)) n ≡ Ok n
-unfolding parameter_checks
-row_checks digits {n} s le =
-    ap (λ (value : Value). parameter_checks (Three 42 98 87) 87 value n) (value_is digits s)
-    ∙ rw (in_range_is le, row_named) (count_checks n)
-
 pub row_end : {digits bytes : List ℕ} → IsSpelled digits (length bytes) → length bytes ≤ 65535
     → IsEnd row_prefix (number_parameter digits 87) bytes
-row_end {digits} s le = record { field = (s.0, tt); letter = refl; checks = row_checks digits s le; stays = refl }
+row_end {digits} {bytes} s le =
+    record { field = (s.0, tt); letter = refl; checks = checks_are _ digits 87 _ s le row_named (count_checks (length bytes)); stays = refl }
 
 pub row_meant : (digits : List ℕ) {bytes : List ℕ} → IsSpelled digits (length bytes)
     → IsMeant row_prefix (number_parameter digits 87) bytes (deed RasterRow (number_value (length bytes)) bytes)

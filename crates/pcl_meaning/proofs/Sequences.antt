@@ -1,9 +1,9 @@
 -- Page texts are read as deeds.
-use Rattle.pcl_meaning.proofs.Names.{may_go_on, not, is_last, decimal, flat_map, length-drop, Dpi, Method, Horizontal, Vertical, PclUnit, Operation, Reset, FormFeed, PageSize, Copies, TopMargin, Move, RasterResolution, RasterWidth, StartRaster, EndRasterResetMethod, RasterMethod, RasterOffset, RasterRow, Size, dots_per_inch, method_code, code_of, page_width, zero_value, width_small, Prefix, two_character, Token, opening, method, skip, send, token_bytes, IsSpelled, start_bytes, end_bytes, frame_bytes, decimal_spelled}
+use Rattle.pcl_meaning.proofs.Names.{letter, may_go_on, not, is_last, decimal, flat_map, length-drop, Dpi, Method, Horizontal, Vertical, PclUnit, Operation, Reset, FormFeed, PageSize, Copies, TopMargin, Move, RasterResolution, RasterWidth, StartRaster, EndRasterResetMethod, RasterMethod, RasterOffset, RasterRow, Size, dots_per_inch, method_code, code_of, page_width, zero_value, width_small, Prefix, two_character, Token, opening, method, skip, send, token_bytes, start_bytes, end_bytes, frame_bytes, decimal_spelled}
 use Rattle.std.proofs.Common.{◌≡◌, ℕ, ◌+◌, ◌≤◌, true, false, List, [], ◌∷◌, ◌++◌, length, drop, Some, refl, append_assoc, arith, lit≤, Bool}
 use Rattle.pcl_base.specs.Operation.{operation_of}
 use Rattle.pcl_escape.specs.Pieces.{control}
-use Rattle.pcl_output.specs.Tokens.{PrintsRows, letter}
+use Rattle.pcl_output.specs.Tokens.{PrintsRows}
 use Rattle.pcl_meaning.proofs.Deeds.{Deed, deed}
 use Rattle.pcl_meaning.proofs.Readings.{ReadsAs, reads_joined, reads_none, reads_piece, number_value, IsSetting, setting, ReadsInside, begin_inside, end_inside, set_inside, set_last, row_prefix, row_end, row_meant}
 
@@ -46,9 +46,6 @@ reset = deed Reset zero_value []
 
 -- ---- sequences of a body
 
-code_small : (m : Method) → method_code m ≤ 65535
-code_small m = grind arith
-
 -- outside a sequence tokens are read as their deeds; inside one they are read with the parameters before them
 abbrev pub AreRead : Bool → List Token → Type 0
 AreRead false tokens = ReadsAs (flat_map token_bytes tokens) (body_deeds tokens)
@@ -74,7 +71,7 @@ tokens_read false [] current seed rows p few = reads_none
 tokens_read false (opening ∷ tokens) current seed rows p few =
     tokens_read true tokens current seed rows p few [] [] (begin_inside (refl, refl))
 tokens_read true (method digits next ends ∷ tokens) current seed rows p few =
-    let small = code_small next in
+    let small : method_code next ≤ 65535 = grind arith in
     set_read 77 ends tokens (setting p.0 small refl refl refl) (setting p.0 small refl refl refl) refl refl
     (tokens_read (not ends) tokens next seed rows p.1 few)
 tokens_read true (skip digits count ends ∷ tokens) current seed rows p few =
@@ -88,45 +85,28 @@ tokens_read inside tokens current seed rows p few = absurd p
 
 -- ---- begin and end
 
-abbrev page_prefix : Prefix
-page_prefix = record { parameterized = 38; group = Some 108 }
-
-abbrev place_prefix : Prefix
-place_prefix = record { parameterized = 42; group = Some 112 }
-
-abbrev resolution_prefix : Prefix
-resolution_prefix = record { parameterized = 42; group = Some 116 }
-
-abbrev raster_prefix : Prefix
-raster_prefix = record { parameterized = 42; group = Some 114 }
-
-zero_digit : IsSpelled (48 ∷ []) 0
-zero_digit = ((refl, tt), refl)
-
-size_code_small : (size : Size) → code_of size ≤ 65535
-size_code_small size = grind arith
-
-dots_small : (dpi : Dpi) → dots_per_inch dpi ≤ 65535
-dots_small dpi = grind arith
+-- &l, *p, *t and *r
+abbrev prefix : ℕ → ℕ → Prefix
+prefix parameterized group = record { parameterized = parameterized; group = Some group }
 
 pub start_read : (dpi : Dpi) {copies : ℕ} (size : Size) → copies ≤ 65535
     → ReadsAs (start_bytes dpi copies size) (start_deeds dpi copies size)
 unfolding operation_of
 start_read dpi {copies} size le =
-    let sizes = size_code_small size in
-    let dots = dots_small dpi in
+    let sizes : code_of size ≤ 65535 = grind arith in
+    let dots : dots_per_inch dpi ≤ 65535 = grind arith in
     let wide : page_width size dpi ≤ 65535 = omega (arith, width_small size dpi) in
-    let c : IsSetting page_prefix 120 (decimal copies) copies Copies = setting (decimal_spelled _ (omega arith)) le refl refl refl in
-    let s : IsSetting page_prefix 97 (decimal (code_of size)) (code_of size) PageSize =
+    let c : IsSetting (prefix 38 108) 120 (decimal copies) copies Copies = setting (decimal_spelled _ (omega arith)) le refl refl refl in
+    let s : IsSetting (prefix 38 108) 97 (decimal (code_of size)) (code_of size) PageSize =
     setting (decimal_spelled _ (omega arith)) sizes refl refl refl in
-    let margin : IsSetting page_prefix 69 (48 ∷ []) 0 TopMargin = setting zero_digit (lit≤ tt) refl refl refl in
-    let across : IsSetting place_prefix 120 (48 ∷ []) 0 (Move Horizontal PclUnit) = setting zero_digit (lit≤ tt) refl refl refl in
-    let down : IsSetting place_prefix 89 (48 ∷ []) 0 (Move Vertical PclUnit) = setting zero_digit (lit≤ tt) refl refl refl in
-    let fine : IsSetting resolution_prefix 82 (decimal (dots_per_inch dpi)) (dots_per_inch dpi) RasterResolution =
+    let margin : IsSetting (prefix 38 108) 69 (48 ∷ []) 0 TopMargin = setting ((refl, tt), refl) (lit≤ tt) refl refl refl in
+    let across : IsSetting (prefix 42 112) 120 (48 ∷ []) 0 (Move Horizontal PclUnit) = setting ((refl, tt), refl) (lit≤ tt) refl refl refl in
+    let down : IsSetting (prefix 42 112) 89 (48 ∷ []) 0 (Move Vertical PclUnit) = setting ((refl, tt), refl) (lit≤ tt) refl refl refl in
+    let fine : IsSetting (prefix 42 116) 82 (decimal (dots_per_inch dpi)) (dots_per_inch dpi) RasterResolution =
     setting (decimal_spelled _ (omega arith)) dots refl refl refl in
-    let width : IsSetting raster_prefix 115 (decimal (page_width size dpi)) (page_width size dpi) RasterWidth =
+    let width : IsSetting (prefix 42 114) 115 (decimal (page_width size dpi)) (page_width size dpi) RasterWidth =
     setting (decimal_spelled _ (omega arith)) wide refl refl refl in
-    let start : IsSetting raster_prefix 65 (48 ∷ []) 0 StartRaster = setting zero_digit (lit≤ tt) refl refl refl in
+    let start : IsSetting (prefix 42 114) 65 (48 ∷ []) 0 StartRaster = setting ((refl, tt), refl) (lit≤ tt) refl refl refl in
     let r = reads_joined (set_last (set_inside (set_inside (begin_inside (refl, refl)) c refl) s refl) margin refl)
     (reads_joined (set_last (set_inside (begin_inside (refl, refl)) across refl) down refl)
     (reads_joined (set_last (begin_inside (refl, refl)) fine refl)
@@ -136,7 +116,7 @@ start_read dpi {copies} size le =
 pub end_read : ReadsAs end_bytes end_deeds
 unfolding operation_of
 end_read =
-    let end : IsSetting raster_prefix 67 [] 0 EndRasterResetMethod = setting (tt, refl) (lit≤ tt) refl refl refl in
+    let end : IsSetting (prefix 42 114) 67 [] 0 EndRasterResetMethod = setting (tt, refl) (lit≤ tt) refl refl refl in
     reads_joined (set_last (begin_inside (refl, refl)) end refl)
     (reads_piece (control 12) (λ behind. (refl, refl, refl)) (λ at. ((refl, refl, refl), tt)))
 

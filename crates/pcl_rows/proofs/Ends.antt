@@ -2,7 +2,7 @@
 use Rattle.std.proofs.Common.{◌≡◌, ℕ, zero, suc, ◌+◌, ◌-◌, ◌*◌, ◌/◌, ◌%◌, ◌<◌, ◌≤◌, Bool, true, false, List, [], ◌∷◌, ◌++◌, length, min, eqb, take, drop, get_or, replicate, refl, sym, inl, inr, arith}
 use Rattle.pcl_rows.proofs.Names.{Begins, Itself, copies_of, cases_lt, cases_order, get_or-drop, take_at, drop_at, take_all, Method, Plain, Runs, Packed, Delta, Head, Count, Literal, Skipped, Repeat, Near, Far, head_bytes, new_count, offset_of, IsFront, IsPastSkipped, IsHead, RowFrom}
 use Rattle.pcl_rows.proofs.Beginnings.{Begins-one, Begins-cons, front_parts}
-use Rattle.pcl_rows.proofs.Readings.{Fills, Fills-none, Fills-parts, rest_shorter, IsTreatedTo}
+use Rattle.pcl_rows.proofs.Readings.{Fills, Fills-none, Fills-cons, rest_shorter, IsTreatedTo}
 
 -- ---- numbers that bytes are
 
@@ -82,7 +82,7 @@ has_reading method (suc most) (byte ∷ bytes) old few small =
     (eqb count (new_count h.0)) = record { head = h.0; head_is = h.1; offset_is = refl; copies_is = refl; parts = parts } in
     let shorter = rest_shorter (omega arith) front in
     let rest = has_reading method most (drop count behind) _ (omega arith) (after_front _ front small) in
-    (_, Fills-parts (take count behind) old _ h.1 parts rest.1)
+    (_, Fills-cons (take count behind) old _ h.1 parts rest.1)
 
 -- ---- the row's end
 

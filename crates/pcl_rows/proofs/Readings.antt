@@ -50,51 +50,43 @@ none_is_nothing (e ∷ es) {shown = shown} r =
 abbrev pub with_front : Head → List ℕ → List ℕ → List ℕ → List ℕ
 with_front h new old rest = take (offset_of h) old ++ (given_by h new ++ rest)
 
-module _ {method : Method} {bytes : List ℕ} {h : Head} {new rest : List ℕ} (old : List ℕ) (is : IsHead method h) where
-  Fills-cut : IsCutFront bytes h new rest
-      → Fills method bytes old (with_front h new old (drop (offset_of h + length (given_by h new)) old))
-  Fills-cut cut = record {
-    whole = [];
-    cut = record { head = h; bytes = cut.padding };
-    shown = bytes;
-    parts = record {
-      elements = tt;
-      joined = refl;
-      element = record { head_is = is; complete = cut.complete };
-      lacking = (cut.missing, cut.lacking, cut.lacks);
-    };
-    row_is = rw cut.new_is;
-  }
-
-  Fills-cons : {row : List ℕ} → IsWholeFront bytes h new rest
-      → Fills method rest (drop (offset_of h + length (given_by h new)) old) row → Fills method bytes old (with_front h new old row)
-  Fills-cons front f = record {
-    whole = record { head = h; bytes = new } ∷ f.whole;
-    cut = f.cut;
-    shown = f.shown;
-    parts = record {
-      elements = (record { head_is = is; complete = front.complete }, f.parts.elements);
-      joined = rw (front.joined, f.parts.joined) (simp append_assoc);
-      element = f.parts.element;
-      lacking = f.parts.lacking;
-    };
-    row_is = ap (with_front h new old) f.row_is;
-  }
-
-pub Fills-parts : {method : Method} {bytes : List ℕ} {h : Head} (new : List ℕ) {rest : List ℕ} (old : List ℕ) {row : List ℕ} (whole : Bool)
+-- an element that is whole or cut, and then a reading of the rest
+pub Fills-cons : {method : Method} {bytes : List ℕ} {h : Head} (new : List ℕ) {rest : List ℕ} (old : List ℕ) {row : List ℕ} (whole : Bool)
     → IsHead method h → MatchBool whole (IsWholeFront bytes h new rest) (IsCutFront bytes h new rest)
     → Fills method rest (drop (offset_of h + length (given_by h new)) old) row → Fills method bytes old (with_front h new old row)
-Fills-parts new old true is front f = Fills-cons old is front f
-Fills-parts new old false is front f =
-    let nothing = rw front.rest_is at f in
-    rw (nothing.row_is ∙ none_is_nothing nothing.whole nothing.parts) (Fills-cut old is front)
+Fills-cons {h = h} new old true is front f = record {
+  whole = record { head = h; bytes = new } ∷ f.whole;
+  cut = f.cut;
+  shown = f.shown;
+  parts = record {
+    elements = (record { head_is = is; complete = front.complete }, f.parts.elements);
+    joined = rw (front.joined, f.parts.joined) (simp append_assoc);
+    element = f.parts.element;
+    lacking = f.parts.lacking;
+  };
+  row_is = ap (with_front h new old) f.row_is;
+}
+Fills-cons {bytes = bytes} {h} new old false is cut f =
+    let nothing = rw cut.rest_is at f in
+    record {
+      whole = [];
+      cut = record { head = h; bytes = cut.padding };
+      shown = bytes;
+      parts = record {
+        elements = tt;
+        joined = refl;
+        element = record { head_is = is; complete = cut.complete };
+        lacking = (cut.missing, cut.lacking, cut.lacks);
+      };
+      row_is = rw (nothing.row_is ∙ none_is_nothing nothing.whole nothing.parts, cut.new_is);
+    }
 
 -- bytes that stand for themselves lie over the row from its start on
 Fills-plain : (bytes old : List ℕ) → Fills Plain bytes old (bytes ++ drop (length bytes) old)
 Fills-plain [] old = Fills-none Plain old
 Fills-plain (byte ∷ bytes) old =
     rw (← (rw one-add at (drop-drop (length bytes) 1 old)))
-    (Fills-cons {h = Itself} {new = byte ∷ []} old (record { method_is = refl; in_range = tt }) (record { complete = refl; joined = refl })
+    (Fills-cons {h = Itself} (byte ∷ []) old true (record { method_is = refl; in_range = tt }) (record { complete = refl; joined = refl })
     (Fills-plain bytes (drop 1 old)))
 
 -- they are whole elements, which reach as far as they are long
@@ -137,7 +129,7 @@ treated_more row {place} {start} {new = new} {whole = whole} {row' = row'} {plac
     let before : take place row ++ with_front h new (drop place row) made ≡ take start row ++ (g ++ made) =
     rw (begin, take_min, take-add, append_assoc) in
     let r = so_far (with_front h new (drop place row) made)
-    (Fills-parts new (drop place row) whole front.head_is front.parts (rw behind at f)) in
+    (Fills-cons new (drop place row) whole front.head_is front.parts (rw behind at f)) in
     (r.0, r.1, cc (r.2, take-overlaid row g made inside))
 
 -- controls that give nothing stand before data that makes the row
@@ -145,7 +137,7 @@ Fills-skipped : {method : Method} (count : ℕ) {rest old row : List ℕ} → (0
     → Fills method (replicate count 128 ++ rest) old row
 Fills-skipped zero packed f = f
 Fills-skipped (suc count) {old = old} packed f =
-    Fills-cons {h = Skipped} {new = []} old (record { method_is = sym (packed (omega arith)); in_range = tt })
+    Fills-cons {h = Skipped} [] old true (record { method_is = sym (packed (omega arith)); in_range = tt })
     (record { complete = refl; joined = refl }) (Fills-skipped count (λ some. packed (omega arith)) f)
 
 pub treated_skipped : {method : Method} {bytes old data' : List ℕ} (rest row : List ℕ) (place : ℕ) → IsPastSkipped method data' rest

@@ -18,4 +18,4 @@ pub use Rattle.pcl_page.specs.declared.macros.Action.{Action}
 pub use Rattle.pcl_page.specs.declared.macros.Action.TheVariants.{Call}
 pub use Rattle.pcl_page.specs.declared.macros.Keeping.{Keeping}
 pub use Rattle.pcl_page.specs.declared.macros.Keeping.TheVariants.{Ends}
-pub use Rattle.pcl_unfolding.specs.FlatList.{Bodies, Item, PerformingIsUnfolding, Unfolding, add, ago, body_run, commands_in, control_in, control_of, end_of, ended_by, enter, flat_list, goes_on, in_turn, is_kept, keeps, now, or_as_before, performed, performed_by, return, situations, unfolded, unless, with_body, with_command}
+pub use Rattle.pcl_unfolding.specs.FlatList.{Bodies, Item, PerformingIsUnfolding, Unfolding, add, ago, body_run, commands_in, control_in, end_of, ended_by, enter, flat_list, goes_on, in_turn, keeps, now, or_as_before, performed, performed_by, return, situations, unfolded, unless, with_body, with_command}
