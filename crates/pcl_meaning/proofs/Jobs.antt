@@ -1,6 +1,6 @@
 -- Whole jobs of page texts are accepted, and mean the pages of the texts.
 use Rattle.std.proofs.Common.{◌≡◌, ℕ, ◌+◌, ◌*◌, ◌<◌, ◌≤◌, List, [], ◌∷◌, ◌++◌, length, Option, None, refl, sym, ap, subst, ◌∙◌, append_assoc, append-nil, length-append, arith, lit≤, false}
-use Rattle.pcl_meaning.proofs.Names.{flat_map, nat_tests, Dpi, Size, Refusal, macro_limit, command_limit, page_width, page_height, page_row_bytes, height_small, commands_of, IsReading, Settings, defaults, nothing_asked, dot, Page, Temporary, control, pages_fit, Mark, is_black, Sheet, Situation, at_begin, at_end, Shows, Performance, done, unless, then_on, runs, after_all, end_refusal, after_end, pages_of, asks_among, Asks, HasPages, HasAsks, performance_of, Token, method, command_count, token_bytes, start_bytes, end_bytes, frame_bytes, IsPageText, bitmap_rows, IsWrittenPage, AreAlike, AllAlike, PrintEach, most_commands, nothing_for, dot_of_rows, job_of, MeansRows}
+use Rattle.pcl_meaning.proofs.Names.{flat_map, nat_tests, Dpi, Size, Refusal, macro_limit, command_limit, page_width, page_height, page_row_bytes, height_small, commands_of, IsReading, Settings, defaults, nothing_asked, Page, Temporary, control, pages_fit, Mark, is_black, Sheet, Situation, at_begin, at_end, Shows, Performance, done, unless, then_on, runs, after_all, end_refusal, after_end, pages_of, asks_among, Asks, HasPages, HasAsks, performance_of, Token, method, command_count, token_bytes, start_bytes, end_bytes, frame_bytes, IsPageText, bitmap_rows, IsWrittenPage, AreAlike, AllAlike, PrintEach, most_commands, nothing_for, dot_of_rows, job_of, MeansRows}
 use Rattle.pcl_env.specs.Outcome.{outcome}
 use Rattle.pcl_macros.specs.declared.table.MacroControl.TheVariants as macros
 use Rattle.pcl_macros.specs.History.{control as macro_control}
@@ -94,22 +94,10 @@ text_means_page dpi size copies rows text printed few =
 -- ---- texts one after the other
 
 -- texts lead from between texts to between texts, and eject sheets like these
-pub record AreTextsTaken (dpi : Dpi) (meant : List Sheet) (texts : List ℕ) (from : Situation) (pages : List Sheet) : Type 0 where
-  pub deeds : List Deed
-  pub read : ReadsAs texts deeds
-  pub again : List Sheet
-  pub settings : Settings
-  pub count : ℕ
-  pub leads : AreLeading dpi deeds from (between settings (pages ++ again) count)
-  pub alike : AllAlike dpi meant again
-  pub same_many : length again ≡ length meant
-  pub few : length deeds + 2 ≤ most_commands dpi meant
-
-rows_dot : {size : Size} {dpi : Dpi} (page : Page) (x : ℕ) {y : ℕ} → page.bitmap.size ≡ size → page.bitmap.dpi ≡ dpi
-    → y < page_height size dpi → dot_of_rows (bitmap_rows page.bitmap) x y ≡ dot page.bitmap x y
-rows_dot {size} {dpi} page x {y} s d below =
-    page_dot (page_height page.bitmap.size page.bitmap.dpi) (page_row_bytes page.bitmap.size page.bitmap.dpi) page.bitmap.bytes x y
-    (rw (s, d) below)
+pub data AreTextsTaken (dpi : Dpi) (meant : List Sheet) (texts : List ℕ) (from : Situation) (pages : List Sheet) : Type 0 where
+  taken : (deeds : List Deed) (again : List Sheet) (settings : Settings) (count : ℕ) → ReadsAs texts deeds
+      → AreLeading dpi deeds from (between settings (pages ++ again) count) → AllAlike dpi meant again → length again ≡ length meant
+      → length deeds + 2 ≤ most_commands dpi meant → AreTextsTaken dpi meant texts from pages
 
 sheet_alike : {dpi : Dpi} {sheet : Sheet} {page : Page} {inked : List Mark} → Shows dpi page sheet
     → ((x y : ℕ) → x < page_width page.size dpi → is_black inked x y ≡ dot_of_rows (bitmap_rows page.bitmap) x y)
@@ -118,7 +106,8 @@ sheet_alike {dpi} {sheet} {page} shows black = record {
   size = sym shows.size;
   copies = sym shows.copies;
   dots = λ x y wide high.
-      sym (black x y (rw shows.size wide) ∙ rows_dot page x (page.size_is ∙ shows.size) (page.dpi_is ∙ shows.resolution) high
+      let below : y < page_height page.bitmap.size page.bitmap.dpi = rw (page.size_is ∙ shows.size, page.dpi_is ∙ shows.resolution) high in
+      sym (black x y (rw shows.size wide) ∙ page_dot _ (page_row_bytes page.bitmap.size page.bitmap.dpi) page.bitmap.bytes x y below
       ∙ shows.dots x y wide high);
 }
 
@@ -131,39 +120,26 @@ at_resolution page e w = rw (← e) (w.0, w.1)
 pub texts_taken : {dpi : Dpi} (meant : List Sheet) {texts : List ℕ} {t : Settings} {pages : List Sheet} {n : ℕ}
     → PrintEach IsWrittenPage dpi meant texts → IsBetween t → length pages + length meant ≤ 256
     → AreTextsTaken dpi meant texts (between t pages n) pages
-texts_taken [] {t} {pages} {n} p b few = record {
-  deeds = [];
-  read = rw p reads_none;
-  again = [];
-  settings = t;
-  count = n;
-  leads = rw (append-nil pages) stay;
-  alike = tt;
-  same_many = refl;
-  few = omega arith;
-}
+texts_taken [] {t} {pages} {n} p b few = taken [] [] t n (rw p reads_none) (rw (append-nil pages) stay) tt refl (omega arith)
 texts_taken {dpi} (sheet ∷ meant) {t} {pages} {n} p b few =
     let page = p.2.0 in
     let shows = p.2.1 in
     let written = at_resolution page shows.resolution p.2.2 in
     let printed = written.0 in
     let deeds = text_deeds dpi page.size page.copies printed.tokens in
-    let one = text_taken printed b (omega arith) in
+    let room : length pages < 256 = omega arith in
+    let one = text_taken printed b room in
     let again : Sheet = record { size = page.size; copies = page.copies; marks = one.inked } in
     let more = pages ++ again ∷ [] in
-    let rest = texts_taken meant {pages = more} {n = one.count} p.4 one.stands (omega (arith, length-append pages (again ∷ []))) in
-    record {
-      deeds = deeds ++ rest.deeds;
-      read = subst (λ (bytes : List ℕ). ReadsAs bytes (deeds ++ rest.deeds)) (sym p.3) (reads_joined (text_read printed) rest.read);
-      again = again ∷ rest.again;
-      settings = rest.settings;
-      count = rest.count;
-      leads = leading_append one.leads (rw (append_assoc pages (again ∷ []) rest.again) at rest.leads);
-      alike = (sheet_alike shows one.black, rest.alike);
-      same_many = omega (arith, rest.same_many);
-      few = let high = ap (λ (size : Size). page_height size dpi) shows.size in
-          omega (arith, rest.few, written.1, high, text_counted dpi page.size page.copies printed.tokens, length-append deeds rest.deeds);
-    }
+    let high = ap (λ (size : Size). page_height size dpi) shows.size in
+    elim (texts_taken meant {pages = more} {n = one.count} p.4 one.stands (omega (arith, length-append pages (again ∷ [])))) [
+      | taken others sheets u count read leads alike same fewer ↦
+          taken (deeds ++ others) (again ∷ sheets) u count
+          (subst (λ (bytes : List ℕ). ReadsAs bytes (deeds ++ others)) (sym p.3) (reads_joined (text_read printed) read))
+          (leading_append one.leads (rw (append_assoc pages (again ∷ []) sheets) at leads)) (sheet_alike shows one.black, alike)
+          (omega (arith, same))
+          (omega (arith, fewer, written.1, high, text_counted dpi page.size page.copies printed.tokens, length-append deeds others))
+    ]
 
 -- ---- the pages of an accepted job
 
@@ -208,13 +184,15 @@ pub written_again : {dpi : Dpi} {job : List ℕ} (texts : List ℕ) {pages : Lis
     → PrintEach IsWrittenPage dpi pages texts → IsAgain dpi pages (frame_bytes ++ texts ++ frame_bytes)
 written_again {dpi} texts {pages} h p =
     let fits = job_fits h in
-    let t = texts_taken pages p (record { method = refl; height = refl; asked = refl }) (omega (arith, fits)) in
-    let job = job_accepted t.settings t.count t.read t.leads (omega (arith, t.same_many, fits))
-    (omega (arith, fits, t.few, few_commands dpi pages)) in
-    record {
-      again = t.again;
-      meaning = job.meaning;
-      alike = t.alike;
-      asks = subst (HasAsks dpi (frame_bytes ++ texts ++ frame_bytes)) (nothing_alike t.again pages t.same_many) job.asks;
-      few = omega (arith, job.counted, t.few);
-    }
+    elim (texts_taken pages p (record { method = refl; height = refl; asked = refl }) (omega (arith, fits))) [
+      | taken deeds again settings count read leads alike same few ↦
+          let job = job_accepted settings count read leads (omega (arith, same, fits))
+          (omega (arith, fits, few, few_commands dpi pages)) in
+          record {
+            again = again;
+            meaning = job.meaning;
+            alike = alike;
+            asks = subst (HasAsks dpi (frame_bytes ++ texts ++ frame_bytes)) (nothing_alike again pages same) job.asks;
+            few = omega (arith, job.counted, few);
+          }
+    ]
