@@ -45,13 +45,6 @@ step_shorter None at [] goes e = absurd cc
 step_shorter None at (byte ∷ bytes) goes e = start_shorter (rw e at (start_step {at = at} {byte = byte} {rest = bytes}))
 step_shorter (Some prefix) at bytes goes e = inside_shorter (rw e at (parameter_step {prefix = prefix} {at = at} {bytes = bytes}))
 
--- the first step, and then the others
-first_step : (n : ℕ) (inside : Option Prefix) (at : ℕ) (bytes : List ℕ) → GoesOn inside bytes
-    → outcome (suc n) inside at bytes ≡ and_then (step_at inside at bytes)
-    (λ reads. outcome n reads.inside (at + (length bytes - length reads.rest)) reads.rest)
-unfolding outcome
-first_step n inside at bytes goes = grind (arith, nat_tests)
-
 -- two ways to go on that agree on what the step read
 after_same : (read : Result Reads Refusal) (f g : Reads → Result (List Said) Refusal)
     → ((reads : Reads) → read ≡ Ok reads → f reads ≡ g reads) → and_then read f ≡ and_then read g
@@ -76,10 +69,13 @@ all_at inside at bytes = outcome (suc (length bytes)) inside at bytes
 abbrev pub rest_at : ℕ → List ℕ → Reads → Result (List Said) Refusal
 rest_at begin bytes reads = all_at reads.inside (begin + (length bytes - length reads.rest)) reads.rest
 
+-- the first step, and then the others
 pub one_step : (inside : Option Prefix) (at : ℕ) (bytes : List ℕ) → GoesOn inside bytes
     → all_at inside at bytes ≡ and_then (step_at inside at bytes) (rest_at at bytes)
-one_step inside at bytes goes = first_step (length bytes) inside at bytes goes ∙ after_same (step_at inside at bytes) _ _
-    (λ reads e. enough (length bytes) (suc (length reads.rest)) reads.inside _ reads.rest (step_shorter inside at bytes goes e) (omega arith))
+unfolding outcome
+one_step inside at bytes goes =
+    let same = after_same (step_at inside at bytes) _ (rest_at at bytes) (λ reads e. enough (length bytes) (suc (length reads.rest))
+    reads.inside _ reads.rest (step_shorter inside at bytes goes e) (omega arith)) in grind (arith, nat_tests, same)
 
 -- ---- sequences
 

@@ -49,8 +49,11 @@ module _ (bytes : List ℕ) (h : Head) (room count : ℕ) (some : 0 < length byt
   size : length behind ≡ room
   size = length-drop (length (head_bytes h)) bytes ∙ sym room-is
 
-  whole_front : count ≡ new_count h → IsWholeFront bytes h (take count behind) (drop count behind)
-  whole_front all =
+  pub front_parts : (whole : Bool) → eqb count (new_count h) ≡ whole
+      → MatchBool whole (IsWholeFront bytes h (take count behind) (drop count behind))
+      (IsCutFront bytes h (take count behind) (drop count behind))
+  front_parts true e =
+      let all : count ≡ new_count h = eqb-true count (new_count h) e in
       let long : length (head_bytes h) ≤ length bytes = grind (arith, head_without_new h) in
       let joined = Begins-after bytes (head_bytes h) begins in
       let none : begins.0 ≡ [] = nil_from_length begins.0
@@ -59,9 +62,8 @@ module _ (bytes : List ℕ) (h : Head) (room count : ℕ) (some : 0 < length byt
         complete = length-take-le count behind (omega (arith, size)) ∙ all;
         joined = rw (append_assoc, take-append-drop) (rw (none, append-nil) at joined);
       }
-
-  cut_front : (count ≡ new_count h → ⊥) → IsCutFront bytes h (take count behind) (drop count behind)
-  cut_front few =
+  front_parts false e =
+      let few : count ≡ new_count h → ⊥ = eqb-false count (new_count h) e in
       let pad : List ℕ = replicate (new_count h - room) 0 in
       let pad_size : length pad ≡ new_count h - room = length-replicate (new_count h - room) 0 in
       record {
@@ -73,12 +75,6 @@ module _ (bytes : List ℕ) (h : Head) (room count : ℕ) (some : 0 < length byt
         new_is = take_all count behind (omega (arith, size));
         rest_is = drop_all count behind (omega (arith, size));
       }
-
-  pub front_parts : (whole : Bool) → eqb count (new_count h) ≡ whole
-      → MatchBool whole (IsWholeFront bytes h (take count behind) (drop count behind))
-      (IsCutFront bytes h (take count behind) (drop count behind))
-  front_parts true e = whole_front (eqb-true count (new_count h) e)
-  front_parts false e = cut_front (eqb-false count (new_count h) e)
 
 -- the same, by the parts that are read
 pub front_read : (bytes : List ℕ) (h : Head) {room count said : ℕ} {back new rest : List ℕ} → 0 < length bytes
