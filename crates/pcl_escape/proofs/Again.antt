@@ -122,8 +122,9 @@ middle_on prefix [] at begin bytes each = rw (add-zero, no_front) refl
 middle_on prefix (parameter ∷ middle) at begin bytes each =
     let next = begin + length (parameter_bytes parameter) in
     let behind = flat_map parameter_bytes middle ++ bytes in
-    rw (append_assoc (parameter_bytes parameter), inside_reads (is_middle parameter behind each.0), place_of begin (parameter_bytes parameter))
-    (rw (one_step (Some prefix) next behind (grind (arith, nat_tests)), middle_on prefix middle next next bytes each.1, with_fronts, place_further) refl)
+    let on = one_step (Some prefix) next behind (grind (arith, nat_tests)) in
+    rw (append_assoc (parameter_bytes parameter), inside_reads (is_middle parameter behind each.0))
+    (rw (place_of begin (parameter_bytes parameter), on, middle_on prefix middle next next bytes each.1, with_fronts, place_further) refl)
 
 -- the steps from ESC on are those from the first parameter on, whose command has the place of ESC
 first_on : (prefix : Prefix) (at : ℕ) {bytes : List ℕ} {read : Result Reads Refusal} → IsPrefix prefix → IsUngrouped prefix.group bytes
@@ -184,7 +185,8 @@ piece_again (combined prefix middle end sent) at bytes is = combined_on prefix a
 piece_again piece at bytes is =
     let long = piece_long piece bytes is in
     let some : 0 < length (spelling piece ++ bytes) = simp length-append (omega arith) in
-    rw (one_step None at (spelling piece ++ bytes) (grind (arith, nat_tests)), piece_step piece at bytes is tt, place_of at (spelling piece) bytes) refl
+    rw (one_step None at (spelling piece ++ bytes) (grind (arith, nat_tests)), piece_step piece at bytes is tt)
+    (rw (place_of at (spelling piece) bytes) refl)
 
 -- pieces are read so
 pieces_again : (pieces : List Piece) (at : ℕ) (behind : List ℕ) → ArePieces pieces behind

@@ -69,8 +69,8 @@ reading_after : {at : ℕ} {bytes : List ℕ} {read : Result Reads Refusal} → 
 reading_after (whole_piece piece more is alone) next =
     let long = piece_long piece more is in piece_first piece is (next _ more (simp length-append (omega arith)))
 reading_after {at} (sequence prefix bytes read is apart inside stays) next =
-    sequence_first (suc (length bytes)) prefix at [] (omega arith) (λ at more h. next at more (simp length-append (omega arith))) is apart tt
-    inside stays
+    sequence_first (suc (length bytes)) prefix at [] (omega arith) (λ at more h. next at more (simp length-append (omega arith)))
+    is apart tt inside stays
 reading_after (wrong f) next = failing f
 
 -- any bytes are so

@@ -92,7 +92,8 @@ resolution_out Dpi600 t = refl
 width_out : (size : Size) (dpi : Dpi) (t : Settings) → outcome dpi RasterWidth (number_value (page_width size dpi)) false t
     ≡ Some (record t { raster_width = Some (page_width size dpi) }, page.Stay)
 unfolding outcome
-width_out size dpi t = let some : (page_width size dpi == 0) ≡ false = grind (arith, nat_tests) in rw (whole_is (page_width size dpi), some) refl
+width_out size dpi t =
+    let some : (page_width size dpi == 0) ≡ false = grind (arith, nat_tests) in rw (whole_is (page_width size dpi), some) refl
 
 -- the settings of a text's raster
 abbrev pub ready : Dpi → Size → ℕ → Settings → Settings

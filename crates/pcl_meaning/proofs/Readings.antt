@@ -199,7 +199,8 @@ count_checks n = grind (arith, nat_tests)
 pub row_end : {digits bytes : List ℕ} → IsSpelled digits (length bytes) → length bytes ≤ 65535
     → IsEnd row_prefix (number_parameter digits 87) bytes
 row_end {digits} {bytes} s le =
-    record { field = (s.0, tt); letter = refl; checks = checks_are _ digits 87 _ s le row_named (count_checks (length bytes)); stays = refl }
+    let checks = checks_are _ digits 87 _ s le row_named (count_checks (length bytes)) in
+    record { field = (s.0, tt); letter = refl; checks = checks; stays = refl }
 
 pub row_meant : (digits : List ℕ) {bytes : List ℕ} → IsSpelled digits (length bytes)
     → IsMeant row_prefix (number_parameter digits 87) bytes (deed RasterRow (number_value (length bytes)) bytes)

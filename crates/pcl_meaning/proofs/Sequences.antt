@@ -100,7 +100,8 @@ start_read dpi {copies} size le =
     let s : IsSetting (prefix 38 108) 97 (decimal (code_of size)) (code_of size) PageSize =
     setting (decimal_spelled _ (omega arith)) sizes refl refl refl in
     let margin : IsSetting (prefix 38 108) 69 (48 ∷ []) 0 TopMargin = setting ((refl, tt), refl) (lit≤ tt) refl refl refl in
-    let across : IsSetting (prefix 42 112) 120 (48 ∷ []) 0 (Move Horizontal PclUnit) = setting ((refl, tt), refl) (lit≤ tt) refl refl refl in
+    let across : IsSetting (prefix 42 112) 120 (48 ∷ []) 0 (Move Horizontal PclUnit) =
+    setting ((refl, tt), refl) (lit≤ tt) refl refl refl in
     let down : IsSetting (prefix 42 112) 89 (48 ∷ []) 0 (Move Vertical PclUnit) = setting ((refl, tt), refl) (lit≤ tt) refl refl refl in
     let fine : IsSetting (prefix 42 116) 82 (decimal (dots_per_inch dpi)) (dots_per_inch dpi) RasterResolution =
     setting (decimal_spelled _ (omega arith)) dots refl refl refl in
