@@ -1,5 +1,5 @@
 -- The data of a command stand in the job right before what is left after its step.
-use Rattle.std.proofs.Common.{◌≡◌, ℕ, ◌+◌, ◌-◌, true, false, ◌==◌, if◌then◌else◌, List, [], ◌∷◌, ◌++◌, length, take_at, drop_at, Option, Some, None, Result, Ok, Err, refl, ap, append_assoc, length-append, arith}
+use Rattle.std.proofs.Common.{◌≡◌, ℕ, ◌-◌, true, false, ◌==◌, if◌then◌else◌, List, [], ◌∷◌, ◌++◌, length, take_at, drop_at, Option, Some, None, Result, Ok, Err, refl, ap, append_assoc, length-append, arith}
 use Rattle.pcl_escape.proofs.Names.{nat_tests, IfSome, Name, Refusal, name_bytes, Prefix, goes_on, is_last, is_letter, may_go_on, name_with_letter, parameter_name, prefix_bytes, field_bytes, parameter_bytes, silent, control, text, two_character, combined, exit, name_with, Said, Reads, step_at, IsPlaced}
 use Rattle.pcl_escape.specs.inner.Scan.{start_at}
 use Rattle.pcl_escape.proofs.Steps.{Inside, is_middle, is_end, is_wrong, parameter_step}

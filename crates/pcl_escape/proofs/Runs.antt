@@ -1,5 +1,5 @@
 -- What the bytes of a job are: whole pieces, and what first fails after them.
-use Rattle.std.proofs.Common.{◌≡◌, ℕ, zero, suc, ◌+◌, ◌-◌, ◌<◌, true, is_some, List, [], ◌∷◌, ◌++◌, length, Option, Result, append_assoc, length-append, add-zero, arith}
+use Rattle.std.proofs.Common.{◌≡◌, ℕ, zero, suc, ◌+◌, ◌<◌, true, is_some, List, [], ◌∷◌, ◌++◌, length, Option, Result, append_assoc, length-append, add-zero, arith}
 use Rattle.pcl_escape.proofs.Names.{flat_map, AllByRecursion, Refusal, Prefix, prefix_bytes, Reads, Parameter, Piece, combined, IsPrefix, IsPiece, ArePieces, IsMiddle, IsEnd, parameter_bytes, spelling, Fails, IsUngrouped, in_parameter, place_behind}
 use Rattle.pcl_escape.proofs.Steps.{Inside, is_middle, is_end, is_wrong, Stays, parameter_step, grouped_stays, middle_grouped}
 use Rattle.pcl_escape.proofs.Lines.{last_joined}

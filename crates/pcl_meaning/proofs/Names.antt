@@ -21,7 +21,7 @@ pub use Rattle.pcl_base.specs.declared.size.Size.TheVariants.{Executive}
 pub use Rattle.pcl_base.specs.declared.value.Sign.TheVariants.{Absent}
 pub use Rattle.pcl_base.specs.declared.value.Value.{Value}
 pub use Rattle.pcl_bitmap.proofs.Bytes.{bit_of_byte-zero}
-pub use Rattle.pcl_bitmap.proofs.Names.{Picture, bit_of_byte, dot, dot_of_row, raster_dot}
+pub use Rattle.pcl_bitmap.proofs.Names.{Picture, bit_of_byte, dot_of_row, raster_dot}
 pub use Rattle.pcl_bitmap.proofs.Pictures.{same_dots}
 pub use Rattle.pcl_bitmap.specs.declared.page.Page.{Page}
 pub use Rattle.pcl_env.specs.Outcome.{before_feed, outcome, return_carriage}
