@@ -53,6 +53,9 @@ module _ {dpi : Dpi} {text : List ℕ} {copies : ℕ} {size : Size} {rest : List
   begins_as : text ≡ first_bytes ++ (decimal copies ++ 120 ∷ (decimal (code_of size) ++ 97 ∷ (raster_start size dpi ++ rest)))
   begins_as = is.text_is ∙ start_is dpi copies size rest
 
+  pub begins_size : IsSize text copies (code_of size) (raster_start size dpi ++ rest)
+  begins_size = record { first = record { few = omega (arith, is.few); text_is = begins_as }; small = omega (arith, code_few size) }
+
   pub no_copies : {front : List ℕ} → text ≡ first_bytes ++ front
       → ((n : ℕ) (more : List ℕ) → n ≤ 65535 → front ≡ decimal n ++ 120 ∷ more → ⊥) → ⊥
   no_copies {front} e none = none copies _ (omega (arith, is.few)) (append_cancel_left first_bytes front _ (sym e ∙ begins_as))

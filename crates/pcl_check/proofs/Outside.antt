@@ -17,8 +17,7 @@ outside_by : {size : Size} {dpi : Dpi} (left : LeftOver) {rows : List (List ℕ)
 unfolding PrintsRows
 outside_by left [] e n all p = inl (e, p)
 outside_by left (opening ∷ tokens) e n all p =
-    let bytes = flat_map token_bytes tokens ++ end_bytes in
-    inr (bytes, e, record { count = n; rows_are = all; tokens = tokens; spelled = refl; prints = p })
+    inr ((flat_map token_bytes tokens ++ end_bytes), e, record { count = n; rows_are = all; tokens = tokens; spelled = refl; prints = p })
 outside_by left (token ∷ tokens) e n all p = absurd p
 
 pub opening_becomes : {size : Size} {dpi : Dpi} {left : LeftOver} {rest : List ℕ} → left.inside ≡ false → left.text ≡ opening_bytes ++ rest

@@ -1,6 +1,6 @@
 -- Elements of each kind by windows.
-use Rattle.std.proofs.Common.{◌≡◌, ℕ, ◌+◌, ◌-◌, ◌<◌, ◌≤◌, List, length, take, drop, sym, ◌∙◌, arith}
-use Rattle.pcl_check.proofs.Names.{slice_index, ext_get_or, get_or-take, get_or-drop, length-drop, length-take-le, run_part, start_within, row_limit, replacement_bytes, run_len_of, near_bytes, far_bytes, IsNotUndercut, AreGoodRuns, AreGoodLiterals, AreGoodReplacements, AreRunStops, AreStartEnds, ArePlaced, AreBehindStarts}
+use Rattle.std.proofs.Common.{◌≡◌, ℕ, ◌+◌, ◌-◌, ◌<◌, ◌≤◌, List, length, length-take, take, drop, arith}
+use Rattle.pcl_check.proofs.Names.{slice_index, ext_get_or, get_or-take, get_or-drop, length-drop, run_part, start_within, row_limit, replacement_bytes, run_len_of, near_bytes, far_bytes, IsNotUndercut, AreGoodRuns, AreGoodLiterals, AreGoodReplacements, AreRunStops, AreStartEnds, ArePlaced, AreBehindStarts}
 use Rattle.pcl_check.proofs.PlacesFound.{And}
 
 -- ---- runs
@@ -51,13 +51,8 @@ same_before_start : {old row ends : List ℕ} {place : ℕ} (offset : ℕ) → l
     → place < length row → place + offset + 1 ≤ slice_index ends place → take offset (drop place row) ≡ take offset (drop place old)
 same_before_start {old} {row} {place} offset size are inside within =
     let is = are.starts place (omega arith) inside in
-    let one = length-take-le offset (drop place row) (omega (arith, length-drop place row, is.within)) in
-    let other = length-take-le offset (drop place old) (omega (arith, length-drop place old, is.within)) in
-    ext_get_or 0 (take offset (drop place row)) (take offset (drop place old)) (one ∙ sym other)
-    (λ k below.
-    let ours = get_or-take offset (drop place row) k 0 in
-    let theirs = get_or-take offset (drop place old) k 0 in
-    grind (arith, one, is.same (place + k), get_or-drop place row k 0, get_or-drop place old k 0))
+    ext_get_or 0 (take offset (drop place row)) (take offset (drop place old)) (grind (arith, length-take, length-drop, is.within))
+    (λ k below. grind (arith, length-take, get_or-take, get_or-drop, is.same))
 
 -- by the four counts of bytes of a command
 abbrev pub AreKeptStarts : List ℕ → List ℕ → List ℕ → ℕ → Type 0

@@ -63,8 +63,7 @@ module _ {old row : List ℕ} (numbers : List ℕ) {place : ℕ} where
       → AreGoodSteps method old row numbers place → slice_index numbers place ≤ bytes + slice_index numbers (place + shape_stop shape)
   shape_kept {shape} is good =
       let e : Element = element_of shape (drop place row) in
-      let kept = good e (place + stop e) (record { element = is.element; agrees = is.agrees; next_is = refl }) in
-      grind (arith, kept, is.bytes_are, is.stop_is)
+      grind (arith, good e (place + stop e) (record { element = is.element; agrees = is.agrees; next_is = refl }), is.bytes_are, is.stop_is)
 
   pub bytes_of_steps : length numbers ≡ length row + 1 → AreGoodSteps Plain old row numbers place → IsGoodByte numbers place
   bytes_of_steps size good = λ inside.
@@ -83,10 +82,9 @@ module _ {old row : List ℕ} (numbers : List ℕ) {place : ℕ} where
   -- a literal of one byte costs as much as its repeat would
   pub repeats_of_steps : length numbers ≡ length row + 1 → AreGoodSteps Packed old row numbers place → AreGoodRuns row numbers 128 place
   repeats_of_steps size good = λ count byte some few within alike.
-      let literal = literals_of_steps size good in
       let repeated = λ (more : 1 < count). shape_kept (repeat_step (drop place old) (omega arith) few
       (omega (arith, length-drop place row)) (first_of_run (drop place row) byte some alike)) good in
-      grind (arith, literal count some few, repeated)
+      grind (arith, (literals_of_steps size good) count some few, repeated)
 
   pub replacements_of_steps : AreGoodSteps Delta old row numbers place → AreGoodReplacements old row numbers place
   replacements_of_steps good = λ offset len some few within alike.
@@ -100,10 +98,8 @@ pub table_of_good : {method : Method} {seed row numbers : List ℕ} → length n
 table_of_good {row} {numbers} size good = record {
   size = size;
   feasible = record {
-    steps = λ place e next l.
-        let kept = λ (within : place ≤ length row). (good place within).steps e next l in grind (arith, kept, get_or_past numbers place 0);
-    ends = λ place end.
-        let kept = λ (within : place ≤ length row). (good place within).ends end in grind (arith, kept, get_or_past numbers place 0);
+    steps = λ place e next l. grind (arith, good place, l, get_or_past numbers place 0);
+    ends = λ place end. grind (arith, good place, end, get_or_past numbers place 0);
   };
 }
 

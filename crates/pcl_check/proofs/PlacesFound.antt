@@ -1,37 +1,16 @@
 -- The first place of which one of two facts doesn't hold.
-use Rattle.std.proofs.Common.{◌≡◌, ℕ, zero, suc, ◌+◌, ◌<◌, ◌≤◌, min, subst, inl, inr, arith}
-use Rattle.pcl_check.proofs.Names.{Option, MatchOption, cases_lt, IsFirstPlace, FindsPlace, first_found_place}
+use Rattle.std.proofs.Common.{◌≡◌, ℕ, zero, suc, ◌+◌, ◌<◌, ◌≤◌, subst, inl, inr, arith}
+use Rattle.pcl_check.proofs.Names.{Option, MatchOption, cases_lt, FindsPlace, first_found_place}
 use Rattle.std.specs.Prelude.{Some, None}
 
 -- both facts
 abbrev pub And : (ℕ → Type 0) → (ℕ → Type 0) → ℕ → Type 0
 And One Other place = One place × Other place
 
--- the first bad place of one fact is that of another which differs from it at no place up to there
-first_too : (One Other : ℕ → Type 0) {last place : ℕ} → (Other place → One place) → ((k : ℕ) → k < place → One k → Other k)
-    → IsFirstPlace One last place → IsFirstPlace Other last place
-first_too One Other back to found = record {
-  within = found.within;
-  is_bad = λ other. found.is_bad (back other);
-  first = λ k lt. to k lt (found.first k lt);
-}
-
 pub finds_both : (One Other : ℕ → Type 0) (last : ℕ) (one other : Option ℕ) → FindsPlace One last one → FindsPlace Other last other
     → FindsPlace (And One Other) last (first_found_place one other)
 finds_both One Other last None None a b = λ place le. (a place le, b place le)
-finds_both One Other last None (Some bad) a b =
-    first_too Other (And One Other) (λ both. both.1) (λ k lt here. (a k (omega (arith, b.within)), here)) b
-finds_both One Other last (Some bad) None a b =
-    first_too One (And One Other) (λ both. both.0) (λ k lt here. (here, b k (omega (arith, a.within)))) a
-finds_both One Other last (Some x) (Some y) a b =
-    elim (cases_lt y x) [
-      | inl less ↦
-          let e : min x y ≡ y = omega arith in
-          rw e (first_too Other (And One Other) (λ both. both.1) (λ k lt here. (a.first k (omega arith), here)) b)
-      | inr more ↦
-          let e : min x y ≡ x = omega arith in
-          rw e (first_too One (And One Other) (λ both. both.0) (λ k lt here. (here, b.first k (omega arith))) a)
-    ]
+finds_both One Other last one other a b = grind arith
 
 -- the first place that is bad by one of four facts
 pub first_of_four : (A B C D : ℕ → Type 0) (last : ℕ) (a b c d : Option ℕ) {one other found : Option ℕ} → FindsPlace A last a
@@ -46,7 +25,11 @@ pub finds_place_too : (One Other : ℕ → Type 0) {last : ℕ} (found : Option 
     → ((place : ℕ) → place ≤ last → Other place → One place) → FindsPlace One last found → FindsPlace Other last found
 finds_place_too One Other None to back found = λ place le. to place le (found place le)
 finds_place_too One Other (Some bad) to back found =
-    first_too One Other (back bad found.within) (λ k lt. to k (omega (arith, found.within))) found
+    record {
+      within = found.within;
+      is_bad = λ other. found.is_bad (back bad found.within other);
+      first = λ k lt. to k (omega (arith, found.within)) (found.first k lt);
+    }
 
 -- ---- found from the end
 
@@ -76,12 +59,7 @@ FindsFrom Good from last found = MatchOption found ((place : ℕ) → from ≤ p
 pub found_good : (Good : ℕ → Type 0) {place : ℕ} (last : ℕ) (found : Option ℕ) → Good place → FindsFrom Good (place + 1) last found
     → FindsFrom Good place last found
 found_good Good last None here found = from_before (λ k. k ≤ last → Good k) (λ _. here) found
-found_good Good last (Some bad) here found = record {
-  order = omega (arith, found.order);
-  within = found.within;
-  is_bad = found.is_bad;
-  first = from_before (λ k. k < bad → Good k) (λ _. here) found.first;
-}
+found_good Good last (Some bad) here found = grind (arith, found.first)
 
 pub found_bad : (Good : ℕ → Type 0) {place last : ℕ} → place ≤ last → (Good place → ⊥) → FindsFrom Good place last (Some place)
 found_bad Good within bad = record { order = omega arith; within = within; is_bad = bad; first = λ k from lt. absurd (omega arith) }
@@ -89,10 +67,5 @@ found_bad Good within bad = record { order = omega arith; within = within; is_ba
 -- all places before are good
 pub found_all : (Good : ℕ → Type 0) {from : ℕ} (last : ℕ) (found : Option ℕ) → ((k : ℕ) → k < from → Good k)
     → FindsFrom Good from last found → FindsPlace Good last found
-found_all Good {from} last None good found = λ k within.
-    elim (cases_lt k from) [ inl before ↦ good k before | inr behind ↦ found k behind within ]
-found_all Good {from} last (Some bad) good found = record {
-  within = found.within;
-  is_bad = found.is_bad;
-  first = λ k lt. elim (cases_lt k from) [ inl before ↦ good k before | inr behind ↦ found.first k behind lt ];
-}
+found_all Good last None good found = grind (arith, good, found)
+found_all Good last (Some bad) good found = grind (arith, good, found.first)

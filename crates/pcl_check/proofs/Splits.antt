@@ -5,10 +5,8 @@ use Rattle.pcl_check.proofs.Names.{Pass}
 pub one_split : (test : ℕ → Bool) (a b : List ℕ) {c d : ℕ} {x y : List ℕ} → Pass test a → Pass test b → test c ≡ false → test d ≡ false
     → a ++ c ∷ x ≡ b ++ d ∷ y → (a ≡ b) × (c ≡ d) × (x ≡ y)
 one_split test [] [] p q s t e = (refl, cc, cc)
-one_split test [] (digit ∷ b) {c} p q s t e =
-    let first : c ≡ digit = cc in absurd cc
-one_split test (digit ∷ a) [] {d} p q s t e =
-    let first : digit ≡ d = cc in absurd cc
+one_split test [] (digit ∷ b) p q s t e = absurd cc
+one_split test (digit ∷ a) [] p q s t e = absurd cc
 one_split test (digit ∷ a) (other ∷ b) {c} {d} {x} {y} p q s t e =
     let rest : a ++ c ∷ x ≡ b ++ d ∷ y = cc in let later = one_split test a b p.1 q.1 s t rest in (cc, later.1, later.2)
 

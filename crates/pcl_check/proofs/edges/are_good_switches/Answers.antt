@@ -3,9 +3,10 @@ use Rattle.pcl_check.proofs.Names.{Method, Plain, Runs, Packed, Delta, not, Node
 use Rattle.pcl_check.proofs.edges.are_good_switches.Goals as goal
 
 -- a number that a switch to no method undercuts
-within_rests : (number : Node → ℕ) (row n : ℕ) → n ≤ 1 + rest number row Plain → n ≤ 2 + rest number row Runs
-    → n ≤ 2 + rest number row Packed → n ≤ 2 + rest number row Delta → (next : Method) → n ≤ switch_cost next + rest number row next
-within_rests number row n plain runs packed delta next = grind arith
+within_rests : (number : Node → ℕ) (row n : ℕ) (next : Method) → n ≤ 1 + rest number row Plain
+    → n ≤ 2 + min (min (rest number row Runs) (rest number row Packed)) (rest number row Delta)
+    → n ≤ switch_cost next + rest number row next
+within_rests number row n next plain others = grind arith
 
 switch_within : (number : Node → ℕ) {row : ℕ} {method : Method} (next : Method) → AreGoodSwitches number method row
     → number_at number row method true ≤ switch_cost next + rest number row next
@@ -20,11 +21,9 @@ returns-then-is_within c =
     (rest number c.args.row Delta) =
     omega (arith, c.min-then-is_within.ensures, c.min.ensures, c.rest-runs.ensures, c.rest-packed.ensures, c.rest-delta.ensures) in (
       λ is next inside.
-          let plain = c.is_within.ensures.0 c.if-is_within.true in
-          let other : n ≤ 2 + c.min-then-is_within.result =
-          omega (arith, c.number-number.ensures, c.is_within-then-is_within.ensures.0 is) in
-          let all = within_rests number c.args.row n (omega (arith, c.number-number.ensures, c.rest-plain.ensures, plain))
-          (omega (arith, other, others)) (omega (arith, other, others)) (omega (arith, other, others)) next in
+          let all = within_rests number c.args.row n next
+          (omega (arith, c.number-number.ensures, c.rest-plain.ensures, c.is_within.ensures.0 c.if-is_within.true))
+          (omega (arith, c.number-number.ensures, c.is_within-then-is_within.ensures.0 is, others)) in
           omega (arith, all, switching_is next, rest_below number c.args.row next inside),
       λ good.
           let runs = switch_within number Runs good in

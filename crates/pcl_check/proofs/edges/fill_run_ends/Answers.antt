@@ -7,26 +7,23 @@ use Rattle.pcl_check.proofs.edges.fill_run_ends.Goals.{then-is_blank, else-is_bl
 ends_begin : {rows : List (List ℕ)} (ends : List ℕ) {last : ℕ} → length rows ≡ last → length ends ≡ last + 1
     → AreRunEnds rows (set ends last last) last
 ends_begin {rows} ends {last} count size =
-    let inside : last < length ends = omega arith in
-    let at : slice_index (set ends last last) last ≡ last = get_or-set_same ends last last 0 inside in
     record {
       size = omega (arith, length-set ends last last, count);
       runs = λ row from within.
           let same : row ≡ last = omega arith in
-          let none : last - last ≡ 0 = omega arith in rw (same, at, none) (omega arith, run_end (sym count));
+          let none : last - last ≡ 0 = omega arith in
+          rw (same, get_or-set_same ends last last 0 (omega arith), none) (omega arith, run_end (sym count));
     }
 
 -- a row more
 ends_more : {rows : List (List ℕ)} {ends : List ℕ} {row end : ℕ} → row < length rows → AreRunEnds rows ends (row + 1)
     → row ≤ end → IsWhiteRun rows row (end - row) → AreRunEnds rows (set ends row end) row
 ends_more {rows} {ends} {row} {end} lt are order run =
-    let inside : row < length ends = omega (arith, are.size) in
-    let at : slice_index (set ends row end) row ≡ end = get_or-set_same ends row end 0 inside in
     record {
       size = length-set ends row end ∙ are.size;
       runs = λ k from within.
           elim (cases_eq row k) [
-            | inl same ↦ rw (sym same, at) (order, run)
+            | inl same ↦ rw (sym same, get_or-set_same ends row end 0 (omega (arith, are.size))) (order, run)
             | inr other ↦ rw (get_or-set_other ends row k end 0 (λ e. other (sym e))) (are.runs k (omega (arith, other)) within)
           ];
     }
@@ -46,10 +43,9 @@ loop-row-preserved c =
     let rows = bitmap_rows picture in
     let row : ℕ = c.loop-row.row - 1 in
     let height : c.height-height.result ≡ page_height picture.size picture.dpi = cc in
-    let count = length_rows (page_height picture.size picture.dpi) width picture.bytes in
     let after : c.loop-row.row ≡ row + 1 = omega arith in
     let on_page : row < page_height picture.size picture.dpi = omega (arith, height, c.loop-row.auto.row) in
-    let inside : row < length rows = omega (arith, count, on_page) in
+    let inside : row < length rows = omega (arith, length_rows (page_height picture.size picture.dpi) width picture.bytes, on_page) in
     let behind = rw after at c.loop-row.invariant in
     let bytes = row_of_bytes row (page_height picture.size picture.dpi) width picture.bytes on_page in
     elim c.if-is_blank.branch [

@@ -1,6 +1,6 @@
 use Rattle.std.proofs.Common.{◌≡◌, ℕ, ◌+◌, ◌-◌, ◌<◌, ◌≤◌, List, length, sym, arith, Bool, true, false, drop, refl}
 use Rattle.pcl_check.proofs.Names.{slice_index, white_below, white_front, skippable_within, white_to_end, ink_left, AreRunEnds, AreEnds, Both, IsGoodBy, IsGoodIn, Method, Plain, Runs, Packed, Delta, Node, IsGoodNumber, page_height, page_row_bytes, Page, bitmap_rows, node_number, length_rows, height_small}
-use Rattle.pcl_check.proofs.Found.{first_of_four, finds_too}
+use Rattle.pcl_check.proofs.Found.{first_of_four}
 use Rattle.pcl_check.proofs.edges.first_bad.Goals as goal
 
 -- the white rows from a row end no earlier where they begin a row later
@@ -66,9 +66,7 @@ InMethods ends last Counts number =
 good_of_methods : (ends : List ℕ) (last : ℕ) (Counts : ℕ → Method → ℕ → Type 0) (number : Node → ℕ) (row : ℕ) (method : Method)
     (inside : Bool) → InMethods ends last Counts number row method inside → IsGoodBy ends last Counts number row method inside
 good_of_methods ends last Counts number row Plain inside all = all.0.0 refl
-good_of_methods ends last Counts number row Runs inside all = all.0.1 refl
-good_of_methods ends last Counts number row Packed inside all = all.1.0 refl
-good_of_methods ends last Counts number row Delta inside all = all.1.1 refl
+good_of_methods ends last Counts number row _ inside all = search (refl, all.0.1, all.1.0, all.1.1)
 
 -- a page has as many rows as it is high
 rows_of_page : (page : Page) → length (bitmap_rows page.bitmap) ≡ page_height page.size page.dpi
@@ -94,20 +92,17 @@ first_bad_in-delta-requires-clause-ends g c = ends_of_page c.args.page.now c.fil
 pub returns : goal.returns
 returns g c =
     let page = c.args.page.now in
-    let rows = bitmap_rows page.bitmap in
-    let ends = c.fill_run_ends.new.ends in
     let number = node_number c.args.table.now in
     let last : ℕ = page_height page.size page.dpi in
     let count = rows_of_page page in
     let Counts : ℕ → Method → ℕ → Type 0 = g.L.RowLengths.counts c.args.lengths.now page in
-    let In : Method → ℕ → Method → Bool → Type 0 = IsGoodIn ends last Counts number in
-    finds_too (InMethods ends last Counts number) (IsGoodNumber rows Counts number) c.first_of-3.result
+    let In : Method → ℕ → Method → Bool → Type 0 = IsGoodIn c.fill_run_ends.new.ends last Counts number in
+    first_of_four (In Plain) (In Runs) (In Packed) (In Delta) (IsGoodNumber (bitmap_rows page.bitmap) Counts number) _ _ _ _
     (λ row method inside le good.
     good_by_rows number method c.fill_run_ends.ensures (omega (arith, count)) Counts inside count
-    (good_of_methods ends last Counts number row method inside good))
+    (good_of_methods c.fill_run_ends.new.ends last Counts number row method inside good))
     (λ row method inside le good.
     let by = good_by_ends number method c.fill_run_ends.ensures (omega (arith, count)) Counts inside count good in
     ((λ _. by, λ _. by), (λ _. by, λ _. by)))
-    (first_of_four (In Plain) (In Runs) (In Packed) (In Delta) last c.first_bad_in-plain.result c.first_bad_in-runs.result
-    c.first_bad_in-packed.result c.first_bad_in-delta.result c.first_bad_in-plain.ensures c.first_bad_in-runs.ensures
-    c.first_bad_in-packed.ensures c.first_bad_in-delta.ensures c.first_of.ensures c.first_of-2.ensures c.first_of-3.ensures)
+    c.first_bad_in-plain.ensures c.first_bad_in-runs.ensures c.first_bad_in-packed.ensures c.first_bad_in-delta.ensures
+    c.first_of.ensures c.first_of-2.ensures c.first_of-3.ensures

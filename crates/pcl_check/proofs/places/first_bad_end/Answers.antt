@@ -1,5 +1,5 @@
 use Rattle.std.proofs.Common.{◌≡◌, ◌≤◌, ◌+◌, ◌-◌, ℕ, length, sym, arith}
-use Rattle.pcl_check.proofs.Names.{AreSameFrom, same_past, same_before, ends_by, ends_at, IsGoodEnd}
+use Rattle.pcl_check.proofs.Names.{AreSameFrom, ends_by, ends_at, IsGoodEnd}
 use Rattle.pcl_check.proofs.PlacesFound.{found_good, found_bad, found_all}
 use Rattle.pcl_check.proofs.places.first_bad_end.Goals as goal
 use Rattle.pcl_check.proofs.places.first_bad_end.Goals.{else-place-row-via-then-place-row+else-old-place, else-place-row-via-else-place-row}
@@ -17,14 +17,7 @@ loop-place-preserved-then-numbers-place-gt0 c =
     let row = c.args.row.now in
     let place : ℕ = c.loop-place.place - 1 in
     let within : place ≤ length row = omega (arith, c.loop-place.auto.place, c.requires.size) in
-    let same : AreSameFrom old row place =
-    elim c.else-place-row.branch [
-      | else-place-row-via-then-place-row+else-old-place w ↦
-          same_before (c.loop-place.invariant.same (omega (arith, w.if-place-row.true))) c.loop-place-test.true
-          w.if-old-place.false
-      | else-place-row-via-else-place-row w ↦
-          let last : place ≡ length row = omega (arith, w.if-place-row.false, within) in rw last (same_past old row)
-    ] in
+    let same : AreSameFrom old row place = grind (arith, c.else-place-row.branch, c.loop-place.invariant.same) in
     record {
       found = found_bad (IsGoodEnd old row c.args.numbers.now) within
           (λ good. absurd (omega (arith, good (ends_by old row place c.requires.same same.same), c.if-numbers-place-gt0.true)));
@@ -33,21 +26,13 @@ loop-place-preserved-then-numbers-place-gt0 c =
 
 pub loop-place-preserved : goal.loop-place-preserved
 loop-place-preserved c =
-    let old = c.args.old.now in
     let row = c.args.row.now in
     let place : ℕ = c.loop-place.place - 1 in
     let within : place ≤ length row = omega (arith, c.loop-place.auto.place, c.requires.size) in
     let after : c.loop-place.place ≡ place + 1 = omega (arith, c.loop-place-test.true) in
-    let same : AreSameFrom old row place =
-    elim c.else-place-row.branch [
-      | else-place-row-via-then-place-row+else-old-place w ↦
-          same_before (c.loop-place.invariant.same (omega (arith, w.if-place-row.true))) c.loop-place-test.true
-          w.if-old-place.false
-      | else-place-row-via-else-place-row w ↦
-          let last : place ≡ length row = omega (arith, w.if-place-row.false, within) in rw last (same_past old row)
-    ] in
+    let same : AreSameFrom c.args.old.now row place = grind (arith, c.else-place-row.branch, c.loop-place.invariant.same) in
     record {
-      found = found_good (IsGoodEnd old row c.args.numbers.now) (length row) c.loop-place.found
+      found = found_good (IsGoodEnd c.args.old.now row c.args.numbers.now) (length row) c.loop-place.found
           (λ end. omega (arith, c.if-numbers-place-gt0.false)) (rw after at c.loop-place.invariant.found);
       same = λ _. same;
     }

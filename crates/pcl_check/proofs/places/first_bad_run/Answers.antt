@@ -8,8 +8,7 @@ pub returns : goal.returns
 returns c =
     let row = c.args.row.now in
     let numbers = c.args.numbers.now in
-    let stops = c.fill_run_stops.ensures in
     let last : length numbers - 1 ≡ length row = omega (arith, c.requires.size) in
     finds_place_too (IsNotUndercut numbers numbers c.fill_run_stops.new.ends 2 c.args.most) (AreGoodRuns row numbers c.args.most)
-    c.first_undercut.result (λ place le. runs_by_window numbers stops)
-    (λ place le. window_by_runs numbers stops le) (rw (c.widen.ensures, last) at c.first_undercut.ensures)
+    c.first_undercut.result (λ place le. runs_by_window numbers c.fill_run_stops.ensures)
+    (λ place le. window_by_runs numbers c.fill_run_stops.ensures le) (rw (c.widen.ensures, last) at c.first_undercut.ensures)

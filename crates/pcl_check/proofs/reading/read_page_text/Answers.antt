@@ -1,7 +1,7 @@
 use Rattle.std.proofs.Common.{◌≡◌, ℕ, ◌<◌, Bool, true, false, IsTrue, List, ◌++◌, length, take, Some, refl, sym, ap, ◌∙◌, append_assoc, arith, ◌==◌}
 use Rattle.std.specs.Prelude.{◌↔◌}
-use Rattle.pcl_check.proofs.Names.{flat_map, take_all, append_cancel_left, append_assoc, Dpi, Size, page_height, page_row_bytes, code_of, Picture, token_bytes, start_bytes, end_bytes, IsPageText, bitmap_rows, length_rows, Start, IsStart, RestPrints, body_of, IsBodyVerdict, raster_start, Page, Decides-eqb, the_type}
-use Rattle.pcl_check.proofs.Beginnings.{start_is, code_few, size_coded, size_read, same_size, IsSize, BeginsAs}
+use Rattle.pcl_check.proofs.Names.{flat_map, take_all, append_cancel_left, append_assoc, Dpi, Size, page_height, page_row_bytes, Picture, token_bytes, start_bytes, end_bytes, IsPageText, bitmap_rows, length_rows, Start, IsStart, RestPrints, body_of, IsBodyVerdict, raster_start, Page, Decides-eqb, the_type}
+use Rattle.pcl_check.proofs.Beginnings.{BeginsAs, begins_size, size_coded, size_read, same_size}
 use denote.Enum.Bare.{sameb, same_true, true_same}
 use Rattle.pcl_check.proofs.reading.read_page_text.Goals as goal
 use Rattle.pcl_check.proofs.reading.read_page_text.Goals.{then-eq, else-eq}
@@ -34,14 +34,9 @@ body_at : {dpi : Dpi} {text rest : List ℕ} (start : Start) {size : Size} {copi
     → BeginsAs dpi text copies size rest → RestPrints size dpi (body_of size dpi rest) rows
     → (start.copies ≡ copies) × (start.size ≡ size) × RestPrints start.size dpi (body_of start.size dpi start.rest.now) rows
 body_at {dpi} {text} {rest} start begun begins printed =
-    let few = code_few start.size in
-    let read : IsSize text start.copies (code_of start.size) (raster_start start.size dpi ++ start.rest.now) =
-    record {
-      first = record { few = omega (arith, begun.1); text_is = begun.2 ∙ start_is dpi start.copies start.size start.rest.now };
-      small = omega arith;
-    } in
-    let found = size_read begins read in
-    let same = same_size begins read (size_coded start.size) in
+    let here : BeginsAs dpi text start.copies start.size start.rest.now = record { few = begun.1; text_is = begun.2 } in
+    let found = size_read begins (begins_size here) in
+    let same = same_size begins (begins_size here) (size_coded start.size) in
     let behind = append_cancel_left (raster_start start.size dpi) start.rest.now rest (rw same at found.2) in
     (found.0, sym same, rw (sym same, behind) printed)
 
@@ -80,20 +75,17 @@ other_page {picture} start begun may only is =
     let yes : false ≡ true = only.same.1 (may.1 (body.1, body.0), front) in cc
 
 -- the start is that of the page where size and copies are
-may_by_size : (page : Page) (start : Start) {test may_be : Bool} → test ≡ sameb the_type start.size page.size → test ≡ false → may_be ≡ test
-    → MayBe page.bitmap page.copies start may_be
-may_by_size page start e t m = (
-  λ yes. absurd cc,
-  λ h. absurd (let other = true_same the_type start.size page.size (h.0 ∙ page.size_is) in cc),
-)
-
-may_by_copies : (page : Page) (start : Start) {test may_be : Bool} → test ≡ sameb the_type start.size page.size → test ≡ true
-    → may_be ≡ (start.copies == page.copies) → MayBe page.bitmap page.copies start may_be
-may_by_copies page start e t m = (
+may_be_this : (page : Page) (start : Start) (test : Bool) {may_be : Bool} → test ≡ sameb the_type start.size page.size
+    → (test ≡ true → may_be ≡ (start.copies == page.copies)) → (test ≡ false → may_be ≡ test) → MayBe page.bitmap page.copies start may_be
+may_be_this page start true e m other = (
   λ yes.
-      let size = same_true the_type tt start.size page.size (sym e ∙ t) in
-      (size ∙ sym page.size_is, (Decides-eqb start.copies page.copies).0 (sym m ∙ yes)),
-  λ h. m ∙ (Decides-eqb start.copies page.copies).1 h.1,
+      let size = same_true the_type tt start.size page.size (sym e) in
+      (size ∙ sym page.size_is, (Decides-eqb start.copies page.copies).0 (sym (m refl) ∙ yes)),
+  λ h. m refl ∙ (Decides-eqb start.copies page.copies).1 h.1,
+)
+may_be_this page start false e m is = (
+  λ yes. absurd (let not_so = is refl in cc),
+  λ h. absurd (let other = true_same the_type start.size page.size (h.0 ∙ page.size_is) in cc),
 )
 
 pub returns-in_default : goal.returns-in_default
@@ -102,31 +94,23 @@ returns-in_default c = λ is.
 
 pub returns-in-None : goal.returns-in-None
 returns-in-None c =
-    let page = c.args.page.now in
-    let begun = rw (sym page.dpi_is) at c.in-Some.ensures in
-    rw (sym page.dpi_is) (λ is.
+    let begun = rw (sym c.args.page.now.dpi_is) at c.in-Some.ensures in
+    rw (sym c.args.page.now.dpi_is) (λ is.
     let body = text_body is.3 in
     c.in-None.ensures is.2 (body_at c.in-Some.start begun (record { few = is.3.few_copies; text_is = body.1 }) body.2).2)
 
 pub returns-in-Some-true : goal.returns-in-Some-true
 returns-in-Some-true c =
     let page = c.args.page.now in
-    let start = c.in-Some.start in
-    let may : MayBe page.bitmap page.copies start c.if-eq.is_same = elim c.if-eq.branch [
-      | then-eq w ↦ may_by_copies page start c.eq.ensures w.if-eq.true (w.is_same-is ∙ ap (λ (n : ℕ). start.copies == n) w.from.ensures)
-      | else-eq w ↦ may_by_size page start c.eq.ensures w.if-eq.false w.is_same-is
-    ] in
+    let may = may_be_this page c.in-Some.start c.eq.result c.eq.ensures (grind (arith, c.if-eq.branch)) (grind (arith, c.if-eq.branch)) in
     rw (sym page.size_is, sym page.dpi_is)
-    (same_page start (rw (sym page.dpi_is) at c.in-Some.ensures) may (rw c.in-Some-true.field-0-test at c.in-Some-true.ensures))
+    (same_page c.in-Some.start (rw (sym page.dpi_is) at c.in-Some.ensures) may (rw c.in-Some-true.field-0-test at c.in-Some-true.ensures))
 
 pub returns-in-Some-false : goal.returns-in-Some-false
 returns-in-Some-false c =
     let page = c.args.page.now in
     let start = c.in-Some.start in
-    let may : MayBe page.bitmap page.copies start c.if-eq.is_same = elim c.if-eq.branch [
-      | then-eq w ↦ may_by_copies page start c.eq.ensures w.if-eq.true (w.is_same-is ∙ ap (λ (n : ℕ). start.copies == n) w.from.ensures)
-      | else-eq w ↦ may_by_size page start c.eq.ensures w.if-eq.false w.is_same-is
-    ] in
+    let may = may_be_this page start c.eq.result c.eq.ensures (grind (arith, c.if-eq.branch)) (grind (arith, c.if-eq.branch)) in
     let only = rw c.in-Some-false.field-0-test at c.in-Some-false.ensures in
     let begun = rw (sym page.dpi_is) at c.in-Some.ensures in (
       rw (sym page.dpi_is) (start.size, start.copies, only.rows, printed_text begun.0 begun.1 begun.2 only.printed),

@@ -10,9 +10,6 @@ returns c few place =
     (c.fill_least_of_eight.ensures.size, c.fill_least_of_eight.ensures.sums) in
     let sums = sums_more numbers 64 (sums_more numbers 32 (sums_more numbers 16 (sums_more numbers 8 eight c.take_behind.ensures)
     c.take_behind-2.ensures) c.take_behind-3.ensures) c.take_behind-4.ensures in
-    λ count some short within. omega (
-      arith,
-      c.greatest_excess.ensures place (omega arith),
-      leb-true c.greatest_excess.result 1 few,
-      sums.1 (place + 1) (place + count) (omega arith) (omega arith) within,
-    )
+    let excess = c.greatest_excess.ensures place in
+    λ count some short within.
+    omega (arith, excess, leb-true c.greatest_excess.result 1 few, sums.1 (place + 1) (place + count) (omega arith) (omega arith) within)

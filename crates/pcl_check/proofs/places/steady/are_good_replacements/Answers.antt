@@ -16,17 +16,7 @@ loop-place-preserved c =
     let after : place + 1 ≡ c.loop-place.place = omega (arith, c.loop-place-test.true) in
     let inside : place < end = omega (arith, after, c.loop-place.auto.place) in
     let is : (place ≤ start) × (start < end) × (slice_index old start ≢ slice_index row start) =
-    elim c.if-old-place.branch [
-      | then-old-place w ↦
-          let same : start ≡ place = omega (arith, w.start-is) in rw same (omega arith, inside, w.if-old-place.true)
-      | else-old-place w ↦
-          let before : c.loop-place.place < end = grind (arith, inside, after, c.requires.end.needed, w.if-old-place.false) in
-          rw w.start-is (
-            omega (arith, after, c.loop-place.invariant.order before),
-            c.loop-place.invariant.before before,
-            c.loop-place.invariant.differs before,
-          )
-    ] in
+    grind (arith, c.if-old-place.branch, c.requires.end.needed, c.loop-place.invariant.order, c.loop-place.invariant.differs) in
     let front = sums_of_front c.requires.end c.requires.size c.fill_least_of_eight.ensures.sums in
     let here = replacements_by_start old row c.requires.steady front is.0 is.1 is.2
     (c.is_kept_before.ensures c.if-not-is_kept_before.false) in

@@ -13,13 +13,7 @@ loop-place-preserved c =
     let stop : ℕ = c.if-place-end.stop in
     let after : place + 1 ≡ c.loop-place.place = omega (arith, c.loop-place-test.true) in
     let is : (place < stop) × (stop ≤ c.args.end) × (stop < c.args.end → slice_index row (stop - 1) ≢ slice_index row stop) =
-    elim c.if-place-end.branch [
-      | then-place-end+then-row-place w ↦
-          let here : stop ≡ place + 1 = omega (arith, w.stop-is) in
-          (omega (arith, here), omega (arith, here, w.if-place-end.true), grind (arith, here, w.if-row-place.true))
-      | else-place-end w ↦
-          rw w.stop-is (omega (arith, c.loop-place.invariant.order), c.loop-place.invariant.within, c.loop-place.invariant.breaks)
-    ] in
+    grind (arith, c.if-place-end.branch, c.loop-place.invariant.breaks) in
     let kept : slice_index numbers place ≤ 2 + slice_index numbers (min stop (place + c.args.most)) =
     omega (arith, c.if-numbers-place.false, ap (slice_index numbers) c.min.ensures) in
     let here = runs_by_stop row stop c.requires.steady c.requires.end.1 is.0 is.1 is.2 kept in
@@ -32,13 +26,8 @@ loop-place-preserved c =
 
 pub returns : goal.returns
 returns c said =
-    let row = c.args.row.now in
-    let numbers = c.args.numbers.now in
     let from : ℕ = c.if-fall_by_runs.from in
-    let falls : (k : ℕ) → k < from → FallsByRun row numbers k =
-    elim c.if-fall_by_runs.branch [
-      | then-fall_by_runs w ↦ λ k lt. c.fall_by_runs.ensures w.if-fall_by_runs.true k (omega (arith, w.from-is, lt))
-      | else-fall_by_runs w ↦ λ k lt. absurd (omega (arith, w.from-is, lt))
-    ] in
-    down_to_first (AreGoodRuns row numbers c.args.most) from (λ k lt. runs_before c.requires.steady (falls k lt))
+    let falls : (k : ℕ) → k < from → FallsByRun c.args.row.now c.args.numbers.now k =
+    λ k lt. c.fall_by_runs.ensures (grind (arith, c.if-fall_by_runs.branch)) k (grind (arith, c.if-fall_by_runs.branch)) in
+    down_to_first (AreGoodRuns c.args.row.now c.args.numbers.now c.args.most) from (λ k lt. runs_before c.requires.steady (falls k lt))
     (λ k low. c.loop-place.invariant.good k (omega (arith, c.loop-place-test.false, low)))

@@ -6,9 +6,7 @@ use Rattle.pcl_check.proofs.reading.body.read_body.Goals as goal
 
 pub loop-place-init : goal.loop-place-init
 loop-place-init c =
-    let size = c.args.comparison.size in
-    let dpi = c.args.comparison.bitmap.now.dpi in
-    let small = row_small size dpi in
+    let small = row_small c.args.comparison.size c.args.comparison.bitmap.now.dpi in
     record {
       given = [];
       becomes = becomes_to refl (rw (sym c.row_bytes.ensures) (sym (take-replicate c.row_bytes.result 600 0

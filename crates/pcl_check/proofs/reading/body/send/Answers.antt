@@ -1,6 +1,5 @@
 use Rattle.std.proofs.Common.{◌∷◌, [], length, refl, sym, ap, ◌∙◌, arith}
 use Rattle.pcl_check.proofs.Names.{length-append, same_fronts}
-use Rattle.pcl_check.proofs.Comparing.{both, neither}
 use Rattle.pcl_check.proofs.Moves.{no_send, send_becomes}
 use Rattle.pcl_check.proofs.Steps.{told, shorter, becomes_to}
 use Rattle.pcl_check.proofs.reading.body.send.Goals as goal
@@ -43,10 +42,7 @@ returns c =
             (omega (arith, c.height.ensures, c.if-place-height.false)) row.0 row.1);
         row_is = refl;
         within = omega (arith, c.height.ensures, c.if-place-height.false);
-        same = elim c.if-place.branch [
-          | then-place w ↦ both w.has_row.ensures w.if-place.true w.result-is
-          | else-place w ↦ neither w.if-place.false w.result-is
-        ];
+        same = grind (arith, c.if-place.branch);
       },
       let size = length-append c.in_ok-bytes.bytes.now c.in_ok-bytes.rest.now in
           omega (arith, shorter c.args.place.text.now c.args.parameter is, ap length parts.2),

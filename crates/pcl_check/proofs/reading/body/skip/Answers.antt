@@ -1,6 +1,5 @@
 use Rattle.std.proofs.Common.{◌≡◌, ℕ, List, replicate, sym, arith}
 use Rattle.pcl_check.proofs.Names.{length-replicate, number_of, page_row_bytes, height_small}
-use Rattle.pcl_check.proofs.Comparing.{both, neither}
 use Rattle.pcl_check.proofs.Fronts.{white_rows, front_at, is_method, is_skip, is_send}
 use Rattle.pcl_check.proofs.Moves.{skip_becomes}
 use Rattle.pcl_check.proofs.Steps.{told, shorter, cased, becomes_to}
@@ -14,10 +13,7 @@ returns-then-count-eq0 c = λ rows printed.
     elim (front_at (told c.args.comparison.bitmap.now c.args.comparison.size c.args.above.now c.args.place _ c.requires.inside is)
     printed) [
       | is_method next last b m p ↦ grind (arith, signed.1)
-      | is_skip last others b some few r p ↦ elim c.then-count-eq0.branch [
-        | then-count-eq0-via-then-count-eq0 w ↦ omega (arith, is.number_is, some, w.if-count-eq0.true)
-        | then-count-eq0-via-else-count-eq0+then-count-height w ↦ omega (arith, is.number_is, few, w.height.ensures, w.if-count-height.true)
-      ]
+      | is_skip last others b some few r p ↦ grind (arith, is.number_is, c.then-count-eq0.branch)
       | is_send bytes more first others b m r some f row row_data p ↦ grind (arith, signed.1)
     ]
 
@@ -39,10 +35,7 @@ returns c =
         becomes = becomes_to (sym signed.2) (sym (c.fill.ensures.after (λ y e. e))) (omega arith) (rw number at moved);
         row_is = omega (arith, many);
         within = omega (arith, few, c.height.ensures);
-        same = rw many (elim c.if-place.branch [
-          | then-place w ↦ both w.has_white_rows.ensures w.if-place.true w.result-is
-          | else-place w ↦ neither w.if-place.false w.result-is
-        ]);
+        same = rw many (grind (arith, c.if-place.branch));
       },
       shorter c.args.place.text.now c.args.parameter is,
     )

@@ -8,9 +8,8 @@ use Rattle.pcl_check.proofs.reading.body.switch.Goals as goal
 pub returns-in_err-method : goal.returns-in_err-method
 returns-in_err-method c = λ picture size above within.
     let signed = cased c.requires.letter in
-    let read = told picture size above c.args.place _ c.requires.inside c.requires.parameter in
     rw c.from_residual.ensures
-    (λ rows printed. elim (front_at read printed) [
+    (λ rows printed. elim (front_at (told picture size above c.args.place _ c.requires.inside c.requires.parameter) printed) [
       | is_method next last b m p ↦
           let le = method_small next in
           let number : c.args.parameter.number ≡ method_code next = omega (arith, c.requires.parameter.number_is, m) in
@@ -22,10 +21,9 @@ returns-in_err-method c = λ picture size above within.
 pub returns : goal.returns
 returns c = λ picture size above within.
     let signed = cased c.requires.letter in
-    let number = of_code c.args.parameter.number (sym c.in_ok-method.ensures) in
     let le = method_small c.in_ok-method.method in
     let spelled : number_of c.args.parameter.digits.now ≡ method_code c.in_ok-method.method =
-    omega (arith, c.requires.parameter.number_is, number) in (
+    omega (arith, c.requires.parameter.number_is, of_code c.args.parameter.number (sym c.in_ok-method.ensures)) in (
       record {
         given = [];
         becomes = rw signed.2 (method_becomes (told picture size above c.args.place _ c.requires.inside c.requires.parameter)

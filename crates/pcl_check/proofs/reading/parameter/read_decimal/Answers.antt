@@ -1,4 +1,4 @@
-use Rattle.std.proofs.Common.{◌≡◌, ◌∙◌, true, false}
+use Rattle.std.proofs.Common.{◌≡◌, ◌∙◌, true, arith}
 use Rattle.pcl_check.proofs.Names.{slice_eq-Decides, Decides-eqb, decimal, is_digit}
 use Rattle.pcl_check.proofs.Decimals.{decimal_found}
 use Rattle.pcl_check.proofs.Splits.{no_split}
@@ -12,11 +12,7 @@ returns-in_err-parameter c =
 pub returns-else-is_shortest : goal.returns-else-is_shortest
 returns-else-is_shortest c = λ n rest le e.
     let found = decimal_found rest c.in_ok-parameter.ensures c.requires le e in
-    let digits = c.as_bytes.ensures.value ∙ c.format.ensures.text ∙ found.digits in
     let equal : c.eq-is_shortest.result ≡ true =
     (slice_eq-Decides Decides-eqb c.as_bytes.result.now c.in_ok-parameter.parameter.digits.now c.eq-is_shortest.result
-    c.eq-is_shortest.ensures).1 digits in
-    elim c.else-is_shortest.branch [
-      | else-is_shortest-via-then-is_shortest+else-parameter-letter w ↦ w.if-parameter-letter.false found.letter
-      | else-is_shortest-via-else-is_shortest w ↦ let no : c.eq-is_shortest.result ≡ false = w.if-is_shortest.false in absurd cc
-    ]
+    c.eq-is_shortest.ensures).1 (c.as_bytes.ensures.value ∙ c.format.ensures.text ∙ found.digits) in
+    grind (arith, c.else-is_shortest.branch, found.letter)

@@ -15,10 +15,9 @@ returns c =
     let split = front_split is_digit text in
     let front = c.split_at.ensures.front ∙ ap (λ (n : ℕ). take n text) c.digit_count.ensures.count in
     let behind = c.split_at.ensures.back ∙ ap (λ (n : ℕ). drop n text) c.digit_count.ensures.count in
-    let cut = c.in_ok-letter.ensures.cases.0 in
     record {
       are_digits = rw front split.pass;
-      no_digit = rw (sym behind ∙ cut) at split.stops;
-      spelled = rw (front, sym cut, behind) split.joined;
+      no_digit = rw (sym behind ∙ c.in_ok-letter.ensures.cases.0) at split.stops;
+      spelled = rw (front, sym c.in_ok-letter.ensures.cases.0, behind) split.joined;
       number_is = c.number.ensures;
     }

@@ -5,31 +5,27 @@ use Rattle.pcl_check.proofs.reading.start.read_start.Goals.{then-copies-eq0-via-
 
 pub returns-in_err-copies : goal.returns-in_err-copies
 returns-in_err-copies c =
-    let front = strip_prefix_is Decides-eqb c.args.text.now first_bytes (Some c.in_ok-strip_prefix.field-0)
-    c.in_ok-strip_prefix.ensures.cases in
+    let front = strip_prefix_is Decides-eqb _ first_bytes (Some c.in_ok-strip_prefix.field-0) c.in_ok-strip_prefix.ensures.cases in
     rw c.from_residual-in_err-copies.ensures
     (λ copies size rest some few e. no_copies (record { few = few; text_is = e }) front c.in_err-copies.ensures)
 
 pub returns-in_err-code : goal.returns-in_err-code
 returns-in_err-code c =
-    let front = strip_prefix_is Decides-eqb c.args.text.now first_bytes (Some c.in_ok-strip_prefix.field-0)
-    c.in_ok-strip_prefix.ensures.cases in
+    let front = strip_prefix_is Decides-eqb _ first_bytes (Some c.in_ok-strip_prefix.field-0) c.in_ok-strip_prefix.ensures.cases in
     let read = copies_of front c.in_ok-copies.ensures in
     rw c.from_residual-in_err-code.ensures
     (λ copies size rest some few e. no_code (record { few = few; text_is = e }) read c.in_err-code.ensures)
 
 pub returns-in_err-size : goal.returns-in_err-size
 returns-in_err-size c =
-    let front = strip_prefix_is Decides-eqb c.args.text.now first_bytes (Some c.in_ok-strip_prefix.field-0)
-    c.in_ok-strip_prefix.ensures.cases in
+    let front = strip_prefix_is Decides-eqb _ first_bytes (Some c.in_ok-strip_prefix.field-0) c.in_ok-strip_prefix.ensures.cases in
     let read = size_of front c.in_ok-copies.ensures c.in_ok-code.ensures in
     rw c.from_residual-in_err-size.ensures
     (λ copies size rest some few e. no_size (record { few = few; text_is = e }) read (sym c.in_err-size.ensures))
 
 pub returns-in_err-rest : goal.returns-in_err-rest
 returns-in_err-rest c =
-    let front = strip_prefix_is Decides-eqb c.args.text.now first_bytes (Some c.in_ok-strip_prefix.field-0)
-    c.in_ok-strip_prefix.ensures.cases in
+    let front = strip_prefix_is Decides-eqb _ first_bytes (Some c.in_ok-strip_prefix.field-0) c.in_ok-strip_prefix.ensures.cases in
     let read = size_of front c.in_ok-copies.ensures c.in_ok-code.ensures in
     let none = strip_prefix_is Decides-eqb c.in_ok-code.rest.now c.raster_start.result.now None c.in_err-rest.ensures.cases in
     rw c.from_residual-in_err-rest.ensures
@@ -38,20 +34,14 @@ returns-in_err-rest c =
 
 pub returns-then-copies-eq0 : goal.returns-then-copies-eq0
 returns-then-copies-eq0 c = λ copies size rest some few e.
-    let front = strip_prefix_is Decides-eqb c.args.text.now first_bytes (Some c.in_ok-strip_prefix.field-0)
-    c.in_ok-strip_prefix.ensures.cases in
+    let front = strip_prefix_is Decides-eqb _ first_bytes (Some c.in_ok-strip_prefix.field-0) c.in_ok-strip_prefix.ensures.cases in
     let found = size_read (record { few = few; text_is = e }) (size_of front c.in_ok-copies.ensures c.in_ok-code.ensures) in
-    elim c.then-copies-eq0.branch [
-      | then-copies-eq0-via-then-copies-eq0 w ↦ omega (arith, found.0, w.if-copies-eq0.true)
-      | then-copies-eq0-via-else-copies-eq0+then-copies-from w ↦ omega (arith, found.0, w.from.ensures, w.if-copies-from.true)
-    ]
+    grind (arith, found.0, c.then-copies-eq0.branch)
 
 pub returns : goal.returns
 returns c =
-    let front = strip_prefix_is Decides-eqb c.args.text.now first_bytes (Some c.in_ok-strip_prefix.field-0)
-    c.in_ok-strip_prefix.ensures.cases in
-    let raster = strip_prefix_is Decides-eqb c.in_ok-code.rest.now c.raster_start.result.now (Some c.in_ok-rest.rest)
-    c.in_ok-rest.ensures.cases in (
+    let front = strip_prefix_is Decides-eqb _ first_bytes (Some c.in_ok-strip_prefix.field-0) c.in_ok-strip_prefix.ensures.cases in
+    let raster = strip_prefix_is Decides-eqb _ c.raster_start.result.now (Some c.in_ok-rest.rest) c.in_ok-rest.ensures.cases in (
       omega arith,
       omega arith,
       begun c.args.dpi c.args.text.now c.in_ok-copies.copies c.in_ok-code.code c.in_ok-code.rest.now c.in_ok-size.size c.in_ok-rest.rest.now

@@ -14,8 +14,7 @@ returns-then-y-page_height c =
 
 pub returns-else-y-page_height : goal.returns-else-y-page_height
 returns-else-y-page_height c =
-    let picture = c.args.self.now.bitmap.now in
-    let past = past_rows picture (omega (arith, c.page_height.ensures)) in (
+    let past = past_rows c.args.self.now.bitmap.now (omega (arith, c.page_height.ensures)) in (
       λ yes. absurd (grind (arith, nat_tests)),
       λ e. let both = e ∙ past in absurd cc,
     )

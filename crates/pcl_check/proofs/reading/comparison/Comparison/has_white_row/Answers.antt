@@ -1,12 +1,11 @@
-use Rattle.std.proofs.Common.{◌≡◌, ◌∷◌, [], ℕ, List, length, replicate, sym, ap, subst, ◌∙◌, arith}
+use Rattle.std.proofs.Common.{◌≡◌, ℕ, List, length, replicate, sym, ap, subst, ◌∙◌, arith}
 use Rattle.pcl_check.proofs.Names.{All, length-replicate, nat_tests, all_zeros, page_row_bytes, row_of}
 use Rattle.pcl_check.proofs.ComparedRows.{first_row, past_rows, zeros_all}
 use Rattle.pcl_check.proofs.reading.comparison.Comparison.has_white_row.Goals as goal
 
 pub returns-then-y-page_height : goal.returns-then-y-page_height
 returns-then-y-page_height c =
-    let past = past_rows c.args.self.now.bitmap.now (omega (arith, c.page_height.ensures)) in
-    (λ yes. absurd cc, λ e. let both = e ∙ past in absurd cc)
+    (λ yes. absurd cc, λ e. let both = e ∙ (past_rows c.args.self.now.bitmap.now (omega (arith, c.page_height.ensures))) in absurd cc)
 
 pub returns-then-row-row_bytes : goal.returns-then-row-row_bytes
 returns-then-row-row_bytes c =
@@ -15,9 +14,7 @@ returns-then-row-row_bytes c =
     let first = first_row picture (omega (arith, c.page_height.ensures)) in
     let wide : length (row_of picture c.args.y) ≡ width =
     ap length (sym c.row.ensures.bytes) ∙ c.if-row-row_bytes.true ∙ c.row_bytes.ensures in (
-      λ yes.
-          let zeros = all_zeros (row_of picture c.args.y) (c.is_blank.ensures.bytes.0 yes) in
-          ap (λ (z : List ℕ). z ∷ []) (sym (zeros ∙ ap (λ (n : ℕ). replicate n 0) wide)) ∙ sym first,
+      λ yes. let zeros = all_zeros (row_of picture c.args.y) (c.is_blank.ensures.bytes.0 yes) in cc,
       λ e.
           let same : replicate width 0 ≡ row_of picture c.args.y = (let both = e ∙ first in cc) in
           c.is_blank.ensures.bytes.1 (subst (λ (z : List ℕ). All {X = ℕ} (λ byte. byte ≡ 0) z) same (zeros_all width)),
