@@ -1,5 +1,5 @@
 -- A table that is filled from the row's end, and data along it.
-use Rattle.std.proofs.Common.{◌≡◌, ◌≢◌, ℕ, zero, suc, ◌+◌, ◌-◌, ◌*◌, ◌<◌, ◌≤◌, List, [], ◌∷◌, ◌++◌, length, get_or, set, drop, refl, sym, ap, ◌∙◌, subst, inl, inr, append_assoc, arith}
+use Rattle.std.proofs.Common.{◌≡◌, ◌≢◌, ℕ, zero, suc, ◌+◌, ◌-◌, ◌*◌, ◌<◌, ◌≤◌, List, [], ◌∷◌, ◌++◌, length, get_or, set, drop, refl, sym, ap, ◌∙◌, inl, inr, append_assoc, arith}
 use Rattle.pcl_coders.proofs.Names.{slice_index, flat_map, cases_lt, append-nil, drop-drop, drop_all, length-drop, get_or-drop, get_or-set_same, get_or-set_other, get_or_past, drop_more, flat_map-append, first_byte, Method, Plain, Runs, Packed, Delta, Element, element_bytes, stop, base, IsRowData, spelling_has_byte, Walk, total, IsAttained, Leads, Ends, cost, IsRowTable, IsLeastTable, IsCodable, IsLeastLength, AppendsLeast, IsPlaceNumber, AreRightFrom, AppendsWalk, Shape, SingleByte, Run, LiteralRun, Replace, element_of, shape_stop, IsShapeChoice, feasible_bounds}
 use Rattle.pcl_coders.proofs.RowWalks.{length-base, total_is, stop_within, walk_of_data, data_of_walk}
 use Rattle.pcl_coders.proofs.Choices.{HasShapeElement, byte_step, run_step, literal_step, replace_step}
@@ -33,8 +33,7 @@ pub choice_small : {method : Method} (old row table : List ℕ) {place : ℕ} {s
     → slice_index table (place + 1) ≤ 2 * (length row - (place + 1)) → sum ≤ 2 * (length row - place)
 choice_small {method} old row table {place} {sum} inside c small =
     let one = one_byte method (drop place old) (drop place row) (omega (arith, length-drop place row)) in
-    let e = one.2 in
-    grind (arith, c.choice.least (element_of one.0 (drop place row)) e.element e.agrees, one.3, get_or-drop place table)
+    grind (arith, c.choice.least (element_of one.0 (drop place row)) one.2.element one.2.agrees, one.3, get_or-drop place table)
 
 -- ---- places from which no more data is needed
 
@@ -131,8 +130,7 @@ pub first_is_least : (method : Method) (seed row table : List ℕ) → IsCodable
     → IsLeastLength method seed row (slice_index table 0)
 first_is_least method seed row table codable is =
     let w = is.attained 0 (omega arith) in
-    let l = least_along w.0 codable is.table_is w.1 w.2 in
-    subst (IsLeastLength method seed row) (sym (total_is w.0) ∙ w.2) l.1
+    rw (sym (total_is w.0) ∙ w.2) at (least_along w.0 codable is.table_is w.1 w.2).1
 
 -- ---- appending
 
@@ -171,8 +169,7 @@ appended_more {method} {old} {row} {table} {before} {place} {shape} {place'} siz
 pub appended_all : {method : Method} {old row table before now : List ℕ} {place : ℕ} → AreRightFrom method old row table 0
     → slice_index table place ≡ 0 → IsAppendedTo method old row table before now place → AppendsWalk method old row table before now
 appended_all {method} {old} {row} {before} {place} right none a =
-    let is = right place (omega arith) a.within in
-    let end : Ends old row place = elim is.attained [
+    let end : Ends old row place = elim (right place (omega arith) a.within).attained [
       | inl end ↦ end
       | inr next ↦ absurd (omega (arith, next.1.number_is, spelling_has_byte method next.0 next.1.element))
     ] in

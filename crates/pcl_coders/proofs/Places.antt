@@ -53,15 +53,14 @@ packed_shorten old wanted e size element agrees more =
     let g = agrees_gives old size element agrees in
     let s = packed_shape e.head e.bytes element.head_is.method_is element.head_is.in_range element.complete (omega arith) in
     let size' = length-drop 1 wanted in
-    let literal : stop e ≤ 129 → stop e ≤ cost e → HasShapeElement Packed (drop 1 old) (drop 1 wanted) (stop e - 1) (cost e) = λ few cheap.
-    let step = literal_step (drop 1 old) (drop 1 wanted) (stop e - 1) (omega arith) (omega arith) (omega (arith, g.0)) in
-    (LiteralRun (stop e - 1), 1 + (stop e - 1), step, refl, omega arith) in
+    let literal = λ (few : stop e ≤ 129).
+    literal_step (drop 1 old) (drop 1 wanted) (stop e - 1) (omega arith) (omega arith) (omega (arith, g.0)) in
     elim s.1 [
-      | inr l ↦ literal (omega (arith, s.0, l.below)) (omega (arith, s.0, l.bytes_are))
+      | inr l ↦ (LiteralRun (stop e - 1), 1 + (stop e - 1), literal (omega (arith, s.0, l.below)), refl, omega (arith, s.0, l.bytes_are))
       | inl r ↦
           let b = repeat_behind wanted e r s.0 g.2 more in
           elim (cases_lt 2 r.count) [
-            | inr short ↦ literal (omega (arith, b.0)) (omega (arith, b.0, r.bytes_are))
+            | inr short ↦ (LiteralRun (stop e - 1), 1 + (stop e - 1), literal (omega (arith, b.0)), refl, omega (arith, b.0, r.bytes_are))
             | inl long ↦
                 let step = repeat_step (drop 1 old) (omega arith) (omega (arith, r.below)) (omega (arith, g.0)) b.1 in
                 (RepeatRun (r.count - 1), 2, step, omega (arith, b.0), omega (arith, r.bytes_are))
@@ -157,9 +156,7 @@ pub run_next : {row first : List ℕ} {end place run_end now : ℕ} → IsBegun 
 run_next {row} {first} {end} {place} {run_end} begun inside next starts goes_on last =
     elim (cases_lt (place + 1) end) [
       | inr le ↦ let at : place + 1 ≡ end = omega arith in rw (last le, next.first at) (run_last begun at)
-      | inl more ↦
-          let is = next.run more in
-          grind (arith, is.same, starts, goes_on, begun.first_end.within)
+      | inl more ↦ let is = next.run more in grind (arith, is.same, starts, goes_on, begun.first_end.within)
     ]
 
 -- ---- method 3: between two bytes that differ only the command grows

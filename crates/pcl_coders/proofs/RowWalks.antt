@@ -51,10 +51,9 @@ walk_makes method old row [] place size w = (tt, omega arith, sym w)
 walk_makes method old row (e ∷ es) place size w =
     let within = stop_within method old row place e size w.1.element w.1.agrees in
     let rest = walk_makes method old row es w.0 size w.2 in
-    let next = w.1.next_is in
     let made : after_elements es kept (drop (stop e) (drop place old)) ≡ drop (stop e) (drop place row) =
     cc (drop-drop (stop e) place old, drop-drop (stop e) place row, rest.2) in
-    ((w.1.element, rest.0), omega (arith, rest.1, next), cc)
+    ((w.1.element, rest.0), omega (arith, rest.1, w.1.next_is), cc)
 
 -- after the elements a cut one with no bytes changes nothing
 after_elements_cut : (es : List Element) (h : Head) {none : List ℕ} (old : List ℕ) → none ≡ []

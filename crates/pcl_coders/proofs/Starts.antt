@@ -36,10 +36,9 @@ pub record IsDeltaStep (old row : List ℕ) (place start next : ℕ) (e : Elemen
 pub delta_step : {old row : List ℕ} {place start next : ℕ} {e : Element} → length old ≡ length row → IsLatestStart old row place start
     → Leads Delta old row place e next → IsDeltaStep old row place start next e
 delta_step {old} {row} {place} {e} size is l =
-    let s = delta_shape e.head l.element.head_is.method_is l.element.head_is.in_range l.element.complete in
     let g = agrees_gives (drop place old) (omega (arith, length-drop place row, length-drop place old)) l.element l.agrees in
     let early = (same_to_start size is).longest (offset_of e.head) (omega (arith, g.0)) g.1 in
-    grind (arith, s, length-drop place row)
+    grind (arith, delta_shape e.head l.element.head_is.method_is l.element.head_is.in_range l.element.complete, length-drop place row)
 
 pub latest_is_as_good : (old row : List ℕ) (steps : List Element) (place start : ℕ) → length old ≡ length row
     → IsLatestStart old row place start → Walk (Leads Delta old row) (Ends old row) place steps

@@ -15,14 +15,13 @@ placed : (c : goal.After-row_known-in-loop-place-1)
     × (replacement_bytes (c.if-old-place.start - (c.loop-place.place - 1)) + c.if-old-place.best
     ≤ 2 * (length c.args.row.now - (c.loop-place.place - 1)))
 placed c =
-    let old = c.args.old.now in
     let row = c.args.row.now in
     let out = c.loop-place.out in
     let place : ℕ = c.loop-place.place - 1 in
     let after : c.loop-place.place ≡ place + 1 = omega arith in
     let inside : place < c.args.end = omega (arith, c.loop-place.auto.place) in
     let size : length out ≡ length row + 1 = c.loop-place.auto.out ∙ c.requires.size in
-    let next : IsNextStart old row out (place + 1) place c.if-old-place.start c.if-old-place.best =
+    let next : IsNextStart c.args.old.now row out (place + 1) place c.if-old-place.start c.if-old-place.best =
     elim c.if-old-place.branch [
       | then-old-place w ↦
           let e = rw (take_rest out place) at w.least_behind-best.ensures in
@@ -33,7 +32,7 @@ placed c =
           rw (w.start-is, w.best-is)
           (next_start_stays (rw after at (c.loop-place.invariant.next (omega (arith, more)))) w.if-old-place.false)
     ] in
-    let behind = subst (AreRightFrom Delta old row out) after c.loop-place.invariant.right in
+    let behind = subst (AreRightFrom Delta c.args.old.now row out) after c.loop-place.invariant.right in
     let done = place_done c.requires size inside behind (delta_place c.requires size inside next).1 in
     (next, done.0, done.1)
 

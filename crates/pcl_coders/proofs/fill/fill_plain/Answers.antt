@@ -10,13 +10,11 @@ loop-place-init c = begun_right c.requires
 pub loop-place-preserved : goal.loop-place-preserved
 loop-place-preserved c =
     let row = c.args.row.now in
-    let old = white_like row in
     let out = c.loop-place.out in
     let place : ℕ = c.loop-place.place - 1 in
     let next : c.loop-place.place ≡ place + 1 = omega arith in
     let inside : place < c.args.end = omega (arith, c.loop-place.auto.place) in
     let size : length out ≡ length row + 1 = c.loop-place.auto.out ∙ c.requires.size in
-    let behind = subst (AreRightFrom Plain old row out) next c.loop-place.invariant in
     let at : slice_index out (place + 1) + 1 ≡ 1 + slice_index (drop place out) 1 = omega (arith, get_or-drop place out 1 0) in
     let choice = plain_choice (omega (arith, c.requires.first_end.within, length-drop place row)) in
-    rw at (place_done c.requires size inside behind choice).0
+    rw at (place_done c.requires size inside (subst (AreRightFrom Plain (white_like row) row out) next c.loop-place.invariant) choice).0

@@ -10,14 +10,12 @@ loop-place-init c = record { right = begun_right c.requires; run = record { firs
 pub loop-place-preserved : goal.loop-place-preserved
 loop-place-preserved c =
     let row = c.args.row.now in
-    let old = white_like row in
     let end = c.args.end in
-    let out = c.loop-place.out in
     let place : ℕ = c.loop-place.place - 1 in
     let next : c.loop-place.place ≡ place + 1 = omega arith in
     let inside : place < end = omega (arith, c.loop-place.auto.place) in
-    let size : length out ≡ length row + 1 = c.loop-place.auto.out ∙ c.requires.size in
-    let behind = subst (AreRightFrom Runs old row out) next c.loop-place.invariant.right in
+    let size : length c.loop-place.out ≡ length row + 1 = c.loop-place.auto.out ∙ c.requires.size in
+    let behind = subst (AreRightFrom Runs (white_like row) row c.loop-place.out) next c.loop-place.invariant.right in
     let from = subst (λ (p : ℕ). IsRunFrom row end p c.loop-place.run_end) next c.loop-place.invariant.run in
     let run : IsRunEnd row place c.if-place-end.run_end = run_next c.requires inside from (grind (arith, c.if-place-end.branch))
     (grind (arith, c.if-place-end.branch)) (grind (arith, c.if-place-end.branch)) in

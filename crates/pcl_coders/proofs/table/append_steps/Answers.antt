@@ -7,8 +7,7 @@ use Rattle.pcl_coders.proofs.table.append_steps.Goals as goal
 pub returns-in_err-append-clause-err : goal.returns-in_err-append-clause-err
 returns-in_err-append-clause-err c =
     let a = c.loop-place.invariant in
-    let front = front_stays c.append.new.out.items (flat_map element_bytes a.done) a.joined c.in_err-append.ensures.err in
-    search (rules, front)
+    search (rules, front_stays c.append.new.out.items (flat_map element_bytes a.done) a.joined c.in_err-append.ensures.err)
 
 pub along-choice-requires-clause-right : goal.along-choice-requires-clause-right
 along-choice-requires-clause-right c = simp take_rest (right_from_drop c.loop-place.invariant.within c.requires.right)
@@ -20,6 +19,5 @@ loop-place-preserved c =
 
 pub returns-clause-ok : goal.returns-clause-ok
 returns-clause-ok c =
-    let place = c.loop-place.place in
-    let none : slice_index c.args.numbers.now place ≡ 0 = omega arith in
+    let none : slice_index c.args.numbers.now c.loop-place.place ≡ 0 = omega arith in
     appended_all c.requires.right none c.loop-place.invariant

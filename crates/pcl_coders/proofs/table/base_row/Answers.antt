@@ -4,6 +4,5 @@ use Rattle.pcl_coders.proofs.table.base_row.Goals as goal
 
 pub returns-in-Plain : goal.returns-in-Plain
 returns-in-Plain c =
-    let seed = c.args.seed.now in
-    let cut = ap (take (length seed)) c.requires.zeros ∙ take-replicate (length seed) 600 0 c.requires.small in
+    let cut = ap (take (length c.args.seed.now)) c.requires.zeros ∙ take-replicate (length c.args.seed.now) 600 0 c.requires.small in
     elim c.in-Plain.is [ inl plain ↦ rw plain cut | inr other ↦ elim other [ inl runs ↦ rw runs cut | inr packed ↦ rw packed cut ] ]

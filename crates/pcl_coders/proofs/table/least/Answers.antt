@@ -6,5 +6,4 @@ returns-then-end-eq0 c = none_least c.requires c.needed_len-end.ensures c.if-end
 
 pub returns-in-Plain : goal.returns-in-Plain
 returns-in-Plain c =
-    let plain = c.in-Plain.is in
-    rw plain (plain_least c.requires (rw plain at c.needed_len-end.ensures))
+    rw c.in-Plain.is (plain_least c.requires (rw c.in-Plain.is at c.needed_len-end.ensures))

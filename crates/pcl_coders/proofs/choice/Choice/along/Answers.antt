@@ -1,4 +1,4 @@
-use Rattle.std.proofs.Common.{◌≡◌, ◌+◌, ◌≤◌, ℕ, min, length, subst, arith}
+use Rattle.std.proofs.Common.{◌≡◌, ◌+◌, ◌≤◌, ℕ, min, subst, arith}
 use Rattle.pcl_coders.proofs.Names.{nat_tests, slice_index, IsLiteralLen, NoLiteral, Packed}
 use Rattle.pcl_coders.proofs.Choices.{plain_choice}
 use Rattle.pcl_coders.proofs.Along.{along_run, along_start, along_replacement, along_literal, along_repeat, no_literal_repeat}
@@ -16,8 +16,7 @@ pub literal_len-requires-clause-least : goal.literal_len-requires-clause-least
 literal_len-requires-clause-least c k some within =
     let right = rw c.in-Packed.is at c.requires.right in
     let at : 0 + k ≡ k = omega arith in
-    let fits : k ≤ min (length c.args.wanted.now) 128 = omega (arith, c.min.ensures) in
-    rw at at (literal_bounds 0 k (right 0 (omega arith) (omega arith)) some (omega arith) (omega arith))
+    rw at at (literal_bounds 0 k (right 0 (omega arith) (omega arith)) some (omega (arith, c.min.ensures)) (omega (arith, c.min.ensures)))
 
 pub returns-then-not-is_repeat : goal.returns-then-not-is_repeat
 returns-then-not-is_repeat c =

@@ -5,7 +5,6 @@ use Rattle.pcl_coders.proofs.window.Window.least.Goals as goal
 pub returns : goal.returns
 returns c =
     let a = c.self.inside in
-    let q = c.self.invariant in
     let some : a.taken < a.put =
-    omega (arith, rw (← c.self.view_is) at c.requires, length-in_window a.numbers.now a.taken a.put q.put_within) in
-    rw (← c.self.view_is) (queue_least q some).1
+    omega (arith, rw (← c.self.view_is) at c.requires, length-in_window a.numbers.now a.taken a.put c.self.invariant.put_within) in
+    rw (← c.self.view_is) (queue_least c.self.invariant some).1

@@ -1,4 +1,4 @@
-use Rattle.std.proofs.Common.{◌<◌, drop, take, sym, ap, ◌∙◌, arith}
+use Rattle.std.proofs.Common.{◌<◌, drop, sym, ap, ◌∙◌, arith}
 use Rattle.pcl_coders.proofs.Names.{drop-drop, Numbers}
 use Rattle.pcl_coders.proofs.Queues.{length-in_window, queue_take}
 use Rattle.pcl_coders.proofs.window.Window.take.Goals as goal
@@ -7,12 +7,10 @@ use Rattle.pcl_coders.proofs.window.Window.take.Goals.{then-self, else-self}
 pub invariant_of-self : goal.invariant_of-self
 invariant_of-self c =
     let a = c.self.inside in
-    let q = c.self.invariant in
     let some : a.taken < a.put =
-    omega (arith, rw (← c.self.view_is) at c.requires, length-in_window a.numbers.now a.taken a.put q.put_within) in
-    queue_take q some (grind (arith, c.if-self.branch)) (grind (arith, c.if-self.branch))
+    omega (arith, rw (← c.self.view_is) at c.requires, length-in_window a.numbers.now a.taken a.put c.self.invariant.put_within) in
+    queue_take c.self.invariant some (grind (arith, c.if-self.branch)) (grind (arith, c.if-self.branch))
 
 pub returns-clause-numbers : goal.returns-clause-numbers
 returns-clause-numbers c =
-    let a = c.self.inside in
-    sym (drop-drop 1 a.taken (take a.put a.numbers.now)) ∙ ap (λ (v : Numbers). drop 1 v.numbers) c.self.view_is
+    sym (drop-drop 1 c.self.inside.taken _) ∙ ap (λ (v : Numbers). drop 1 v.numbers) c.self.view_is
