@@ -57,16 +57,7 @@ shifted_bits row p q j s k few byte at_j before none small =
     let first : k < s → s + (7 - k) - 8 ≡ 7 - (8 + k - s) = λ h. omega arith in
     let here = dot_at row {x = 8 * j + k - s} j {m = k - s} in
     let left = dot_at row {x = 8 * j + k - s} (j - 1) {m = 8 + k - s} in
-    rw (bit_of_byte-low ((p * 256 + q) / 2 ^ s) small, moved) (grind (
-      arith,
-      nat_tests,
-      second,
-      first,
-      bit_at_cat_low p 8 q bit,
-      bit_at_cat_high p 8 q bit byte,
-      here,
-      left,
-      before,
-      none,
-      bit_of_byte-zero (8 + k - s),
-    ))
+    let low = bit_at_cat_low p 8 q bit in
+    let high = bit_at_cat_high p 8 q bit byte in
+    let zero = bit_of_byte-zero (8 + k - s) in
+    rw (bit_of_byte-low ((p * 256 + q) / 2 ^ s) small, moved) (grind (arith, nat_tests, second, first, low, high, here, left, zero))

@@ -12,9 +12,9 @@ pub record AreInked (r : ℕ) (old new : List ℕ) (x y w h row : ℕ) (ink : �
   pub room : row < y + h → row * r + r ≤ length new
 
 -- no row yet
-pub none_inked : (r : ℕ) (page : List ℕ) (x y w h : ℕ) (ink : ℕ → ℕ → Bool → Bool)
+pub none_inked : {r : ℕ} {page : List ℕ} {x y w h : ℕ} {ink : ℕ → ℕ → Bool → Bool}
     → (y + h) * r ≤ length page → ((i : ℕ) → get_or page i 0 < 256) → AreInked r page page x y w h y ink
-none_inked r page x y w h ink high bytes = record {
+none_inked {r} {page} {y = y} {h = h} high bytes = record {
   dots = λ px py within. grind (arith, nat_tests);
   in_bytes = All-from_get_or (λ byte. byte < 256) page 0 (λ i _. bytes i);
   room = λ some. omega (arith, rows_apart y (y + h) r some);
@@ -28,9 +28,7 @@ pub row_inked : {r x y w h row : ℕ} {old now : List ℕ} (new : List ℕ) {ink
     → AreInked r old new x y w h (row + 1) ink
 row_inked {r} {x} {y} {w} {h} {row} {old} {now} new {ink} above since wide high bytes painted = record {
   dots = λ px py within.
-      let before = above.dots px py within in
-      let here = painted px py within in
-      grind (arith, nat_tests, rows_apart py row r, rows_apart row py r, before, here);
+      grind (arith, nat_tests, rows_apart py row r, rows_apart row py r, above.dots px py within, painted px py within);
   in_bytes = bytes;
   room = λ some. omega (arith, rows_apart (row + 1) (y + h) r some);
 }
@@ -70,15 +68,10 @@ drawn {size} {dpi} {old} {new} {lent} {page} x y w h r ink after is_picture e_ol
       picture = record {
         whole = rw (len, e_old) is_picture.whole;
         in_bytes = bytes;
-        clear_pads = λ px py off. grind (
-          arith,
-          nat_tests,
-          is_picture.clear_pads px py off,
-          bits px py,
-          dot_in_page page n {x = px} py,
-          dot_in_page old n {x = px} py,
-          dot_past_row (drop (py * n) page) n {x = px},
-        );
+        clear_pads = λ px py off.
+            let pads = is_picture.clear_pads px py off in
+            let past = dot_past_row (drop (py * n) page) n {x = px} in
+            grind (arith, nat_tests, pads, past, bits px py, dot_in_page page n {x = px} py, dot_in_page old n {x = px} py);
       };
       dots = λ px py in_row on_page.
           let room : px < 8 * page_row_bytes size dpi = omega (arith, wide_rows size dpi) in

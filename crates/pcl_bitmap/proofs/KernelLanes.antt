@@ -1,6 +1,6 @@
 -- Lanes of bytes, and places where rows change.
-use Rattle.std.proofs.Common.{◌↔◌, All, ◌≡◌, ◌≢◌, ℕ, ◌+◌, ◌-◌, ◌<◌, ◌≤◌, ◌^◌, ◌%◌, min, Bool, false, not, cond, eqb, map, List, length, get_or, sym, ap, ◌∙◌, inl, inr, arith, w8, w64}
-use Rattle.pcl_bitmap.proofs.Names.{bit_at, trailing_zeros, zip2, mask_l, top, length-zip2, get_or-zip2, bit_mask_l, tops_compared, mask_l-mod, cases_lt, nat_tests, All-get_or, All-from_get_or, IsTrimmedLen, bit_at-zero, bit_at-trailing_zeros}
+use Rattle.std.proofs.Common.{◌≡◌, ◌≢◌, ℕ, ◌+◌, ◌-◌, ◌<◌, ◌≤◌, ◌^◌, ◌%◌, min, Bool, false, not, cond, eqb, map, List, length, get_or, sym, ap, ◌∙◌, inl, inr, arith, w8, w64}
+use Rattle.pcl_bitmap.proofs.Names.{bit_at, trailing_zeros, zip2, mask_l, top, length-zip2, get_or-zip2, bit_mask_l, tops_compared, mask_l-mod, cases_lt, nat_tests, bit_at-zero, bit_at-trailing_zeros}
 
 -- the place of the lowest bit that is set, or 32
 pub record IsFirstSet (mask count : ℕ) : Type 0 where
@@ -80,10 +80,3 @@ pub zeros_more : {row : List ℕ} {len count : ℕ} → AreZerosFrom row len →
     → ((k : ℕ) → k < count → get_or row (len - count + k) 0 ≡ 0) → AreZerosFrom row (len - count)
 zeros_more {row} {len} {count} from fits more =
     record { within = omega (arith, from.within); zeros = λ k low. grind (arith, from.zeros k, more (k - (len - count))) }
-
--- a row is all zeros where nothing is left of it without the zeros at its end
-pub zeros_by_len : (row : List ℕ) (len : ℕ) → IsTrimmedLen row len → (len ≡ 0) ↔ All (λ byte. byte ≡ 0) row
-zeros_by_len row len trimmed = (
-  λ none. All-from_get_or (λ n. n ≡ 0) row 0 (λ i _. trimmed.zeros i (omega arith)),
-  λ zeros. grind (arith, trimmed.last, trimmed.within, All-get_or (λ n. n ≡ 0) row (len - 1) 0),
-)

@@ -17,8 +17,7 @@ black_stays {size} {dpi} {old} {new} {before} {after} mark inked kept drawn =
     elim kept [
       | inl none ↦ nothing_inked (picture_of size dpi new) after none
       | inr same ↦ rw same.1 (λ px py in_row on_page inside.
-          let black = ap is_black_ink same.0 in
-          grind (arith, nat_tests, black, drawn.dots px py in_row on_page, inked px py in_row on_page inside))
+          grind (arith, nat_tests, ap is_black_ink same.0, drawn.dots px py in_row on_page, inked px py in_row on_page inside))
     ]
 
 -- a rectangle whose dots have the ink
@@ -29,6 +28,5 @@ pub has_ink : (size : Size) (dpi : Dpi) (bytes : List ℕ) (filled : Filled) (x 
     → (px py : ℕ) → px < page_width size dpi → py < page_height size dpi → dot (picture_of size dpi bytes) px py
     ≡ (if rectangle_dot x y wide high px py then is_black_ink ink else dot (picture_of size dpi bytes) px py)
 has_ink size dpi bytes filled x y w h wide high ink inked within start top e_w e_h px py in_row on_page =
-    let black = ap is_black_ink within.0 in
     rw (← clipped (page_width size dpi) (page_height size dpi) x y w h wide high px py start top e_w e_h in_row on_page)
-    (grind (arith, nat_tests, within, black, inked px py in_row on_page))
+    (grind (arith, nat_tests, within, ap is_black_ink within.0, inked px py in_row on_page))

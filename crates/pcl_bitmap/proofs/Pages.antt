@@ -55,9 +55,8 @@ same_pages r w h a b la lb fa fb pa pb same =
     same_byte (All-get_or (λ n. n < 256) a i 0 within fa) (All-get_or (λ n. n < 256) b i 0 (omega arith) fb) (λ k small.
     let x : ℕ = 8 * j + k in
     let spot : 8 * (y * r) + x ≡ 8 * i + k = omega arith in
-    let in_a = sym (dot_at a i small spot) ∙ sym (dot_in_page a r y (omega arith)) in
     let in_b = dot_in_page b r y (omega arith) ∙ dot_at b i small spot in
-    grind (arith, in_a, in_b, same x y, pa x y, pb x y)))
+    grind (arith, sym (dot_at a i small spot) ∙ sym (dot_in_page a r y (omega arith)), in_b, same x y, pa x y, pb x y)))
 
 -- a row with clear pads is all zeros where its dots across w are white
 pub zeros_from_white : (zs : List ℕ) (w : ℕ) → All (λ n. n < 256) zs → ((x : ℕ) → w ≤ x → dot_of_row zs x ≡ false)

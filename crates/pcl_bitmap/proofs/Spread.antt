@@ -14,10 +14,9 @@ square_bit s m j some few fits =
     let back : 8 - (8 - s) ≡ s = omega arith in
     let ones : 255 / 2 ^ (8 - s) ≡ 2 ^ s - 1 = ones_shr 8 (8 - s) (omega arith) ∙ ap (λ n. 2 ^ n - 1) back in
     let small : 2 ^ s - 1 < 2 ^ s = omega (arith, pow_pos s) in
-    let low = bit_at_cat_low (2 ^ s - 1) m 0 j in
     let high = bit_at_cat_high (2 ^ s - 1) m 0 j (pow_pos m) in
     rw (ones, shl_whole (2 ^ s - 1) s m 64 small fits, ← add-zero ((2 ^ s - 1) * 2 ^ m))
-    (grind (arith, nat_tests, low, high, bit_at-zero j, bit_at_ones s (j - m), bit_at_ones_above s (j - m)))
+    (grind (arith, nat_tests, bit_at_cat_low (2 ^ s - 1) m 0 j, high, bit_at-zero j, bit_at_ones s (j - m), bit_at_ones_above s (j - m)))
 
 -- the bits of a byte below bit i, each s times
 abbrev pub spread_bit : (byte s i j : ℕ) → ℕ
@@ -28,9 +27,8 @@ pub spread_set : (wide byte s i j : ℕ) → 1 ≤ s → s ≤ 8 → i < 8 → b
     → bit_at (bit_or wide (255 / 2 ^ (8 - s) * 2 ^ (s * i) % 2 ^ 64)) j ≡ spread_bit byte s (i + 1) j
 spread_set wide byte s i j some few small is_set above =
     let fits : s + s * i ≤ 64 = omega (arith, mul-le s i 8 7 few (omega arith)) in
-    let since = quotient_test j s i some in
     let until = quotient_test j s (i + 1) some in
-    rw (bit_at_or, square_bit s (s * i) j some few fits) (grind (arith, nat_tests, since, until))
+    rw (bit_at_or, square_bit s (s * i) j some few fits) (grind (arith, nat_tests, quotient_test j s i some, until))
 
 -- counted from the other end
 mirror : {s q : ℕ} → 1 ≤ s → q < 8 * s → (8 * s - 1 - q) / s ≡ 7 - q / s

@@ -4,9 +4,7 @@ use Rattle.pcl_bitmap.proofs.bits.or_part.Goals as goal
 
 pub loop-i-preserved : goal.loop-i-preserved
 loop-i-preserved c =
-    let source = c.args.source.now in
-    let i = c.loop-i.i in
-    let bits = added_bits source c.args.from c.args.end i c.shifted_byte.result c.leading_ones.result (omega arith)
+    let bits = added_bits c.args.source.now c.args.from c.args.end c.loop-i.i c.shifted_byte.result c.leading_ones.result (omega arith)
     c.shifted_byte.ensures c.leading_ones.ensures in
-    part_more c.args.target.now c.loop-i.target c.args.first i (bit_and c.shifted_byte.result c.leading_ones.result)
-    (run_dot c.args.from c.args.end source) (omega arith) (omega arith) bits c.loop-i.invariant
+    part_more c.args.target.now c.loop-i.target c.args.first c.loop-i.i (bit_and c.shifted_byte.result c.leading_ones.result)
+    (run_dot c.args.from c.args.end c.args.source.now) (omega arith) (omega arith) bits c.loop-i.invariant

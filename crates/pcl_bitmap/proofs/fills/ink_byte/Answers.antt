@@ -6,9 +6,7 @@ use Rattle.pcl_bitmap.proofs.fills.ink_byte.Goals as goal
 
 pub returns-in-Black : goal.returns-in-Black
 returns-in-Black c k small =
-    let a = c.leading_ones.result in
-    let b = c.leading_ones-2.result in
-    let mask = mask_bit a b c.args.from c.args.end k c.leading_ones-2.type_inv small
+    let mask = mask_bit c.leading_ones.result c.leading_ones-2.result c.args.from c.args.end k c.leading_ones-2.type_inv small
     (c.leading_ones.ensures k small) (c.leading_ones-2.ensures k small) in
     rw (bit_of_byte-or, mask) (grind (arith, nat_tests, ap is_black_ink c.in-Black.is))
 

@@ -10,7 +10,6 @@ returns-clause-same c k below =
 
 pub returns-clause-differs : goal.returns-clause-differs
 returns-clause-differs c inside same =
-    let at = c.args.at in
     let k = c.lanes_before.result in
     c.lanes_before.ensures.differs inside
-    (get_or-chunk at 32 c.args.a.now k 0 inside ∙ same ∙ sym (get_or-chunk at 32 c.args.b.now k 0 inside))
+    (get_or-chunk c.args.at 32 c.args.a.now k 0 inside ∙ same ∙ sym (get_or-chunk c.args.at 32 c.args.b.now k 0 inside))

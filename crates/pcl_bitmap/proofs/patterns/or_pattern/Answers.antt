@@ -1,20 +1,16 @@
 use Rattle.std.proofs.Common.{◌≡◌, ℕ, ◌*◌, ◌+◌, ◌-◌, ◌/◌, List, length, take, length-take, drop, ap, ◌∙◌, arith}
 use Rattle.pcl_bitmap.proofs.Names.{take_rest, dot_of_row}
 use Rattle.pcl_bitmap.proofs.Inked.{none_inked, row_inked, run_or}
-use Rattle.pcl_bitmap.proofs.Cut.{HasLine, line_or, same_bits_above}
+use Rattle.pcl_bitmap.proofs.Cut.{HasLine, same_bits_above}
 use Rattle.pcl_bitmap.proofs.Runs.{take_dots, front_dots}
 use Rattle.pcl_bitmap.proofs.patterns.or_pattern.Goals as goal
 use Rattle.pcl_bitmap.proofs.patterns.or_pattern.Goals.{then-row-area, else-row-area+else-line-window-eq0}
 
 pub loop-row-init : goal.loop-row-init
-loop-row-init c =
-    let a = c.args in
-    let w = a.window in
-    record {
-      rows = none_inked a.row_bytes a.page.now a.area.x a.area.y a.area.width a.area.height
-          (line_or a.rows.now a.area.x a.area.y w.x w.y w.scale w.row_bytes) c.requires.high (λ i. omega (arith, c.type_inv.page i));
-      held = λ line at_row below. absurd (omega arith);
-    }
+loop-row-init c = record {
+  rows = none_inked c.requires.high (λ i. omega (arith, c.type_inv.page i));
+  held = λ line at_row below. absurd (omega arith);
+}
 
 pub loop-row-preserved : goal.loop-row-preserved
 loop-row-preserved c =

@@ -1,5 +1,5 @@
-use Rattle.std.proofs.Common.{◌≡◌, ℕ, ◌+◌, ◌*◌, ◌/◌, ◌%◌, ◌^◌, ◌<◌, ◌≤◌, nat_eq, true, bit_and, bit_or, refl, sym, ap, ◌∙◌, inl, inr, arith}
-use Rattle.pcl_bitmap.proofs.Names.{bit_at, agree_below, agree_below_at, eqb-true, cases_lt, and_le_r, or_of_16, bit_at_above}
+use Rattle.std.proofs.Common.{◌≡◌, ℕ, ◌+◌, ◌*◌, ◌/◌, ◌%◌, ◌^◌, ◌<◌, ◌≤◌, nat_eq, true, bit_and, bit_or, refl, ap, ◌∙◌, arith}
+use Rattle.pcl_bitmap.proofs.Names.{bit_at, agree_below, agree_below_at, eqb-true, and_le_r, or_of_16, bit_at_above}
 use Rattle.pcl_bitmap.proofs.squares.doubled_bits.Goals as goal
 
 -- what the code makes of a byte
@@ -31,12 +31,8 @@ doubled_is : (byte j : ℕ) → byte < 256 → bit_at (doubled byte) j ≡ bit_a
 doubled_is byte j small =
     let pairs : ℕ = apart (apart byte 4 3855) 2 13107 in
     let few : apart pairs 1 21845 ≤ 21845 = and_le_r (bit_or pairs (pairs * 2 ^ 1 % 65536)) 21845 in
-    elim (cases_lt j 16) [
-      | inl low ↦ doubled_low byte j small low
-      | inr high ↦
-          bit_at_above (doubled byte) 16 j (doubled_fits (apart pairs 1 21845) (omega arith)) high
-          ∙ sym (bit_at_above byte 8 (j / 2) small (omega arith))
-    ]
+    let fits = doubled_fits (apart pairs 1 21845) (omega arith) in
+    grind (arith, doubled_low byte j small, bit_at_above (doubled byte) 16 j fits, bit_at_above byte 8 (j / 2) small)
 
 pub returns : goal.returns
 returns c j = doubled_is c.from-byte.result j (omega arith) ∙ ap (λ n. bit_at n (j / 2)) c.from-byte.ensures

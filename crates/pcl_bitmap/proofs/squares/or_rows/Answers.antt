@@ -1,13 +1,10 @@
-use Rattle.std.proofs.Common.{◌*◌, ◌+◌, ◌-◌, ◌||◌, refl, ◌∙◌, arith}
+use Rattle.std.proofs.Common.{◌*◌, ◌+◌, ◌-◌, refl, ◌∙◌, arith}
 use Rattle.pcl_bitmap.proofs.Names.{dot_of_row}
 use Rattle.pcl_bitmap.proofs.Inked.{none_inked, row_inked, run_or}
 use Rattle.pcl_bitmap.proofs.squares.or_rows.Goals as goal
 
 pub loop-row-init : goal.loop-row-init
-loop-row-init c =
-    let a = c.args in
-    none_inked a.row_bytes a.page.now a.area.x a.area.y a.area.width a.area.height
-    (λ px _ before. dot_of_row a.source.now (px - a.area.x) || before) c.requires.high (λ i. omega (arith, c.type_inv.page i))
+loop-row-init c = none_inked c.requires.high (λ i. omega (arith, c.type_inv.page i))
 
 pub loop-row-preserved : goal.loop-row-preserved
 loop-row-preserved c =

@@ -1,5 +1,5 @@
-use Rattle.std.proofs.Common.{◌≡◌, ◌/◌, sym, ◌∙◌, arith}
-use Rattle.pcl_bitmap.proofs.Names.{nat_tests, bit_at, shr_and_one, bit_at-lt, bit_at_above}
+use Rattle.std.proofs.Common.{◌/◌, sym, ◌∙◌, arith}
+use Rattle.pcl_bitmap.proofs.Names.{nat_tests, shr_and_one, bit_at-lt, bit_at_above}
 use Rattle.pcl_bitmap.proofs.Spread.{spread_set}
 use Rattle.pcl_bitmap.proofs.squares.spread_bits.Goals as goal
 use Rattle.pcl_bitmap.proofs.squares.spread_bits.Goals.{then-byte-i-eq1, else-byte-i-eq1}
@@ -8,14 +8,12 @@ pub loop-i-preserved : goal.loop-i-preserved
 loop-i-preserved c j =
     let byte = c.args.byte in
     let i = c.loop-i.i in
-    let scale = c.args.scale in
     elim c.if-byte-i-eq1.branch [
       | then-byte-i-eq1 w ↦
-          rw w.wide-is (spread_set c.loop-i.wide byte scale i j (omega arith) (omega arith) (omega arith)
+          rw w.wide-is (spread_set c.loop-i.wide byte c.args.scale i j (omega arith) (omega arith) (omega arith)
           (sym (shr_and_one byte i) ∙ w.if-byte-i-eq1.true) (c.loop-i.invariant j))
       | else-byte-i-eq1 w ↦
-          let clear : bit_at byte i ≡ 0 = omega (arith, bit_at-lt byte i, shr_and_one byte i, w.if-byte-i-eq1.false) in
-          rw w.wide-is (grind (arith, nat_tests, c.loop-i.invariant j, clear))
+          rw w.wide-is (grind (arith, nat_tests, c.loop-i.invariant j, bit_at-lt byte i, shr_and_one byte i, w.if-byte-i-eq1.false))
     ]
 
 pub returns : goal.returns

@@ -8,9 +8,8 @@ pub loop-part-preserved : goal.loop-part-preserved
 loop-part-preserved c k =
     let a = c.args in
     let part = c.loop-part.part in
-    let wide = c.spread_bits-wide.result in
-    let after = dot_of_bits c.loop-part.target (a.at + part) (bit_and (wide / 2 ^ (8 * (a.scale - 1 - part))) 255) k
+    let after = dot_of_bits c.loop-part.target (a.at + part) (bit_and (c.spread_bits-wide.result / 2 ^ (8 * (a.scale - 1 - part))) 255) k
     (λ n. bit_of_byte a.byte ((n - 8 * a.at) / a.scale)) (omega arith) (λ m small.
     let place : 8 * (a.at + part) + m - 8 * a.at ≡ 8 * part + m = omega arith in
-    rw place (part_bits wide a.byte a.scale part (omega arith) (omega arith) c.spread_bits-wide.ensures m small)) in
+    rw place (part_bits c.spread_bits-wide.result a.byte a.scale part (omega arith) (omega arith) c.spread_bits-wide.ensures m small)) in
     grind (arith, nat_tests, after, c.loop-part.invariant k)

@@ -1,4 +1,4 @@
-use Rattle.std.proofs.Common.{◌≡◌, ℕ, w32, ◌≤◌, ◌+◌, ◌*◌, ◌/◌, ◌||◌, length, ap, inl, inr, ◌⊎◌, arith}
+use Rattle.std.proofs.Common.{◌≡◌, ℕ, w32, ◌≤◌, ◌+◌, ◌*◌, ◌/◌, ◌||◌, length, ap, ◌⊎◌, arith}
 use Rattle.pcl_bitmap.proofs.Names.{with_items_is, to_z-of_z, with_items, page_width, page_height, pattern_dot, width_small}
 use Rattle.pcl_bitmap.proofs.Pictures.{lent_room}
 use Rattle.pcl_bitmap.proofs.Inked.{IsDrawn, drawn}
@@ -18,7 +18,6 @@ painted c =
     let y = c.start_and_skip-top.result in
     let across : c.from.result * c.args.scale ≡ c.args.width * c.args.scale = ap (λ n. n * c.args.scale) c.from.ensures in
     let down : c.from-2.result * c.args.scale ≡ c.args.height * c.args.scale = ap (λ n. n * c.args.scale) c.from-2.ensures in
-    let edge_x = rw (to_z-of_z w32 args.x c.ranges.x) at c.start_and_skip-left.ensures.dots in
     let edge_y = rw (to_z-of_z w32 args.y c.ranges.y) at c.start_and_skip-top.ensures.dots in
     drawn x.0 y.0 c.min.result c.min-2.result c.row_bytes-row_bytes.result
     (line_or args.rows.now x.0 y.0 x.1 y.1 args.scale c.div_ceil.result) _
@@ -27,7 +26,7 @@ painted c =
     (λ px py before.
     seen_pattern args.x args.y x.0 y.0 x.1 y.1 (page_width a.size a.dpi) (page_height a.size a.dpi) c.min.result c.min-2.result args.scale
     c.div_ceil.result args.width args.height px py args.rows.now before (omega arith) (omega arith) (omega arith) (omega arith)
-    (edge_x px) (edge_y py))
+    (rw (to_z-of_z w32 args.x c.ranges.x) at c.start_and_skip-left.ensures.dots px) (edge_y py))
 
 pub invariant_of-self : goal.invariant_of-self
 invariant_of-self c = record {
@@ -51,16 +50,11 @@ returns-then-left-page_width-clause-dots c =
     let high : ℕ = page_height c.self.inside.size c.self.inside.dpi in
     let across : c.width-page_width.result ≡ page_width c.self.inside.size c.self.inside.dpi = c.width-page_width.ensures in
     let down : c.height-page_height.result ≡ page_height c.self.inside.size c.self.inside.dpi = c.height-page_height.ensures in
-    let off : (wide ≤ x.0) ⊎ (high ≤ y.0) =
-    elim c.then-left-page_width.branch [
-      | then-left-page_width-via-then-left-page_width w ↦ inl (omega arith)
-      | then-left-page_width-via-else-left-page_width+then-top-page_height w ↦ inr (omega arith)
-    ] in
-    let edge_x = rw (to_z-of_z w32 args.x c.ranges.x) at c.start_and_skip-left.ensures.dots in
+    let off : (wide ≤ x.0) ⊎ (high ≤ y.0) = grind (arith, c.then-left-page_width.branch) in
     let edge_y = rw (to_z-of_z w32 args.y c.ranges.y) at c.start_and_skip-top.ensures.dots in
     rw (← c.self.view_is) (λ px py within on_page.
     rw (pattern_off args.x args.y x.0 y.0 x.1 y.1 wide high args.scale args.width args.height px py args.rows.now off
-    (edge_x px) (edge_y py) within on_page))
+    (rw (to_z-of_z w32 args.x c.ranges.x) at c.start_and_skip-left.ensures.dots px) (edge_y py) within on_page))
 
 pub or_pattern-requires : goal.or_pattern-requires
 or_pattern-requires c =

@@ -39,11 +39,4 @@ paint_squares-requires c =
     let a = c.self.inside in
     let room = lent_room a.size a.dpi c.self.invariant.picture c.deref_mut.ensures.value (c.args.y + c.min-2.result) (omega arith)
     c.row_bytes-row_bytes.ensures in
-    record {
-      scale = omega arith;
-      narrow = omega (arith, width_small a.size a.dpi);
-      wide = omega (arith, room);
-      high = room.high;
-      small = room.small;
-      rows = omega arith;
-    }
+    omega (arith, room, width_small a.size a.dpi)
