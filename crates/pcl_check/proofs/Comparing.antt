@@ -39,12 +39,8 @@ pub record IsBodyReadTo (picture : Picture) (size : Size) (text : List ℕ) (may
 same_joined : (picture : Picture) {may_be before after : Bool} (given : List (List ℕ)) {more : List (List ℕ)}
     → (IsTrue after ↔ (IsTrue before × AreRowsAt picture (length given) more))
     → (IsTrue before ↔ (IsTrue may_be × AreRowsAt picture 0 given)) → IsTrue after ↔ (IsTrue may_be × AreRowsAt picture 0 (given ++ more))
-same_joined picture given later first = (
-  λ yes.
-      let now = later.0 yes in
-      let before = first.0 now.0 in (before.0, of_parts given (bitmap_rows picture) before.1 now.1),
-  λ h. let parts = parts_of given (bitmap_rows picture) h.1 in later.1 (first.1 (h.0, parts.0), parts.1),
-)
+same_joined picture given {more} later first =
+    grind (arith, of_parts given {b = more} (bitmap_rows picture), parts_of given {b = more} (bitmap_rows picture))
 
 pub read_on : {picture : Picture} {size : Size} {text : List ℕ} {may_be : Bool} {place : Place} {above : List ℕ} {next : Place}
     {below : List ℕ} → IsBodyReadTo picture size text may_be place above → Advances picture size place above next below

@@ -3,19 +3,6 @@ use Rattle.std.proofs.Common.{◌≡◌, ℕ, ◌<◌, ◌≤◌, Bool, true, fa
 use Rattle.std.specs.Prelude.{nat_lt, if◌then◌else◌, Option, Some, None}
 use Rattle.pcl_check.proofs.Names.{nat_tests, Method, method_code, method_small, Node, inside_code, place_of, IsFirstBad, FindsBad, found_place, first_found, At, Both}
 
--- the first bad number of one fact is that of another which differs from it at no number up to there
-first_too : (One Other : ℕ → Method → Bool → Type 0) {last : ℕ} {bad : Node}
-    → (Other bad.row bad.method bad.inside → One bad.row bad.method bad.inside)
-    → ((row : ℕ) (method : Method) (inside : Bool) → row ≤ last → place_of row method inside < found_place bad
-    → One row method inside → Other row method inside) → IsFirstBad One last bad → IsFirstBad Other last bad
-first_too One Other {bad = bad} back to found = record {
-  within = found.within;
-  is_bad = λ other. found.is_bad (back other);
-  first = λ row method inside before.
-      to row method inside (grind (arith, method_small method, method_small bad.method, before, found.within)) before
-      (found.first row method inside before);
-}
-
 -- both facts at once
 first_finds : (One Other : ℕ → Method → Bool → Type 0) (last : ℕ) (one other : Option Node) → FindsBad One last one
     → FindsBad Other last other → FindsBad (Both One Other) last (first_found one other)
@@ -29,9 +16,14 @@ Gives One Other last = (row : ℕ) (method : Method) (inside : Bool) → row ≤
 -- another fact that says the same
 finds_too : (One Other : ℕ → Method → Bool → Type 0) {last : ℕ} (found : Option Node) → Gives One Other last → Gives Other One last
     → FindsBad One last found → FindsBad Other last found
-finds_too One Other None to back found = λ row method inside le. to row method inside le (found row method inside le)
-finds_too One Other (Some bad) to back found =
-    first_too One Other (back bad.row bad.method bad.inside found.within) (λ row method inside le _. to row method inside le) found
+finds_too One Other {last} None to back found = λ row method inside le. to row method inside le (found row method inside le)
+finds_too One Other {last} (Some bad) to back found = record {
+  within = found.within;
+  is_bad = λ other. found.is_bad (back bad.row bad.method bad.inside found.within other);
+  first = λ row method inside before.
+      let le : row ≤ last = grind (arith, method_small method, method_small bad.method, before, found.within) in
+      to row method inside le (found.first row method inside before);
+}
 
 -- the first number that is bad by one of four facts, which together say another
 pub first_of_four : (A B C D All : ℕ → Method → Bool → Type 0) {last : ℕ} (a b c d : Option Node) {one other found : Option Node}

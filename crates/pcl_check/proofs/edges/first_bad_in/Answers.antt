@@ -1,4 +1,5 @@
 use Rattle.std.proofs.Common.{◌≡◌, ℕ, ◌-◌, Bool, true, false, List, length, arith}
+use Rattle.std.specs.Prelude.{◌↔◌}
 use Rattle.pcl_check.proofs.Names.{Method, Node, AreGoodSwitches, At, Both, IsGoodStart, IsGoodSending, AreGoodSkipsTo, IsGoodIn, page_height, node_number}
 use Rattle.pcl_check.proofs.Found.{first_of_four}
 use Rattle.pcl_check.proofs.edges.first_bad_in.Goals as goal
@@ -8,15 +9,10 @@ InParts ends last Counts number method =
     Both (Both (At method false (IsGoodStart ends number method)) (At method true (AreGoodSwitches number method)))
     (Both (At method true (IsGoodSending last Counts number method)) (At method true (AreGoodSkipsTo ends number method)))
 
-good_of_parts : (ends : List ℕ) {last : ℕ} (Counts : ℕ → Method → ℕ → Type 0) (number : Node → ℕ) {method : Method} {row : ℕ}
+parts_are_good : (ends : List ℕ) {last : ℕ} (Counts : ℕ → Method → ℕ → Type 0) (number : Node → ℕ) {method : Method} {row : ℕ}
     {current : Method} (inside : Bool) → InParts ends last Counts number method row current inside
-    → IsGoodIn ends last Counts number method row current inside
-good_of_parts ends Counts number inside parts = grind arith
-
-parts_of_good : (ends : List ℕ) {last : ℕ} (Counts : ℕ → Method → ℕ → Type 0) (number : Node → ℕ) {method : Method} {row : ℕ}
-    {current : Method} (inside : Bool) → IsGoodIn ends last Counts number method row current inside
-    → InParts ends last Counts number method row current inside
-parts_of_good ends Counts number inside good = grind arith
+    ↔ IsGoodIn ends last Counts number method row current inside
+parts_are_good ends Counts number inside = (λ parts. grind arith, λ good. grind arith)
 
 pub returns : goal.returns
 returns g c =
@@ -32,6 +28,7 @@ returns g c =
     let Sending : ℕ → Method → Bool → Type 0 = At method true (IsGoodSending last Counts number method) in
     let Skips : ℕ → Method → Bool → Type 0 = At method true (AreGoodSkipsTo ends number method) in
     first_of_four Start Switches Sending Skips (IsGoodIn ends last Counts number method) _ _ _ _
-    (λ row current inside le. good_of_parts ends Counts number inside) (λ row current inside le. parts_of_good ends Counts number inside)
+    (λ row current inside le. (parts_are_good ends Counts number inside).0)
+    (λ row current inside le. (parts_are_good ends Counts number inside).1)
     (rw rows at c.first_bad_start-outside.ensures) (rw rows at c.first_bad_switch-switch.ensures) c.first_bad_sending-sent.ensures
     (rw rows at c.first_bad_skip-skip.ensures) c.first_of.ensures c.first_of-2.ensures c.first_of-3.ensures
