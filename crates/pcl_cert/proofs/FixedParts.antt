@@ -1,18 +1,13 @@
 -- The length of the fixed part of a page text.
 use Rattle.std.proofs.Common.{◌≡◌, refl, ◌++◌, ℕ, ◌+◌, ◌/◌, ◌%◌, ◌<◌, ◌≤◌, [], ◌∷◌, length, ap, ◌∙◌, arith}
-use Rattle.pcl_cert.proofs.Names.{decimal, decimal_digit, decimal_step, length-append, Dpi, Size, code_of, fixed_bytes, raster_start, start_is, start_bytes, Dpi300, Dpi600, Executive, Letter, Legal, A4}
+use Rattle.pcl_cert.proofs.Names.{decimal, decimal_digit, decimal_step, length-append, Dpi, Size, code_of, fixed_bytes, raster_start, start_is, start_bytes, Dpi300, Executive}
 use Rattle.std.specs.Fmt.{digits}
 
 raster_length : (size : Size) (dpi : Dpi) → length (raster_start size dpi) ≡ 26
 unfolding digits
 raster_length Executive Dpi300 = refl
-raster_length Letter Dpi300 = refl
-raster_length Legal Dpi300 = refl
-raster_length A4 Dpi300 = refl
-raster_length Executive Dpi600 = refl
-raster_length Letter Dpi600 = refl
-raster_length Legal Dpi600 = refl
-raster_length A4 Dpi600 = refl
+raster_length _ Dpi300 = refl
+raster_length _ _ = refl
 
 pub one_digit : {n : ℕ} → n < 10 → length (decimal n) ≡ 1
 one_digit {n} lt = ap length (decimal_digit n lt)

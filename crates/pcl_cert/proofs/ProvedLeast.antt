@@ -67,5 +67,4 @@ pub proved_least : (page : Page) (text other : List ℕ) (table : List RowNumber
     → IsVerdict page text table tables verdicts.Proved → PrintsPage page other → length text ≤ length other
 proved_least page text other table tables is printed =
     let feasible = feasible_of page is.0 table tables is.1 is.2 is.3 in
-    let bound = text_bounded page.dpi page.size page.copies (bitmap_rows page.bitmap) other (node_number table) feasible printed in
-    omega (arith, bound, is.4)
+    omega (arith, text_bounded page.dpi page.size page.copies (bitmap_rows page.bitmap) other (node_number table) feasible printed, is.4)

@@ -1,6 +1,6 @@
 -- Good places of a row.
 use Rattle.std.proofs.Common.{◌≡◌, ℕ, ◌+◌, ◌<◌, ◌≤◌, inl, inr, List, Option, Some, None, is_some, true, false, length, arith}
-use Rattle.pcl_cert.proofs.Names.{cases_lt, Method, BadPlace, page_height, page_row_bytes, Page, IsRowTable, bitmap_rows, row_at, row_above, method_small, list_of, IsGoodPlace, IsFirstPlace, FindsPlace, IsGoodInTables, Tables, FindsBadBelow, FindsBadIn, table_of}
+use Rattle.pcl_cert.proofs.Names.{Method, BadPlace, page_height, page_row_bytes, Page, IsRowTable, bitmap_rows, row_at, row_above, method_small, list_of, IsGoodPlace, IsFirstPlace, FindsPlace, IsGoodInTables, Tables, FindsBadBelow, FindsBadIn, table_of}
 
 pub good_places : {method : Method} {seed row numbers : List ℕ} → IsRowTable method seed row numbers → {place : ℕ}
     → IsGoodPlace method seed row numbers place
@@ -36,10 +36,7 @@ module _ (page : Page) (lists : List (List ℕ)) {row : ℕ}
     (above : (r : ℕ) (m : Method) (p : ℕ) → r < row → p ≤ page_row_bytes page.size page.dpi → IsGoodInTables page lists r m p) where
   pub rows_on : (found : Option BadPlace) → FindsBadBelow page lists row 4 found → is_some found ≡ false
       → (r : ℕ) (m : Method) (p : ℕ) → r < row + 1 → p ≤ page_row_bytes page.size page.dpi → IsGoodInTables page lists r m p
-  rows_on None here none = λ r m p lt le. elim (cases_lt r row) [
-    | inl below ↦ above r m p below le
-    | inr past ↦ let last : r ≡ row = omega arith in rw last (here m p (method_small m) le)
-  ]
+  rows_on None here none = λ r m p lt le. grind (arith, above r m p, here m p, method_small m)
   rows_on (Some bad) here none = absurd cc
 
   pub rows_end : {tables : Tables} (found : Option BadPlace) → tables ≡ Some lists → row < page_height page.size page.dpi

@@ -9,9 +9,8 @@ plain_row : {seed row : List ℕ} → IsCodable seed row → IsRowData Plain see
 plain_row {seed} {row} codable =
     let old : List ℕ = base Plain seed in
     let same : length old ≡ length row = length-base Plain seed ∙ codable.same_size in
-    let within = overlaid_within old 0 row (omega (arith, same)) in
     let none = drop_all (0 + length row) old (omega (arith, same)) in
-    let laid : overlaid old 0 row ≡ row = cc (within, none, append-nil row) in
+    let laid : overlaid old 0 row ≡ row = cc (overlaid_within old 0 row (omega (arith, same)), none, append-nil row) in
     let elements = plain_elements row in
     record {
       whole = (elements.0, elements.1, elements.2, omega (arith, elements.3));

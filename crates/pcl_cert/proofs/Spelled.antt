@@ -43,8 +43,7 @@ module _ {X : Type 0} {one : Reader X} {many : ℕ → Reader (List X)} {text : 
   many_again : (xs : List X) (rest : List ℕ) → AllByRecursion Fits xs → many (length xs) (flat_map text xs ++ rest) ≡ Ok (xs, rest)
   many_again [] rest fits = is.none rest
   many_again (x ∷ xs) rest fits =
-      let first = spells.again x (flat_map text xs ++ rest) fits.0 in
-      rw (flat_map-cons, append_assoc, is.more, first, many_again xs rest fits.1)
+      rw (flat_map-cons, append_assoc, is.more, spells.again x (flat_map text xs ++ rest) fits.0, many_again xs rest fits.1)
 
   -- so many things
   pub many_spell : (n : ℕ) → Spells (many n) (flat_map text) (λ xs. (length xs ≡ n) × AllByRecursion Fits xs)

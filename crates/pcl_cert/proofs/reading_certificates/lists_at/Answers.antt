@@ -7,15 +7,13 @@ use Rattle.pcl_cert.proofs.reading_certificates.lists_at.Goals as goal
 pub returns-in_err-rest : goal.returns-in_err-rest
 returns-in_err-rest c =
     let p = err_from_is_err_and c.from_residual-in_err-rest.result c.from_residual-in_err-rest.ensures.1 in
-    let fault = c.in_err-rest.field-0.0 in
-    rw (p.1, p.2) (fails (lists_are_many c.args.most) c.loop.invariant.read fault c.loop-test.true
-    (behind_fails fault (list_at c.args.most c.loop.rest.now) c.in_err-rest.ensures))
+    rw (p.1, p.2) (fails (lists_are_many c.args.most) c.loop.invariant.read c.in_err-rest.field-0.0 c.loop-test.true
+    (behind_fails c.in_err-rest.field-0.0 (list_at c.args.most c.loop.rest.now) c.in_err-rest.ensures))
 
 pub loop-preserved : goal.loop-preserved
 loop-preserved c =
-    let after = c.in_ok-rest.rest.now in
-    let list = behind_ok (list_at c.args.most c.loop.rest.now) after c.in_ok-rest.ensures in
-    rw c.in_ok-push.ensures.items (next_list list.0 after c.loop-test.true list.1 c.loop.invariant)
+    let list = behind_ok (list_at c.args.most c.loop.rest.now) c.in_ok-rest.rest.now c.in_ok-rest.ensures in
+    rw c.in_ok-push.ensures.items (next_list list.0 c.in_ok-rest.rest.now c.loop-test.true list.1 c.loop.invariant)
 
 pub within-requires-clause-rows : goal.within-requires-clause-rows
 within-requires-clause-rows c = (c.args.rows, c.requires, omega (arith, c.loop.invariant.many, c.loop-test.false, c.loop.auto.counter-end))

@@ -1,5 +1,5 @@
-use Rattle.std.proofs.Common.{◌≡◌, ◌+◌, ◌<◌, ℕ, List, length, sym, ◌∙◌, arith, refl, take, replicate, ◌≤◌}
-use Rattle.pcl_cert.proofs.Names.{length-take-le, length-replicate, Method, page_height, page_row_bytes, row_of, Page, bitmap_rows, row_above, row_of_bytes, row_small, list_of, table_of}
+use Rattle.std.proofs.Common.{◌≡◌, ◌+◌, ◌<◌, ℕ, List, length, sym, ◌∙◌, arith, refl, take, replicate}
+use Rattle.pcl_cert.proofs.Names.{length-take, length-replicate, Method, page_height, page_row_bytes, row_of, Page, bitmap_rows, row_above, row_of_bytes, row_small, list_of, table_of}
 use Rattle.pcl_cert.proofs.RowPlaces.{IsRowOfTables, none_bad, some_bad}
 use Rattle.pcl_cert.proofs.check.places.first_bad_in_table.Goals as goal
 
@@ -15,9 +15,8 @@ of_page page {lists} {row} {method} {bytes = bytes} lt s b w n =
     let width : ℕ = page_row_bytes page.bitmap.size page.bitmap.dpi in
     let wide : width ≡ page_row_bytes page.size page.dpi = rw (page.size_is, page.dpi_is) refl in
     let high : height ≡ page_height page.size page.dpi = rw (page.size_is, page.dpi_is) refl in
-    let fits : length bytes + 1 ≤ 601 = omega (arith, w, row_small page.bitmap.size page.bitmap.dpi) in
-    let count = length-take-le {A = ℕ} (length bytes + 1) (replicate 601 0) (omega (arith, fits, length-replicate {A = ℕ} 601 0)) in
-    let same : length {A = ℕ} (take (length bytes + 1) (replicate 601 0)) ≡ page_row_bytes page.size page.dpi + 1 = omega (arith, wide, w, count) in
+    let same : length {A = ℕ} (take (length bytes + 1) (replicate 601 0)) ≡ page_row_bytes page.size page.dpi + 1 =
+    omega (arith, row_small page.bitmap.size page.bitmap.dpi, length-take {A = ℕ}, length-replicate {A = ℕ}) in
     record {
       seed_is = rw (← wide) s;
       bytes_are = b ∙ sym (row_of_bytes row height width page.bitmap.bytes (omega (arith, high, lt)));
@@ -27,14 +26,10 @@ of_page page {lists} {row} {method} {bytes = bytes} lt s b w n =
 
 pub returns-in_err-place : goal.returns-in_err-place
 returns-in_err-place c =
-    let page = c.args.page.now in
-    let is = of_page page c.requires.row c.row_above-seed.ensures.row c.row-bytes.ensures.bytes c.row-bytes.ensures.len
-    c.copy_table.ensures in
-    rw c.from_residual.ensures (none_bad is c.in_err-place.ensures)
+    rw c.from_residual.ensures (none_bad (of_page c.args.page.now c.requires.row c.row_above-seed.ensures.row c.row-bytes.ensures.bytes
+    c.row-bytes.ensures.len c.copy_table.ensures) c.in_err-place.ensures)
 
 pub returns : goal.returns
 returns c =
-    let page = c.args.page.now in
-    let is = of_page page c.requires.row c.row_above-seed.ensures.row c.row-bytes.ensures.bytes c.row-bytes.ensures.len
-    c.copy_table.ensures in
-    some_bad is c.in_ok-place.ensures
+    some_bad (of_page c.args.page.now c.requires.row c.row_above-seed.ensures.row c.row-bytes.ensures.bytes
+    c.row-bytes.ensures.len c.copy_table.ensures) c.in_ok-place.ensures
