@@ -1,7 +1,7 @@
 -- The first number that is bad by one of two facts.
-use Rattle.std.proofs.Common.{◌≡◌, ℕ, ◌<◌, ◌≤◌, Bool, true, false, refl, ap, arith}
-use Rattle.std.specs.Prelude.{nat_lt, if◌then◌else◌, Option, Some, None}
-use Rattle.pcl_check.proofs.Names.{nat_tests, Method, method_code, method_small, Node, inside_code, place_of, IsFirstBad, FindsBad, found_place, first_found, At, Both}
+use Rattle.std.proofs.Common.{◌≡◌, ℕ, ◌<◌, ◌≤◌, Bool, refl, ap, arith}
+use Rattle.std.specs.Prelude.{Option, Some, None}
+use Rattle.pcl_check.proofs.Names.{nat_tests, Method, method_code, method_small, Node, inside_code, IsFirstBad, FindsBad, first_found, At, Both}
 
 -- both facts at once
 first_finds : (One Other : ℕ → Method → Bool → Type 0) (last : ℕ) (one other : Option Node) → FindsBad One last one

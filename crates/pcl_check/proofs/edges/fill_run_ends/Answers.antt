@@ -1,5 +1,5 @@
-use Rattle.std.proofs.Common.{◌≡◌, ℕ, ◌+◌, ◌-◌, ◌<◌, ◌≤◌, List, length, set, sym, ◌∙◌, inl, inr, arith}
-use Rattle.pcl_check.proofs.Names.{slice_index, length-set, cases_eq, iff_false, get_or-set_same, get_or-set_other, IsWhite, row_at, IsWhiteRun, run_more, run_none, run_end, AreRunEnds, All-from_recursion, recursion_from_All, page_height, page_row_bytes, bitmap_rows, length_rows, row_of_bytes}
+use Rattle.std.proofs.Common.{◌≡◌, ℕ, ◌+◌, ◌-◌, ◌<◌, ◌≤◌, List, length, set, sym, ◌∙◌, arith}
+use Rattle.pcl_check.proofs.Names.{slice_index, length-set, iff_false, get_or-set_same, get_or-set_other, IsWhite, row_at, IsWhiteRun, run_more, run_none, run_end, AreRunEnds, All-from_recursion, recursion_from_All, page_height, page_row_bytes, bitmap_rows, length_rows, row_of_bytes}
 use Rattle.pcl_check.proofs.edges.fill_run_ends.Goals as goal
 use Rattle.pcl_check.proofs.edges.fill_run_ends.Goals.{then-is_blank, else-is_blank}
 
@@ -9,10 +9,7 @@ ends_begin : {rows : List (List ℕ)} (ends : List ℕ) {last : ℕ} → length 
 ends_begin {rows} ends {last} count size =
     record {
       size = omega (arith, length-set ends last last, count);
-      runs = λ row from within.
-          let same : row ≡ last = omega arith in
-          let none : last - last ≡ 0 = omega arith in
-          rw (same, get_or-set_same ends last last 0 (omega arith), none) (omega arith, run_end (sym count));
+      runs = λ row from within. grind (arith, get_or-set_same ends last last 0, run_end (sym count));
     }
 
 -- a row more
@@ -21,11 +18,7 @@ ends_more : {rows : List (List ℕ)} {ends : List ℕ} {row end : ℕ} → row <
 ends_more {rows} {ends} {row} {end} lt are order run =
     record {
       size = length-set ends row end ∙ are.size;
-      runs = λ k from within.
-          elim (cases_eq row k) [
-            | inl same ↦ rw (sym same, get_or-set_same ends row end 0 (omega (arith, are.size))) (order, run)
-            | inr other ↦ rw (get_or-set_other ends row k end 0 (λ e. other (sym e))) (are.runs k (omega (arith, other)) within)
-          ];
+      runs = λ k from within. grind (arith, are.size, are.runs k, get_or-set_same ends row end 0, get_or-set_other ends row k end 0);
     }
 
 pub loop-row-init : goal.loop-row-init

@@ -1,4 +1,4 @@
-use Rattle.std.proofs.Common.{◌≡◌, ℕ, ◌+◌, ◌-◌, ◌<◌, ◌≤◌, List, length, sym, arith, Bool, true, false, drop, refl}
+use Rattle.std.proofs.Common.{◌≡◌, ℕ, ◌+◌, ◌-◌, ◌<◌, ◌≤◌, List, length, sym, arith, Bool, true, false, drop}
 use Rattle.pcl_check.proofs.Names.{slice_index, white_below, white_front, skippable_within, white_to_end, ink_left, AreRunEnds, AreEnds, Both, IsGoodBy, IsGoodIn, Method, Plain, Runs, Packed, Delta, Node, IsGoodNumber, page_height, page_row_bytes, Page, bitmap_rows, node_number, length_rows, height_small}
 use Rattle.pcl_check.proofs.Found.{first_of_four}
 use Rattle.pcl_check.proofs.edges.first_bad.Goals as goal
@@ -65,8 +65,7 @@ InMethods ends last Counts number =
 
 good_of_methods : (ends : List ℕ) (last : ℕ) (Counts : ℕ → Method → ℕ → Type 0) (number : Node → ℕ) (row : ℕ) (method : Method)
     (inside : Bool) → InMethods ends last Counts number row method inside → IsGoodBy ends last Counts number row method inside
-good_of_methods ends last Counts number row Plain inside all = all.0.0 refl
-good_of_methods ends last Counts number row _ inside all = search (refl, all.0.1, all.1.0, all.1.1)
+good_of_methods ends last Counts number row method inside all = grind arith
 
 -- a page has as many rows as it is high
 rows_of_page : (page : Page) → length (bitmap_rows page.bitmap) ≡ page_height page.size page.dpi

@@ -29,10 +29,7 @@ all_digits : {ends : List ℕ} {last : ℕ} (number : Node → ℕ) (method : Me
     → At method true (AreGoodSkipsTo ends number method) row current inside
 all_digits number method {row = row} are le good = λ same here count inside some within.
     let few : count ≤ 9999 = omega (arith, are.within row le, are.few) in
-    let one = good.0.0 same here count inside some in
-    let two = good.0.1 same here count inside some in
-    let three = good.1.0 same here count inside some in
-    let four = good.1.1 same here count inside some in grind (arith, count_is 0 count, count_is 1 count, count_is 2 count, count_is 3 count)
+    grind (arith, good, count_is 0 count, count_is 1 count, count_is 2 count, count_is 3 count)
 
 pub returns : goal.returns
 returns c =
