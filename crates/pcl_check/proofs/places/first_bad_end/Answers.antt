@@ -2,7 +2,6 @@ use Rattle.std.proofs.Common.{◌≡◌, ◌≤◌, ◌+◌, ◌-◌, ℕ, lengt
 use Rattle.pcl_check.proofs.Names.{AreSameFrom, ends_by, ends_at, IsGoodEnd}
 use Rattle.pcl_check.proofs.PlacesFound.{found_good, found_bad, found_all}
 use Rattle.pcl_check.proofs.places.first_bad_end.Goals as goal
-use Rattle.pcl_check.proofs.places.first_bad_end.Goals.{else-place-row-via-then-place-row+else-old-place, else-place-row-via-else-place-row}
 
 pub returns-then-old-place : goal.returns-then-old-place
 returns-then-old-place c =

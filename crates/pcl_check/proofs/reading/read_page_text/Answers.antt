@@ -4,7 +4,6 @@ use Rattle.pcl_check.proofs.Names.{flat_map, take_all, append_cancel_left, appen
 use Rattle.pcl_check.proofs.Beginnings.{BeginsAs, begins_size, size_coded, size_read, same_size}
 use denote.Enum.Bare.{sameb, same_true, true_same}
 use Rattle.pcl_check.proofs.reading.read_page_text.Goals as goal
-use Rattle.pcl_check.proofs.reading.read_page_text.Goals.{then-eq, else-eq}
 
 printed_text : {dpi : Dpi} {size : Size} {copies : ℕ} {rows : List (List ℕ)} {text rest : List ℕ} → 0 < copies → copies < 100
     → text ≡ start_bytes dpi copies size ++ rest → RestPrints size dpi (body_of size dpi rest) rows → IsPageText dpi size copies rows text

@@ -1,13 +1,7 @@
-use Rattle.std.proofs.Common.{Bool, true, ℕ, ◌-◌, ◌^◌, ◌<◌, ◌≤◌, List, arith}
+use Rattle.std.proofs.Common.{Bool, true, ℕ, ◌-◌, ◌≤◌, List, arith}
 use Rattle.pcl_check.proofs.Names.{Method, Node, node_number, count_is, count_le, At, Both, AreEnds, AreGoodSkipsOf, AreGoodSkipsTo}
 use Rattle.pcl_check.proofs.Found.{first_of_four}
 use Rattle.pcl_check.proofs.edges.skips.first_bad_skip.Goals as goal
-
--- counts of few digits, tried as if they had more
-short_skips : (ends : List ℕ) (number : Node → ℕ) {method : Method} {row : ℕ} (digits : ℕ) {most : ℕ} → most < 10 ^ digits → most ≤ 9999
-    → AreGoodSkipsTo ends number method row → AreGoodSkipsOf ends number method digits most row
-short_skips ends number digits short few good = λ count inside some le within.
-    omega (arith, good count inside some within, count_le digits count (omega (arith, short)) (omega arith))
 
 -- the four counts of digits
 abbrev AreGoodByDigits : List ℕ → (Node → ℕ) → Method → ℕ → Method → Bool → Type 0
@@ -17,12 +11,7 @@ AreGoodByDigits ends number method =
 
 by_digits : (ends : List ℕ) (number : Node → ℕ) (method : Method) {row : ℕ} {current : Method} {inside : Bool}
     → At method true (AreGoodSkipsTo ends number method) row current inside → AreGoodByDigits ends number method row current inside
-by_digits ends number method good =
-    let short = λ (digits most : ℕ) (few : most < 10 ^ digits) (le : most ≤ 9999) (same : _) (here : _).
-    short_skips ends number digits few le (good same here) in (
-      (short 1 9 (omega arith) (omega arith), short 2 99 (omega arith) (omega arith)),
-      (short 3 999 (omega arith) (omega arith), short 4 9999 (omega arith) (omega arith)),
-    )
+by_digits ends number method good = grind (arith, good, count_le 1, count_le 2, count_le 3, count_le 4)
 
 all_digits : {ends : List ℕ} {last : ℕ} (number : Node → ℕ) (method : Method) {row : ℕ} {current : Method} {inside : Bool}
     → AreEnds ends last → row ≤ last → AreGoodByDigits ends number method row current inside

@@ -3,7 +3,6 @@ use Rattle.pcl_check.proofs.Names.{slice_index, AreGoodReplacements}
 use Rattle.pcl_check.proofs.PlacesFound.{from_before, down_to_first}
 use Rattle.pcl_check.proofs.SteadyPlaces.{sums_of_front, replacements_by_start, replacements_before}
 use Rattle.pcl_check.proofs.places.steady.are_good_replacements.Goals as goal
-use Rattle.pcl_check.proofs.places.steady.are_good_replacements.Goals.{then-old-place, else-old-place}
 
 pub loop-place-preserved : goal.loop-place-preserved
 loop-place-preserved c =

@@ -3,7 +3,6 @@ use Rattle.pcl_check.proofs.Names.{slice_index, AreGoodRuns, FallsByRun}
 use Rattle.pcl_check.proofs.PlacesFound.{from_before, down_to_first}
 use Rattle.pcl_check.proofs.SteadyPlaces.{runs_by_stop, runs_before}
 use Rattle.pcl_check.proofs.places.steady.are_good_runs.Goals as goal
-use Rattle.pcl_check.proofs.places.steady.are_good_runs.Goals.{then-place-end+then-row-place, else-place-end, then-fall_by_runs, else-fall_by_runs}
 
 pub loop-place-preserved : goal.loop-place-preserved
 loop-place-preserved c =

@@ -3,7 +3,7 @@ use Rattle.pcl_check.proofs.Names.{length-append, same_fronts}
 use Rattle.pcl_check.proofs.Moves.{no_send, send_becomes}
 use Rattle.pcl_check.proofs.Steps.{told, shorter, becomes_to}
 use Rattle.pcl_check.proofs.reading.body.send.Goals as goal
-use Rattle.pcl_check.proofs.reading.body.send.Goals.{then-place-height-via-then-place-height, then-place-height-via-else-place-height+then-not-paint, then-place, else-place}
+use Rattle.pcl_check.proofs.reading.body.send.Goals.{then-place-height-via-then-place-height, then-place-height-via-else-place-height+then-not-paint}
 
 pub returns-in_err-bytes : goal.returns-in_err-bytes
 returns-in_err-bytes c =

@@ -4,7 +4,6 @@ use Rattle.pcl_check.proofs.Fronts.{white_rows, front_at, is_method, is_skip, is
 use Rattle.pcl_check.proofs.Moves.{skip_becomes}
 use Rattle.pcl_check.proofs.Steps.{told, shorter, cased, becomes_to}
 use Rattle.pcl_check.proofs.reading.body.skip.Goals as goal
-use Rattle.pcl_check.proofs.reading.body.skip.Goals.{then-count-eq0-via-then-count-eq0, then-count-eq0-via-else-count-eq0+then-count-height, then-place, else-place}
 
 pub returns-then-count-eq0 : goal.returns-then-count-eq0
 returns-then-count-eq0 c = λ rows printed.

@@ -3,7 +3,6 @@ use Rattle.pcl_check.proofs.Names.{slice_eq-Decides, Decides-eqb, decimal, is_di
 use Rattle.pcl_check.proofs.Decimals.{decimal_found}
 use Rattle.pcl_check.proofs.Splits.{no_split}
 use Rattle.pcl_check.proofs.reading.parameter.read_decimal.Goals as goal
-use Rattle.pcl_check.proofs.reading.parameter.read_decimal.Goals.{else-is_shortest-via-then-is_shortest+else-parameter-letter, else-is_shortest-via-else-is_shortest}
 
 pub returns-in_err-parameter : goal.returns-in_err-parameter
 returns-in_err-parameter c =

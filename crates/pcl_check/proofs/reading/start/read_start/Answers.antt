@@ -1,7 +1,6 @@
 use Rattle.pcl_check.proofs.Names.{Some, None, sym, arith, strip_prefix_is, Decides-eqb}
 use Rattle.pcl_check.proofs.Beginnings.{no_copies, no_code, first_bytes, no_size, no_raster, size_read, begun, copies_of, size_of}
 use Rattle.pcl_check.proofs.reading.start.read_start.Goals as goal
-use Rattle.pcl_check.proofs.reading.start.read_start.Goals.{then-copies-eq0-via-then-copies-eq0, then-copies-eq0-via-else-copies-eq0+then-copies-from}
 
 pub returns-in_err-copies : goal.returns-in_err-copies
 returns-in_err-copies c =
