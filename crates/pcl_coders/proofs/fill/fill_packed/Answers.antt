@@ -3,7 +3,6 @@ use Rattle.pcl_coders.proofs.Names.{Packed, IsRunEnd, AreRightFrom, HasLiteralEn
 use Rattle.pcl_coders.proofs.Places.{begun_right, place_done, IsRunFrom, run_next}
 use Rattle.pcl_coders.proofs.Literals.{has_no_literal, has_literal, end_of_set, packed_place}
 use Rattle.pcl_coders.proofs.fill.fill_packed.Goals as goal
-use Rattle.pcl_coders.proofs.fill.fill_packed.Goals.{then-place-end+then-row-place, else-place-end, else-place-end-via-then-place-end+else-row-place, else-place-end-via-else-place-end}
 
 pub loop-place-init : goal.loop-place-init
 loop-place-init c = record {

@@ -2,7 +2,6 @@ use Rattle.std.proofs.Common.{◌≡◌, ◌<◌, ◌+◌, ◌-◌, ℕ, min, le
 use Rattle.pcl_coders.proofs.Names.{Runs, IsRunEnd, AreRightFrom, white_like}
 use Rattle.pcl_coders.proofs.Places.{begun_right, place_done, runs_place, IsRunFrom, run_next}
 use Rattle.pcl_coders.proofs.fill.fill_runs.Goals as goal
-use Rattle.pcl_coders.proofs.fill.fill_runs.Goals.{then-place-end+then-row-place, else-place-end, else-place-end-via-then-place-end+else-row-place, else-place-end-via-else-place-end}
 
 pub loop-place-init : goal.loop-place-init
 loop-place-init c = record { right = begun_right c.requires; run = record { first = λ _. refl; run = λ none. absurd (omega arith) } }

@@ -1,7 +1,6 @@
 use Rattle.pcl_coders.proofs.Names.{arith}
 use Rattle.pcl_coders.proofs.Literals.{next_is_end}
 use Rattle.pcl_coders.proofs.fill.literal_end.Goals as goal
-use Rattle.pcl_coders.proofs.fill.literal_end.Goals.{else-best-place-via-then-best-place+else-best-from, else-best-place-via-else-best-place}
 
 pub returns-else-best-place : goal.returns-else-best-place
 returns-else-best-place c end inside has =

@@ -4,7 +4,6 @@ use Rattle.pcl_coders.proofs.Choices.{plain_choice}
 use Rattle.pcl_coders.proofs.Along.{along_run, along_start, along_replacement, along_literal, along_repeat, no_literal_repeat}
 use Rattle.pcl_coders.proofs.Places.{packed_shorten, falls, literal_bounds}
 use Rattle.pcl_coders.proofs.choice.Choice.along.Goals as goal
-use Rattle.pcl_coders.proofs.choice.Choice.along.Goals.{then-run-ge2, else-run-ge2}
 
 pub literal_len-requires-clause-falls : goal.literal_len-requires-clause-falls
 literal_len-requires-clause-falls c i j order within =

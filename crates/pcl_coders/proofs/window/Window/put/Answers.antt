@@ -1,7 +1,6 @@
 use Rattle.std.proofs.Common.{◌<◌, length, arith}
 use Rattle.pcl_coders.proofs.Queues.{queue_put}
 use Rattle.pcl_coders.proofs.window.Window.put.Goals as goal
-use Rattle.pcl_coders.proofs.window.Window.put.Goals.{then-loop-stop-test+else-self-stop, else-loop-stop-test}
 
 pub invariant_of-self : goal.invariant_of-self
 invariant_of-self c =

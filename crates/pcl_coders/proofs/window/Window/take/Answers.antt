@@ -2,7 +2,6 @@ use Rattle.std.proofs.Common.{◌<◌, drop, sym, ap, ◌∙◌, arith}
 use Rattle.pcl_coders.proofs.Names.{drop-drop, Numbers}
 use Rattle.pcl_coders.proofs.Queues.{length-in_window, queue_take}
 use Rattle.pcl_coders.proofs.window.Window.take.Goals as goal
-use Rattle.pcl_coders.proofs.window.Window.take.Goals.{then-self, else-self}
 
 pub invariant_of-self : goal.invariant_of-self
 invariant_of-self c =
