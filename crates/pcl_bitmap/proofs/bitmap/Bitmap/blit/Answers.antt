@@ -5,7 +5,6 @@ use Rattle.pcl_bitmap.proofs.Inked.{IsDrawn, drawn}
 use Rattle.pcl_bitmap.proofs.Cut.{line_or, seen_pattern, seen_row, pattern_off}
 use Rattle.pcl_bitmap.proofs.OneInk.{black_stays}
 use Rattle.pcl_bitmap.proofs.bitmap.Bitmap.blit.Goals as goal
-use Rattle.pcl_bitmap.proofs.bitmap.Bitmap.blit.Goals.{then-left-page_width-via-then-left-page_width, then-left-page_width-via-else-left-page_width+then-top-page_height}
 
 -- the page after the pattern
 painted : (c : goal.After-self-2-1) → let a = c.self.inside in
