@@ -1,7 +1,6 @@
 use Rattle.std.proofs.Common.{◌-◌, arith}
 use Rattle.pcl_cert.proofs.Names.{nat_tests}
 use Rattle.pcl_cert.proofs.KeptLists.{trimmed_is}
-use Rattle.pcl_cert.proofs.listing.trimmed.Goals.{then-loop-len-test+else-numbers-len-eq0, else-loop-len-test}
 use Rattle.pcl_cert.proofs.listing.trimmed.Goals as goal
 
 pub returns : goal.returns
