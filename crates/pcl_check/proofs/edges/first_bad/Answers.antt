@@ -17,13 +17,8 @@ ends_grow {rows} {ends} row are lt =
 
 ends_known : {rows : List (List ℕ)} {ends : List ℕ} {last : ℕ} → length rows ≡ last → last ≤ 9999 → AreRunEnds rows ends 0
     → AreEnds ends last
-ends_known count few are = record {
-  size = omega (arith, are.size, count);
-  few = few;
-  above = λ row le. (are.runs row (omega arith) (omega (arith, count))).0;
-  within = λ row le. let is = are.runs row (omega arith) (omega (arith, count)) in omega (arith, is.0, is.1.within, count);
-  grow = λ row lt. ends_grow row are (omega (arith, count));
-}
+ends_known count few are =
+    let grow = λ (row : ℕ). ends_grow row are in grind (arith, are.size, are.runs, grow)
 
 module _ {rows : List (List ℕ)} {ends : List ℕ} (number : Node → ℕ) (method : Method) {row : ℕ}
     (are : AreRunEnds rows ends 0) (le : row ≤ length rows) where
@@ -31,12 +26,8 @@ module _ {rows : List (List ℕ)} {ends : List ℕ} (number : Node → ℕ) (met
       → IsGoodBy ends last Counts number row method inside → IsGoodNumber rows Counts number row method inside
   good_by_rows Counts false count good =
       let is = are.runs row (omega arith) le in
-      record {
-        opens = good.0;
-        ends = λ white.
-            let inked = λ (ink : slice_index ends row < length rows). ink_left is.1 (omega (arith, is.0)) white in
-            grind (arith, inked, good.1, is.0, is.1.within, are.size);
-      }
+      let inked = λ (ink : slice_index ends row < length rows). ink_left is.1 (omega (arith, is.0)) in
+      grind (arith, inked, good, is.0, is.1.within, are.size)
   good_by_rows Counts true count good =
       let is = are.runs row (omega arith) le in
       record {

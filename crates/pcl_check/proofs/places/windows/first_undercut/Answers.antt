@@ -42,11 +42,8 @@ loop-place-preserved c =
     c.min-last.ensures c.put_sums.ensures.numbers c.take.ensures.numbers in
     let Kept : ℕ → Type 0 = IsNotUndercut c.args.numbers.now c.args.sums.now c.args.ends.now c.args.cost c.args.most in
     let here : Kept place = elim c.else-last-place.branch [
-      | else-last-place-via-then-last-place+else-not-is_within w ↦ λ stop past few within. omega (
-        arith,
-        w.is_within.ensures.0 w.if-not-is_within.false,
-        least_below next w.least.ensures stop past (omega (arith, c.min-last.ensures)),
-      )
+      | else-last-place-via-then-last-place+else-not-is_within w ↦ λ stop past few within.
+          grind (arith, w.is_within.ensures, w.if-not-is_within.false, least_below next w.least.ensures stop, c.min-last.ensures)
       | else-last-place-via-else-last-place w ↦ λ stop past few within.
           absurd (omega (arith, c.min-last.ensures, w.if-last-place.false))
     ] in

@@ -1,4 +1,4 @@
-use Rattle.std.proofs.Common.{◌∙◌, arith}
+use Rattle.std.proofs.Common.{arith}
 use Rattle.pcl_check.proofs.Names.{slice_eq-Decides, Decides-eqb, nat_tests}
 use Rattle.pcl_check.proofs.ComparedRows.{first_row, past_rows}
 use Rattle.pcl_check.proofs.reading.comparison.Comparison.has_row.Goals as goal
@@ -11,7 +11,4 @@ returns-then-y-page_height c =
 
 pub returns-else-y-page_height : goal.returns-else-y-page_height
 returns-else-y-page_height c =
-    let past = past_rows c.args.self.now.bitmap.now (omega (arith, c.page_height.ensures)) in (
-      λ yes. absurd (grind (arith, nat_tests)),
-      λ e. let both = e ∙ past in absurd cc,
-    )
+    let past = past_rows c.args.self.now.bitmap.now {y = c.args.y} (omega (arith, c.page_height.ensures)) in grind (arith, nat_tests, past)
