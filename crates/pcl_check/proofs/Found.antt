@@ -16,14 +16,8 @@ Gives One Other last = (row : ℕ) (method : Method) (inside : Bool) → row ≤
 -- another fact that says the same
 finds_too : (One Other : ℕ → Method → Bool → Type 0) {last : ℕ} (found : Option Node) → Gives One Other last → Gives Other One last
     → FindsBad One last found → FindsBad Other last found
-finds_too One Other {last} None to back found = λ row method inside le. to row method inside le (found row method inside le)
-finds_too One Other {last} (Some bad) to back found = record {
-  within = found.within;
-  is_bad = λ other. found.is_bad (back bad.row bad.method bad.inside found.within other);
-  first = λ row method inside before.
-      let le : row ≤ last = grind (arith, method_small method, method_small bad.method, before, found.within) in
-      to row method inside le (found.first row method inside before);
-}
+finds_too One Other None to back found = λ row method inside le. to row method inside le (found row method inside le)
+finds_too One Other (Some bad) to back found = grind (arith, to, back, found.first, method_small)
 
 -- the first number that is bad by one of four facts, which together say another
 pub first_of_four : (A B C D All : ℕ → Method → Bool → Type 0) {last : ℕ} (a b c d : Option Node) {one other found : Option Node}

@@ -24,12 +24,7 @@ first_of_four A B C D last a b c d finds_a finds_b finds_c finds_d first second 
 pub finds_place_too : (One Other : ℕ → Type 0) {last : ℕ} (found : Option ℕ) → ((place : ℕ) → place ≤ last → One place → Other place)
     → ((place : ℕ) → place ≤ last → Other place → One place) → FindsPlace One last found → FindsPlace Other last found
 finds_place_too One Other None to back found = λ place le. to place le (found place le)
-finds_place_too One Other (Some bad) to back found =
-    record {
-      within = found.within;
-      is_bad = λ other. found.is_bad (back bad found.within other);
-      first = λ k lt. to k (omega (arith, found.within)) (found.first k lt);
-    }
+finds_place_too One Other (Some bad) to back found = grind (arith, to, back, found.first)
 
 -- ---- found from the end
 

@@ -66,8 +66,7 @@ loop-row-preserved c =
       | else-last-row-via-then-last-row+else-not-is_within w ↦
           skips_by_window number c.args.digits next c.min-last.ensures w.least.ensures
           (omega (arith, w.number.ensures, w.is_within.ensures.0 w.if-not-is_within.false))
-      | else-last-row-via-else-last-row w ↦ λ count inside some few within.
-          absurd (omega (arith, c.min-last.ensures, w.if-last-row.false))
+      | else-last-row-via-else-last-row w ↦ λ count inside some few within. absurd (omega (arith, c.min-last.ensures, w.if-last-row.false))
     ] in
     record {
       good = below_more Good row c.loop-row.invariant.good here;

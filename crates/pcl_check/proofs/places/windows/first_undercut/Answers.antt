@@ -44,8 +44,7 @@ loop-place-preserved c =
     let here : Kept place = elim c.else-last-place.branch [
       | else-last-place-via-then-last-place+else-not-is_within w ↦ λ stop past few within.
           grind (arith, w.is_within.ensures, w.if-not-is_within.false, least_below next w.least.ensures stop, c.min-last.ensures)
-      | else-last-place-via-else-last-place w ↦ λ stop past few within.
-          absurd (omega (arith, c.min-last.ensures, w.if-last-place.false))
+      | else-last-place-via-else-last-place w ↦ λ stop past few within. absurd (omega (arith, c.min-last.ensures, w.if-last-place.false))
     ] in
     record {
       good = below_more Kept place c.loop-place.invariant.good here;
