@@ -43,16 +43,5 @@ pub use Rattle.std.specs.Prelude.{All, Bool, IfSome, IsTrue, MatchBool, MatchOpt
 pub use Rattle.std.specs.Simd.Lanes.{mask_l, top, zip2}
 pub use Rattle.std.specs.Str.{bytes_eq}
 pub use Rattle.std.specs.Vec.{with_items}
-pub use Rattle.pcl_base.specs.Digits.{AreDigits, is_digit, number_of}
-pub use Rattle.pcl_base.specs.Dpi.{dots_per_inch, fineness, units_per_dot}
-pub use Rattle.pcl_base.specs.Kind.{kind_name}
-pub use Rattle.pcl_base.specs.Limits.{command_limit, macro_limit, row_limit}
-pub use Rattle.pcl_base.specs.Method.{method_code, method_with_code}
-pub use Rattle.pcl_base.specs.Name.{name_bytes}
-pub use Rattle.pcl_base.specs.Operation.{operation_of, takes_data}
-pub use Rattle.pcl_base.specs.Refusal.{refusal, refusal_text}
-pub use Rattle.pcl_base.specs.Size.{code_of, page_height, page_row_bytes, page_width, size_with_code, units_high}
-pub use Rattle.pcl_base.specs.Value.{count_of, is_absent, is_below_zero, is_minus, signed_whole, whole_of, with_sign, zero_value}
-pub use Rattle.pcl_base.specs.Walks.{IsAttained, IsFeasible, IsLeastCost, Walk, total}
-pub use Rattle.pcl_base.specs.declared.dpi.Dpi.{Dpi}
-pub use Rattle.pcl_base.specs.declared.size.Size.{Size}
+pub use Rattle.pcl_base.specs.{Digits.AreDigits, Digits.is_digit, Digits.number_of, Dpi.dots_per_inch, Dpi.fineness, Dpi.units_per_dot, Kind.kind_name, Limits.command_limit, Limits.macro_limit, Limits.row_limit, Method.method_code, Method.method_with_code, Name.name_bytes, Operation.operation_of, Operation.takes_data, Refusal.refusal, Refusal.refusal_text, Size.code_of, Size.page_height, Size.page_row_bytes, Size.page_width, Size.size_with_code, Size.units_high, Value.count_of, Value.is_absent, Value.is_below_zero, Value.is_minus, Value.signed_whole, Value.whole_of, Value.with_sign, Value.zero_value, Walks.IsAttained, Walks.IsFeasible, Walks.IsLeastCost, Walks.Walk, Walks.total}
+pub use Rattle.pcl_base.specs.declared.{dpi.Dpi.Dpi, size.Size.Size}

@@ -1,7 +1,6 @@
 -- Reading row tables: where the lists stand in the bytes.
-use Rattle.std.proofs.Common.{◌≡◌, ℕ, ◌+◌, ◌-◌, ◌*◌, ◌<◌, ◌≤◌, false, List, [], ◌∷◌, ◌++◌, length, take, drop, Result, Ok, Err, sym, ap, ◌∙◌, arith}
+use Rattle.std.proofs.Common.{◌≡◌, ℕ, ◌+◌, ◌-◌, ◌*◌, ◌<◌, ◌≤◌, false, List, [], ◌∷◌, ◌++◌, length, take, drop, Result, Ok, Err, sym, ap, ◌∙◌, arith, nat_lt, if◌then◌else◌}
 use Rattle.pcl_cert.proofs.Names.{w16, AllByRecursion, numbers_from, count_of, list_from, lists_within, IsListAt, ltb-false, le-ltb, drop-drop, length-drop, length-append, map_push, CertFault, Short, Places, ends_in_zero, Fails, behind, uint_at, list_behind, lists_at}
-use Rattle.std.specs.Prelude.{nat_lt, if◌then◌else◌}
 use Rattle.pcl_cert.specs.ReadingCertificates.{list_at}
 use Rattle.pcl_cert.proofs.FieldsRead.{step_ok, passed, same_ok}
 use Rattle.pcl_cert.proofs.Numbers.{numbers_of_front}

@@ -1,7 +1,6 @@
 -- Certificates: whatever is read is spelled so, and what is spelled is read.
-use Rattle.std.proofs.Common.{◌≡◌, ℕ, ◌+◌, ◌^◌, ◌<◌, Bool, true, false, cond, eqb, List, [], ◌++◌, length, take, drop, Some, Result, Ok, Err, refl, sym, ap, ◌∙◌, append_assoc, arith}
+use Rattle.std.proofs.Common.{◌≡◌, ℕ, ◌+◌, ◌^◌, ◌<◌, Bool, true, false, cond, eqb, List, [], ◌++◌, length, take, drop, Some, Result, Ok, Err, refl, sym, ap, ◌∙◌, append_assoc, arith, nat_eq, if◌then◌else◌, IfOk}
 use Rattle.pcl_cert.proofs.Names.{w16, w32, to_be_bytes, flat_map, AllByRecursion, starts_with, Vec, eqb-true, append-nil, nil_from_length, take-append-drop, same_text, Dpi, Size, page_height, page_row_bytes, row_small, height_small, CertFault, BadMagic, Extra, Format, One, Two, PageProof, pair_bytes, row_bytes, table_bytes, lists_bytes, rows_in, proof_bytes, certificate_bytes, AreSmall, HasLists, IsProof, AreProofs, magic, size_with_height, Gives, contents_of, uint_at, format_at, sized, table_at, places_at, proofs_at, nat_tests}
-use Rattle.std.specs.Prelude.{nat_eq, if◌then◌else◌, IfOk}
 use Rattle.pcl_cert.specs.ReadingCertificates.{pair_at, row_numbers_at, proof_at, certificate_at}
 use Rattle.pcl_cert.proofs.FieldsRead.{AreBytes, rest_bytes, Splits, splits_both, step_ok, same_ok, two_bytes, four_bytes}
 use Rattle.pcl_cert.proofs.PagesRead.{tables_are_many, proofs_are_many}

@@ -1,6 +1,5 @@
 -- Rows of a text beside those of a page.
-use Rattle.std.proofs.Common.{◌≡◌, ℕ, ◌-◌, ◌≤◌, Bool, true, false, IsTrue, List, [], ◌++◌, length, take, drop, replicate, refl, sym, subst, ◌∙◌, append_assoc, arith}
-use Rattle.std.specs.Prelude.{◌↔◌}
+use Rattle.std.proofs.Common.{◌≡◌, ℕ, ◌-◌, ◌≤◌, Bool, true, false, IsTrue, List, [], ◌++◌, length, take, drop, replicate, refl, sym, subst, ◌∙◌, append_assoc, arith, ◌↔◌}
 use Rattle.pcl_check.proofs.Names.{length-append, length-replicate, append_assoc, parts_of, of_parts, Dpi, Size, page_height, page_row_bytes, Picture, end_bytes, bitmap_rows, Place, LeftOver, GivesRows, left_at, body_of, AreRowsAt, Advances, IsOnlyPrinted}
 use Rattle.pcl_check.proofs.Fronts.{white_rows}
 use Rattle.pcl_check.proofs.Outside.{end_only, end_prints}

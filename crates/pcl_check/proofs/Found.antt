@@ -1,6 +1,5 @@
 -- The first number that is bad by one of two facts.
-use Rattle.std.proofs.Common.{◌≡◌, ℕ, ◌<◌, ◌≤◌, Bool, refl, ap, arith}
-use Rattle.std.specs.Prelude.{Option, Some, None}
+use Rattle.std.proofs.Common.{◌≡◌, ℕ, ◌<◌, ◌≤◌, Bool, refl, ap, arith, Option, Some, None}
 use Rattle.pcl_check.proofs.Names.{nat_tests, Method, method_code, method_small, Node, inside_code, IsFirstBad, FindsBad, first_found, At, Both}
 
 -- both facts at once

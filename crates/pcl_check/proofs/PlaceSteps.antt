@@ -1,7 +1,6 @@
 -- All elements at a place, kind by kind.
-use Rattle.std.proofs.Common.{◌≡◌, ℕ, ◌+◌, ◌<◌, ◌≤◌, List, length, take, drop, replicate, refl, sym, ap, ◌∙◌, inl, inr, arith}
+use Rattle.std.proofs.Common.{◌≡◌, ℕ, ◌+◌, ◌<◌, ◌≤◌, List, length, take, drop, replicate, refl, sym, ap, ◌∙◌, inl, inr, arith, Some, None}
 use Rattle.pcl_check.proofs.Names.{slice_index, Option, cases_lt, length-drop, length-replicate, get_or_past, Method, Plain, Runs, Packed, Delta, offset_of, Element, given, stop, Shape, IsRowTable, element_of, shape_stop, IsRepeat, plain_shape, runs_shape, packed_shape, delta_shape, IsShapeElement, agrees_gives, byte_step, run_step, repeat_step, literal_step, replace_step, IsGoodPlace, FindsPlace, FindsBadPlace, IsGoodByte, AreGoodRuns, AreGoodLiterals, AreGoodReplacements, AreGoodSteps, first_of_run}
-use Rattle.std.specs.Prelude.{Some, None}
 
 -- ---- from kinds to elements
 

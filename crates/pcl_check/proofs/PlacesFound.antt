@@ -1,7 +1,6 @@
 -- The first place of which one of two facts doesn't hold.
-use Rattle.std.proofs.Common.{◌≡◌, ℕ, zero, suc, ◌+◌, ◌<◌, ◌≤◌, subst, inl, inr, arith}
+use Rattle.std.proofs.Common.{◌≡◌, ℕ, zero, suc, ◌+◌, ◌<◌, ◌≤◌, subst, inl, inr, arith, Some, None}
 use Rattle.pcl_check.proofs.Names.{Option, MatchOption, cases_lt, FindsPlace, first_found_place}
-use Rattle.std.specs.Prelude.{Some, None}
 
 -- both facts
 abbrev pub And : (ℕ → Type 0) → (ℕ → Type 0) → ℕ → Type 0

@@ -1,7 +1,6 @@
 -- The best element of each method.
-use Rattle.std.proofs.Common.{◌≡◌, ℕ, ◌+◌, ◌-◌, ◌*◌, ◌<◌, ◌≤◌, min, List, ◌++◌, length, take, drop, replicate, refl, sym, ap, ◌∙◌, inl, inr, arith}
+use Rattle.std.proofs.Common.{◌≡◌, ℕ, ◌+◌, ◌-◌, ◌*◌, ◌<◌, ◌≤◌, min, List, ◌++◌, length, take, drop, replicate, refl, sym, ap, ◌∙◌, inl, inr, arith, flat_map}
 use Rattle.pcl_coders.proofs.Names.{slice_index, take_at, drop_at, drop-drop, take-append-drop, length-append, length-drop, length-take, length-take-le, length-replicate, get_or-drop, once_each, run_part, first_byte, Method, Plain, Runs, Packed, Delta, head_bytes, offset_of, Element, IsElement, given, stop, Agrees, cost, IsLeastLen, replacement, replacement_bytes, Shape, SingleByte, Run, LiteralRun, RepeatRun, Replace, element_of, shape_stop, IsShapeWithin, IsShapeChoice}
-use Rattle.std.specs.Prelude.{flat_map}
 use Rattle.pcl_coders.proofs.Prefixes.{IsRunLen, IsSameLen}
 use Rattle.pcl_coders.proofs.RowWalks.{stop_within}
 use Rattle.pcl_coders.proofs.Shapes.{given_copies, IsRepeat, plain_shape, runs_shape, packed_shape, delta_shape, replacement_is}

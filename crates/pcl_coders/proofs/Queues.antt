@@ -77,8 +77,7 @@ queue_put {numbers} {places} {put} {first} {end} {number} q room low-end high-en
                 let d = q.covers k low before in
                 let old = old_number k before in
                 elim (cases_lt d.0 end) [
-                  | inl stays ↦
-                      (d.0, d.1, omega arith, omega (arith, d.3, old_place d.0 stays), grind (arith, d, old_number, q.inside d.0))
+                  | inl stays ↦ (d.0, d.1, omega arith, omega (arith, d.3, old_place d.0 stays), grind (arith, d, old_number, q.inside d.0))
                   | inr gone ↦ (end, low-end, omega arith, omega (arith, new_place), grind (arith, d, above d.0, new_place, new_number))
                 ]
           ];

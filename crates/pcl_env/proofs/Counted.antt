@@ -1,6 +1,5 @@
 -- A command that takes some numbers alone.
-use Rattle.std.proofs.Common.{◌≡◌, ℕ, Bool, true, false, List, Some, None, Ok, refl}
-use Rattle.std.specs.Prelude.{if◌then◌else◌}
+use Rattle.std.proofs.Common.{◌≡◌, ℕ, Bool, true, false, List, Some, None, Ok, refl, if◌then◌else◌}
 use Rattle.pcl_base.specs.declared.value.Value.{Value}
 use Rattle.pcl_base.specs.Value.{count_of, whole_of, is_below_zero}
 use Rattle.pcl_env.specs.declared.effect.Effect.TheVariants as page

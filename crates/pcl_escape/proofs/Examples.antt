@@ -1,6 +1,5 @@
 -- Examples worked out by hand from docs/LANGUAGE.md, which the definitions compute.
-use Rattle.std.proofs.Common.{◌≡◌, ℕ, List, [], ◌∷◌, ◌++◌, refl}
-use Rattle.std.specs.Prelude.{codes}
+use Rattle.std.proofs.Common.{◌≡◌, ℕ, List, [], ◌∷◌, ◌++◌, refl, codes}
 use Rattle.pcl_escape.proofs.Names.{NotPcl, Name, Sign, Absent, Plus, Minus, zero_value, field_value, Said, IsReading, IsFault}
 use Rattle.pcl_base.specs.declared.kind.Kind.TheVariants.{Truncated, BadSequence, ValueRange, UnsupportedCommand}
 use Rattle.pcl_base.specs.declared.name.Name.TheVariants.{Empty, One, Two, Three}

@@ -181,5 +181,4 @@ pub lines_again : {place : ℕ} {bytes : List ℕ} {read : Result (List ℕ) ℕ
 lines_again {place} (skipped all rest (to_other_bytes lines each e)) = others_again lines place rest each ∙ at_other_bytes _ (sym e)
 lines_again {place} (skipped all rest (to_pcl lines line each ends l p)) =
     rw (last_joined (λ (bs : List ℕ). bs) lines line rest) (others_again lines place (line ++ rest) each ∙ at_line _ ends ∙ rw (l, p) refl)
-lines_again {place} (foreign lines line rest each ends l p) =
-    others_again lines place (line ++ rest) each ∙ at_line _ ends ∙ rw (l, p) refl
+lines_again {place} (foreign lines line rest each ends l p) = others_again lines place (line ++ rest) each ∙ at_line _ ends ∙ rw (l, p) refl

@@ -3,9 +3,5 @@ pub use Rattle.indexmap.proofs.CallerLemmas.{filter-RetainsPairs}
 pub use Rattle.indexmap.specs.IndexMap.{IndexMap, WritesThrough, get}
 pub use Rattle.std.proofs.lemmas.Bool.{le-leb}
 pub use Rattle.pcl_base.proofs.Names.{IsDistinct, None, Some, ap, arith, eq-eqb, eqb-true, false, keys_of, lookup, lookup-filter-values, lookup-map_values, nat_eq, nat_eq_equiv, nat_tests, option_filter, option_map, refl, rules, subst, sym, take_rest}
-pub use Rattle.pcl_fonts.specs.Fields.{Character, Font, font_of, has_code, has_fixed_bytes, is_character, pattern_bytes, word}
-pub use Rattle.pcl_fonts.specs.History.{FontEvent, character, character_step, control, font_step, header, with_permanent}
-pub use Rattle.pcl_fonts.specs.Table.{Follows, FontTable, HasCharacter, Holds, IsSame, character_at, character_in, character_of, font_at, font_in, info_of, is_there, printed, stored_in}
-pub use Rattle.pcl_fonts.specs.declared.fonts.Entry.{Entry}
-pub use Rattle.pcl_fonts.specs.declared.fonts.FontControl.{FontControl}
-pub use Rattle.pcl_fonts.specs.declared.fonts.FontControl.TheVariants.{MakePermanent, MakeTemporary, One, Temporary}
+pub use Rattle.pcl_fonts.specs.{Fields.Character, Fields.Font, Fields.font_of, Fields.has_code, Fields.has_fixed_bytes, Fields.is_character, Fields.pattern_bytes, Fields.word, History.FontEvent, History.character, History.character_step, History.control, History.font_step, History.header, History.with_permanent, Table.Follows, Table.FontTable, Table.HasCharacter, Table.Holds, Table.IsSame, Table.character_at, Table.character_in, Table.character_of, Table.font_at, Table.font_in, Table.info_of, Table.is_there, Table.printed, Table.stored_in}
+pub use Rattle.pcl_fonts.specs.declared.{fonts.Entry.Entry, fonts.FontControl.FontControl, fonts.FontControl.TheVariants.MakePermanent, fonts.FontControl.TheVariants.MakeTemporary, fonts.FontControl.TheVariants.One, fonts.FontControl.TheVariants.Temporary}

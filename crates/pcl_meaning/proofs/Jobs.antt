@@ -26,8 +26,7 @@ text_read {dpi} {size} {copies} {rows} printed =
 
 body_counted : (tokens : List Token) → length (body_deeds tokens) ≡ command_count tokens
 body_counted [] = refl
-body_counted (token ∷ tokens) =
-    grind (arith, length-append (token_deeds token) (body_deeds tokens), body_counted tokens)
+body_counted (token ∷ tokens) = grind (arith, length-append (token_deeds token) (body_deeds tokens), body_counted tokens)
 
 text_counted : (dpi : Dpi) (size : Size) (copies : ℕ) (tokens : List Token)
     → length (text_deeds dpi size copies tokens) ≡ command_count tokens + 10
@@ -186,8 +185,7 @@ written_again {dpi} texts {pages} h p =
     let fits = job_fits h in
     elim (texts_taken pages p (record { method = refl; height = refl; asked = refl }) (omega (arith, fits))) [
       | taken deeds again settings count read leads alike same few ↦
-          let job = job_accepted settings count read leads (omega (arith, same, fits))
-          (omega (arith, fits, few, few_commands dpi pages)) in
+          let job = job_accepted settings count read leads (omega (arith, same, fits)) (omega (arith, fits, few, few_commands dpi pages)) in
           record {
             again = again;
             meaning = job.meaning;

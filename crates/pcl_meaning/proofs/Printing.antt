@@ -219,8 +219,7 @@ printed_after : {size : Size} {dpi : Dpi} {t : Settings} {d : Deed} {deeds : Lis
     → (dot_from further below x y || is_black newer x y) ≡ (dot_from k rows x y || is_black inked x y))
     → IsPrinted size dpi t (d ∷ deeds) rows k from inked pages
 printed_after {next = next} one fits (is_printed last end seed all count rest black) same =
-    is_printed last end seed all count (lead one (pages_fit next fits) rest)
-    (λ x y within. black x y within ∙ same x y within)
+    is_printed last end seed all count (lead one (pages_fit next fits) rest) (λ x y within. black x y within ∙ same x y within)
 
 body_printed : (inside : Bool) (tokens : List Token) {size : Size} {dpi : Dpi} (t : Settings) {m : Method} {seed : List ℕ}
     (rows : List (List ℕ)) (k : ℕ) (inked : List Mark) (pages : List Sheet) (n : ℕ)

@@ -108,8 +108,7 @@ module _ {S : Type 0} (takes : S → Page → S → Type 0) (dpi : Dpi) (end : �
       → HandsOver takes dpi whole (Err fault) old later
   macros_stopped middle last then later fault b f = it_stopped last later fault (macros_on middle last then later (Err fault) b f)
 
-  pub macros_reached : (middle last : Interpreter) (then later : S) → HasBegun (Ok tt) middle then
-      → ((s : Situation) → IsAt dpi s middle
+  pub macros_reached : (middle last : Interpreter) (then later : S) → HasBegun (Ok tt) middle then → ((s : Situation) → IsAt dpi s middle
       → GoesOn takes dpi all (resumed macro_limit dpi all middle.running.items s) s (Ok tt) last then later)
       → last.running.items ≡ [] → IsReached takes dpi whole after_it last old later
   macros_reached middle last then later b f idle =

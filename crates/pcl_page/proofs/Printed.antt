@@ -1,6 +1,5 @@
 -- What is drawn, text and fonts: the performer follows the situation.
-use Rattle.std.proofs.Common.{◌≡◌, ℕ, suc, ◌+◌, ◌-◌, Bool, true, false, cond, List, ◌∷◌, Option, Some, None, ℤ, pos, negsuc, refl, sym, subst, ◌∙◌, rules, arith}
-use Rattle.std.specs.Prelude.{◌==◌}
+use Rattle.std.proofs.Common.{◌≡◌, ℕ, suc, ◌+◌, ◌-◌, Bool, true, false, cond, List, ◌∷◌, Option, Some, None, ℤ, pos, negsuc, refl, sym, subst, ◌∙◌, rules, arith, ◌==◌}
 use Rattle.pcl_page.proofs.Names.{Dpi, Side, NoFont, Black, Said, Font, Character, FontInfo, info_of, Settings, put_x, advance, font_of, font_in_use, Performer, Printed, Mark, prints, character_mark, are_spaces, is_proportional, text_refusal, behind_character, behind_blank, Situation, with_row_in, raster_for_row, code_printed, codes_printed, character_at, IsIn, IsDrawn, IsInked, IsAtCursor, IsLastInked, IsSent, HasSettings}
 use Rattle.pcl_page.proofs.Turns.{drawn_in}
 

@@ -1,6 +1,5 @@
 -- How far commands and macros bring a performance, and how much work they leave.
-use Rattle.std.proofs.Common.{◌≡◌, ℕ, zero, suc, ◌+◌, ◌-◌, ◌*◌, ◌<◌, ◌≤◌, List, [], ◌∷◌, ◌++◌, length, take, drop, Option, Some, None, Result, Ok, Err, refl, sym, ap, ◌∙◌, length-append, suc-mul, arith, inl, inr, rules, is_some}
-use Rattle.std.specs.Prelude.{◌⊎◌, slice_get}
+use Rattle.std.proofs.Common.{◌≡◌, ℕ, zero, suc, ◌+◌, ◌-◌, ◌*◌, ◌<◌, ◌≤◌, List, [], ◌∷◌, ◌++◌, length, take, drop, Option, Some, None, Result, Ok, Err, refl, sym, ap, ◌∙◌, length-append, suc-mul, arith, inl, inr, rules, is_some, ◌⊎◌, slice_get}
 use Rattle.pcl_page.proofs.Names.{Dpi, CallFault, JobFault, Kind, Refusal, macro_limit, refusal, Settings, Said, Page, Interpreter, Running, Situation, Run, after_command, run_of, macro_ended, Performance, stopped, then_on, step, commands_left, runs, HandsMore, IsAt, run_in, entered, Enters, rest_of, resumed, begun_among, left_in, work_left, GoesOn, IsStepped}
 use Rattle.pcl_base.specs.declared.fault.CallFault.TheVariants as call
 use Rattle.pcl_base.specs.declared.fault.JobFault.TheVariants as job

@@ -11,8 +11,7 @@ pub stays_there : (s : Situation) → Onward s s
 stays_there s = ([], sym (append-nil s.pages), omega arith)
 
 pub onward_on : (s middle now : Situation) → Onward s middle → Onward middle now → Onward s now
-onward_on s middle now a b =
-    (a.0 ++ b.0, rw (b.1, a.1) (append_assoc s.pages a.0 b.0), omega (arith, a.2, b.2, length-append a.0 b.0))
+onward_on s middle now a b = (a.0 ++ b.0, rw (b.1, a.1) (append_assoc s.pages a.0 b.0), omega (arith, a.2, b.2, length-append a.0 b.0))
 
 module _ {S : Type 0} (takes : S → Page → S → Type 0) (dpi : Dpi) where
   pub hands_append : (front back : List Sheet) (old middle new : S) → Hands takes dpi front old middle → Hands takes dpi back middle new

@@ -1,6 +1,5 @@
 -- The performer follows the situation, command by command.
-use Rattle.std.proofs.Common.{◌≡◌, ℕ, ◌+◌, ◌<◌, ◌≤◌, Bool, true, false, cond, nat_le, List, [], ◌∷◌, ◌++◌, length, Option, Some, None, Result, Ok, Err, refl, sym, ap, ◌∙◌, append-nil, length-append, inl, inr, arith, rules}
-use Rattle.std.specs.Prelude.{is_some, ◌&&◌}
+use Rattle.std.proofs.Common.{◌≡◌, ℕ, ◌+◌, ◌<◌, ◌≤◌, Bool, true, false, cond, nat_le, List, [], ◌∷◌, ◌++◌, length, Option, Some, None, Result, Ok, Err, refl, sym, ap, ◌∙◌, append-nil, length-append, inl, inr, arith, rules, is_some, ◌&&◌}
 use Rattle.pcl_page.proofs.Names.{nat_tests, Dpi, CallFault, Refused, Memory, Kind, TooManyPages, Operation, FillRectangle, ControlFonts, DownloadFont, DownloadCharacter, PrintText, command_limit, operation_of, is_below_zero, Said, Effect, Stay, Settings, defaults, Outcome, stays, Page, Performer, ends_raster, is_ignored_in_raster, Shows, IsIn, IsEjected, Takes, Draws, HandsMore, IsTurned, IsTried, Asked, asks_of}
 use Rattle.pcl_env.specs.Outcome.{outcome}
 use Rattle.pcl_page.specs.Situation.{Sheet, Situation, turned_page, without_temporary, draw_refusal, unless_refused, ◌|>◌, drawn_on, end_raster, is_marked, sheet_of, turned, turned_by, drawn, counted, prepared, is_ignored, after, after_named, at_end, page_refusal, within_page_limit, tried}

@@ -153,8 +153,7 @@ module _ {S : Type 0} (takes : S → Page → S → Type 0) (dpi : Dpi) (operati
         let count = length-append s.pages (sheet_of s ∷ []) in
         let counted : new.ejected ≡ length (s.pages ++ sheet_of s ∷ []) =
         omega (arith, f.ejected, e.0.ejected, ejected, i.ejected, count) in
-        rw (d.1, d.3)
-        (search (rules, counted, f.fonts, e.0.fonts, fonts, white_painted size resolution (f.white e.0.white)), h.0, h.1)
+        rw (d.1, d.3) (search (rules, counted, f.fonts, e.0.fonts, fonts, white_painted size resolution (f.white e.0.white)), h.0, h.1)
 
     -- memory ran out after the page was handed over
     pub turned_short : (new : Performer) → IsTurned takes dpi comes_to s (Err Memory) new sink later

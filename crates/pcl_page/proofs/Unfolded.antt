@@ -1,6 +1,5 @@
 -- Performances of commands and of macros, unfolded.
-use Rattle.std.proofs.Common.{◌≡◌, ℕ, zero, suc, ◌+◌, ◌-◌, ◌<◌, Bool, true, false, cond, List, [], ◌∷◌, ◌++◌, length, Option, Some, None, Result, Ok, Err, refl, sym, ◌∙◌, append-nil, arith, inl, inr}
-use Rattle.std.specs.Prelude.{is_some, ◌⊎◌}
+use Rattle.std.proofs.Common.{◌≡◌, ℕ, zero, suc, ◌+◌, ◌-◌, ◌<◌, Bool, true, false, cond, List, [], ◌∷◌, ◌++◌, length, Option, Some, None, Result, Ok, Err, refl, sym, ◌∙◌, append-nil, arith, inl, inr, is_some, ◌⊎◌}
 use Rattle.pcl_page.proofs.Names.{Dpi, Kind, MacroDepth, Operation, ControlMacros, Value, macro_limit, operation_of, Settings, Said, Running, Action, Keeping, Situation, tried, Run, action_of, keeping_of, acted, managed, counting, defining, after_command, run_of, macro_ended, Performance, done, stopped, unless, then_on, in_order, concluded, and_run, step, commands_left, runs, run_in, entered, HasLevel, rest_of, resumed, begun_among}
 use Rattle.pcl_page.proofs.Keeping.{then_from, is_counted}
 use Rattle.pcl_page.proofs.Sinks.{Onward, stays_there, onward_on}

@@ -30,8 +30,7 @@ rest_bytes {whole = whole} left front past small = skipped_bytes left past (afte
 -- ---- readings
 
 -- bytes 255 to the end, or up to one that is less
-further_begins : (bytes : List ℕ) → AreBytes bytes
-    → (full last : ℕ) × (last < 255) × Begins bytes (replicate full 255 ++ last ∷ [])
+further_begins : (bytes : List ℕ) → AreBytes bytes → (full last : ℕ) × (last < 255) × Begins bytes (replicate full 255 ++ last ∷ [])
 further_begins [] small = (0, 0, omega arith, (0 ∷ [], refl))
 further_begins (byte ∷ bytes) small =
     elim (cases_lt byte 255) [

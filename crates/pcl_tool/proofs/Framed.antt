@@ -1,6 +1,5 @@
 -- What stands between two resets.
-use Rattle.std.proofs.Common.{◌≡◌, ℕ, List, ◌++◌, Option, Some, None, sym, ◌∙◌}
-use Rattle.std.specs.Prelude.{◌≢◌, MatchOption}
+use Rattle.std.proofs.Common.{◌≡◌, ℕ, List, ◌++◌, Option, Some, None, sym, ◌∙◌, ◌≢◌, MatchOption}
 use Rattle.pcl_tool.proofs.Names.{Bor, append_cancel_left, frame_bytes}
 
 -- the front is a reset, and what stands after it ends in one or doesn't

@@ -1,6 +1,5 @@
 -- What a sink holds that made images of the pages of a job.
-use Rattle.std.proofs.Common.{◌≡◌, ℕ, suc, zero, List, [], ◌∷◌, ◌++◌, length, Bool, true, false, Option, Result, Ok, Err, refl, sym, ap, subst, ◌∙◌, arith, append_assoc, append-nil, eqb}
-use Rattle.std.specs.Prelude.{◌↔◌}
+use Rattle.std.proofs.Common.{◌≡◌, ℕ, suc, zero, List, [], ◌∷◌, ◌++◌, length, Bool, true, false, Option, Result, Ok, Err, refl, sym, ap, subst, ◌∙◌, arith, append_assoc, append-nil, eqb, ◌↔◌}
 use Rattle.pcl_tool.proofs.Names.{sub-one, take-nil, drop-nil, nat_tests, Keeps-refl, Dpi, Page, Sheet, HasPages, AllShow, Hands, Fault, Refused, Memory, WriteFault, NoSuchPage, PageChoice, All, Range, IsWritten, chosen, AreThere, images_of, AreImagesOf, LacksPage, ArePageImages, IsPagesPreview, Showing, later, next_image, shown_after, IsMet, IsMetBy}
 
 abbrev pub shows_next : Showing → Page → Showing → Type 0

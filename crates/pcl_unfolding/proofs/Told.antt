@@ -1,6 +1,5 @@
 -- Performing and unfolding say the same.
-use Rattle.std.proofs.Common.{◌≡◌, ◌++◌, append_assoc, length-append, ℕ, ◌+◌, ◌-◌, zero, suc, Bool, true, false, List, [], ◌∷◌, length, Option, Some, None, Result, Ok, Err, refl, sym, ap, subst, ◌∙◌, if◌then◌else◌, arith}
-use Rattle.std.specs.Prelude.{◌&&◌}
+use Rattle.std.proofs.Common.{◌≡◌, ◌++◌, append_assoc, length-append, ℕ, ◌+◌, ◌-◌, zero, suc, Bool, true, false, List, [], ◌∷◌, length, Option, Some, None, Result, Ok, Err, refl, sym, ap, subst, ◌∙◌, if◌then◌else◌, arith, ◌&&◌}
 use Rattle.pcl_unfolding.proofs.Names.{end_of, option_map, Dpi, Kind, Operation, ControlMacros, Refusal, Value, macro_limit, operation_of, Settings, kept, Said, MacroBody, Action, Call, Keeping, Ends, Situation, Run, run_with, run_by, run_from, macro_ended, keeping_of, counting, defining, after_command, Performance, done, then_on, in_order, concluded, and_run, step, runs, after_end, Item, performed, enter, situations, now, ago, or_as_before, Unfolding, goes_on, unless, in_turn, keeps, control_in, body_run, commands_in, Bodies, with_body, with_command, add, ended_by, unfolded, performed_by, PerformingIsUnfolding}
 use Rattle.pcl_page.specs.Performing.{unless as unless_performed}
 
@@ -90,8 +89,7 @@ module _ (dpi : Dpi) (run : Said → Run → Situation → Performance) (bodies 
 
   -- a command by what it leads to
   led_told : (place : ℕ) (command : Said) (control : Option Action) (items : List Item) (led : Result Situation Kind)
-      → after_command dpi place command (now dpi items) ≡ led
-      → IsTold dpi items
+      → after_command dpi place command (now dpi items) ≡ led → IsTold dpi items
       (then_on (concluded command (now dpi items) led) (λ (later : Situation). and_run (run command) (run_with_body control later) later))
       (with_command bodies place command control led items)
   led_told place command control items (Err kind) e = (refl, ([], refl))

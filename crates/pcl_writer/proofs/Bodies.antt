@@ -1,7 +1,6 @@
 -- The body of a page along the steps of its plan.
-use Rattle.std.proofs.Common.{◌≡◌, ℕ, ◌≤◌, Bool, true, false, List, [], ◌∷◌, ◌++◌, length, drop, refl, sym, ap, subst, ◌∙◌, inl, inr, append_assoc, arith}
+use Rattle.std.proofs.Common.{◌≡◌, ℕ, ◌≤◌, Bool, true, false, List, [], ◌∷◌, ◌++◌, length, drop, refl, sym, ap, subst, ◌∙◌, inl, inr, append_assoc, arith, not, ◌&&◌, ◌==◌}
 use Rattle.pcl_writer.proofs.Names.{drop_of_length-le, cases_lt, nat_tests, flat_map, append-nil, drop_more, flat_map-append, Method, method_code, Picture, IsLeastLength, AppendsLeast, Walk, total, IsFeasible, Step, Skip, Switch, Row, Token, opening, method, skip, send, token_bytes, IsSpelled, bitmap_rows, Node, start, row_at, Leads, Ends, cost, stays_inside, node_after, least_spelling, node_number, StepsAndTable, IsTokenOf, opened, is_last, node, cost_opening, cost_send, least_alone, opened_more, spells_any, step_is_least, sent_is_least, width_of, above, IsBitmapPlan, IsWritable, HasRowData, AppendsRow, AppendsStep, AppendsBody}
-use Rattle.std.specs.Prelude.{not, ◌&&◌, ◌==◌}
 use Rattle.pcl_plan.specs.Plans.{Spells}
 
 pub page_joined : (old : List ℕ) {one two three : List ℕ} (start body tail : List ℕ) → one ≡ old ++ start → two ≡ one ++ body

@@ -1,5 +1,4 @@
-use Rattle.std.proofs.Common.{◌≡◌, ℕ, ◌-◌, Bool, true, false, List, length, arith}
-use Rattle.std.specs.Prelude.{◌↔◌}
+use Rattle.std.proofs.Common.{◌≡◌, ℕ, ◌-◌, Bool, true, false, List, length, arith, ◌↔◌}
 use Rattle.pcl_check.proofs.Names.{Method, Node, AreGoodSwitches, At, Both, IsGoodStart, IsGoodSending, AreGoodSkipsTo, IsGoodIn, page_height, node_number}
 use Rattle.pcl_check.proofs.Found.{first_of_four}
 use Rattle.pcl_check.proofs.edges.first_bad_in.Goals as goal

@@ -1,5 +1,4 @@
-use Rattle.std.proofs.Common.{◌≡◌, ℕ, ◌<◌, Bool, true, false, IsTrue, List, ◌++◌, length, take, Some, refl, sym, ap, ◌∙◌, append_assoc, arith, ◌==◌}
-use Rattle.std.specs.Prelude.{◌↔◌}
+use Rattle.std.proofs.Common.{◌≡◌, ℕ, ◌<◌, Bool, true, false, IsTrue, List, ◌++◌, length, take, Some, refl, sym, ap, ◌∙◌, append_assoc, arith, ◌==◌, ◌↔◌}
 use Rattle.pcl_check.proofs.Names.{flat_map, take_all, append_cancel_left, append_assoc, Dpi, Size, page_height, page_row_bytes, Picture, token_bytes, start_bytes, end_bytes, IsPageText, bitmap_rows, length_rows, Start, IsStart, RestPrints, body_of, IsBodyVerdict, raster_start, Page, Decides-eqb, the_type}
 use Rattle.pcl_check.proofs.Beginnings.{BeginsAs, begins_size, size_coded, size_read, same_size}
 use denote.Enum.Bare.{sameb, same_true, true_same}

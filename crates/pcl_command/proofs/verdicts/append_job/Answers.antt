@@ -1,5 +1,4 @@
-use Rattle.std.proofs.Common.{◌≡◌, ◌++◌, List, ℕ, Result, Ok, Err, append_assoc}
-use Rattle.std.specs.Prelude.{OnOk, is_ok, if◌then◌else◌, codes}
+use Rattle.std.proofs.Common.{◌≡◌, ◌++◌, List, ℕ, Result, Ok, Err, append_assoc, OnOk, is_ok, if◌then◌else◌, codes}
 use Rattle.pcl_command.proofs.Appended.{then_appended}
 use Rattle.pcl_command.proofs.verdicts.append_job.Goals as goal
 

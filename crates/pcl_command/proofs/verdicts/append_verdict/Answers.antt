@@ -1,5 +1,4 @@
-use Rattle.std.proofs.Common.{◌≡◌, ◌++◌, ◌∙◌, ℕ, Bool, List, Result, Ok, Err, sym, ap, append_assoc}
-use Rattle.std.specs.Prelude.{OnOk, is_ok, if◌then◌else◌, codes}
+use Rattle.std.proofs.Common.{◌≡◌, ◌++◌, ◌∙◌, ℕ, Bool, List, Result, Ok, Err, sym, ap, append_assoc, OnOk, is_ok, if◌then◌else◌, codes}
 use Rattle.pcl_command.proofs.Names.{Bor, Method, Edge, numbers_text, side_text, verdict_text}
 use Rattle.pcl_command.proofs.verdicts.append_verdict.Goals as goal
 use Rattle.pcl_command.proofs.verdicts.append_verdict.Goals.{then-inside, else-inside}

@@ -2,8 +2,7 @@ use Rattle.std.proofs.Common.{◌≢◌, ◌≡◌, ◌∙◌, ℕ, All, subst, 
 use Rattle.std.proofs.lemmas.Bool.Decides.{Decides-eqb}
 use Rattle.std.proofs.lemmas.List.Elements.{All-more, All-nil}
 use Rattle.std.proofs.lemmas.Slice.Eq.{slice_eq-Decides}
-use Rattle.pcl_base.specs.declared.kind.Kind.{Kind}
-use Rattle.pcl_base.specs.declared.kind.Kind.TheVariants.{Truncated}
+use Rattle.pcl_base.specs.declared.kind.Kind.{Kind, TheVariants.Truncated}
 use Rattle.pcl_base.specs.Kind.{kind_name}
 use Rattle.pcl_explain.proofs.AllKinds.{kinds, of_each}
 use Rattle.pcl_explain.proofs.kinds.kind_named.Goals as goal

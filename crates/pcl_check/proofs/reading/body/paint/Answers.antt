@@ -1,5 +1,4 @@
-use Rattle.std.proofs.Common.{◌≡◌, ℕ, ◌≤◌, Bool, true, false, IsTrue, List, length, refl, sym, subst, ◌∙◌}
-use Rattle.std.specs.Prelude.{◌↔◌}
+use Rattle.std.proofs.Common.{◌≡◌, ℕ, ◌≤◌, Bool, true, false, IsTrue, List, length, refl, sym, subst, ◌∙◌, ◌↔◌}
 use Rattle.pcl_check.proofs.Names.{Dpi, Method, Size, page_width, page_row_bytes, dot_of_row, IsRowData, decoded_is, IsPaintedRow}
 use Rattle.pcl_check.proofs.reading.body.paint.Goals as goal
 

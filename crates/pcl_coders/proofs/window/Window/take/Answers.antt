@@ -11,5 +11,4 @@ invariant_of-self c =
     queue_take c.self.invariant some (grind (arith, c.if-self.branch)) (grind (arith, c.if-self.branch))
 
 pub returns-clause-numbers : goal.returns-clause-numbers
-returns-clause-numbers c =
-    sym (drop-drop 1 c.self.inside.taken _) ∙ ap (λ (v : Numbers). drop 1 v.numbers) c.self.view_is
+returns-clause-numbers c = sym (drop-drop 1 c.self.inside.taken _) ∙ ap (λ (v : Numbers). drop 1 v.numbers) c.self.view_is
