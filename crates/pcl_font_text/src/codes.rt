@@ -14,7 +14,7 @@ const FONT_LIMIT: usize = 16;
 const SPACE: u8 = 32;
 
 /// A character's place: the number of its font, from 0, and its code.
-#[derive(Clone, Copy, Debug)]
+#[derive(Clone, Copy)]
 pub struct Code {
     pub font: usize,
     pub code: u8,

@@ -12,7 +12,7 @@ const SHIFT_IN: u8 = 15;
 const SHIFT_OUT: u8 = 14;
 
 /// What the printer has been told: where its cursor is, and which fonts are selected.
-#[derive(Clone, Copy, Debug)]
+#[derive(Clone, Copy)]
 pub struct Pen {
     /// The dot of the cursor.
     pub x: u32,

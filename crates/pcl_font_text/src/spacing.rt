@@ -16,7 +16,7 @@ const BLANK_LIMIT: usize = 30;
 const BLANK_USES: u32 = 8;
 
 /// A glyph with an advance.
-#[derive(Clone, Copy, Debug, PartialEq, Eq, Hash)]
+#[derive(Clone, Copy, PartialEq, Eq, Hash)]
 pub struct Character {
     /// The number of the glyph.
     pub glyph: u32,

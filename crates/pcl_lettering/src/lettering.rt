@@ -6,7 +6,7 @@ use pcl_bitmap::Page;
 use pcl_font_text::{Layout, append_fonts, lay_out};
 use pcl_letters::{find_letters, join_shapes};
 use pcl_macro_text::{MacroLayout, append_definitions, lay_out_macros};
-use pcl_patterns::Form;
+use pcl_patterns::{Form, Letters};
 use pcl_shapes::Collection;
 use std::alloc::{AllocError, Global};
 
@@ -23,6 +23,15 @@ impl Lettering {
         let mut collection = collection;
         join_shapes(alloc, &mut collection)?;
         let letters = find_letters(alloc, &collection)?;
+        Lettering::laid_out(alloc, collection, letters)
+    }
+
+    /// These letters of pages that were collected, laid out as their resolution wants.
+    fn laid_out(
+        alloc: Global,
+        collection: Collection,
+        letters: Letters,
+    ) -> Result<Lettering, AllocError> {
         let Collection {
             form,
             widths,

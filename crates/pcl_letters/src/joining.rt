@@ -17,7 +17,7 @@ const CODE_BYTES: usize = 2;
 const PAIR_LIMIT: usize = 65_536;
 
 /// Two patterns in turn on a line that have columns in common, and how they stand. The first one begins further left.
-#[derive(Clone, Copy, Debug, PartialEq, Eq, Hash)]
+#[derive(Clone, Copy, PartialEq, Eq, Hash)]
 struct Pair {
     /// The number of the first pattern.
     first: u32,

@@ -5,7 +5,7 @@ use pcl_patterns::Letter;
 use std::alloc::{AllocError, Global};
 
 /// What a macro prints.
-#[derive(Clone, Copy, Debug, PartialEq, Eq, Hash)]
+#[derive(Clone, Copy, PartialEq, Eq, Hash)]
 pub enum Mark {
     /// The glyph of this number. Then the cursor advances.
     Glyph(u32),
@@ -16,7 +16,7 @@ pub enum Mark {
 }
 
 /// A line of letters.
-#[derive(Clone, Copy, Debug)]
+#[derive(Clone, Copy)]
 pub struct Line {
     /// The number of its page, from 0.
     pub page: u32,

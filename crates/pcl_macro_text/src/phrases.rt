@@ -26,7 +26,7 @@ pub struct Phrase {
 }
 
 /// Two marks in turn.
-#[derive(Clone, Copy, Debug, PartialEq, Eq, Hash)]
+#[derive(Clone, Copy, PartialEq, Eq, Hash)]
 struct Pair {
     first: Mark,
     second: Mark,

@@ -2,7 +2,6 @@
 
 use crate::parts::ROW_BYTES;
 use crate::patterns::{Changes, Pattern};
-use pcl_base::Dpi;
 
 /// The bytes around a pattern where it is sent as a character: the commands, with the descriptor's 16 bytes.
 const CHARACTER_BYTES: usize = 29;
@@ -12,7 +11,7 @@ const CHARACTER_BYTES: usize = 29;
 const MACRO_BYTES: usize = 50;
 
 /// How letters are printed.
-#[derive(Clone, Copy, Debug, PartialEq, Eq)]
+#[derive(Clone, Copy)]
 pub enum Form {
     /// By characters of soft fonts: at 300 dots per inch, since a bit of a font is a dot of these.
     Characters,
@@ -21,14 +20,6 @@ pub enum Form {
 }
 
 impl Form {
-    /// The form for pages of so many dots per inch.
-    pub fn at(dpi: Dpi) -> Form {
-        match dpi {
-            Dpi::Dpi300 => Form::Characters,
-            Dpi::Dpi600 => Form::Macros,
-        }
-    }
-
     /// How many dots at this resolution are one at 300 dots per inch.
     pub fn scale(self) -> u32 {
         match self {

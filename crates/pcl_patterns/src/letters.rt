@@ -5,7 +5,7 @@ use crate::patterns::Pattern;
 use indexmap::IndexSet;
 
 /// A pattern, and where it stands on a line.
-#[derive(Clone, Copy, Debug, PartialEq, Eq, Hash)]
+#[derive(Clone, Copy, PartialEq, Eq, Hash)]
 pub struct Glyph {
     /// The number of the pattern.
     pub pattern: u32,
@@ -14,7 +14,7 @@ pub struct Glyph {
 }
 
 /// A shape that is printed as a letter. Their order is that of printing: by pages, by lines, and from left to right.
-#[derive(Clone, Copy, Debug, PartialEq, Eq, PartialOrd, Ord)]
+#[derive(Clone, Copy, PartialEq, Eq, PartialOrd, Ord)]
 pub struct Letter {
     /// The number of the page, from 0.
     pub page: u32,

@@ -13,7 +13,7 @@ pub const FINE: i64 = 256;
 pub const ROW_BYTES: usize = 5;
 
 /// A row of a page.
-#[derive(Clone, Copy, Debug)]
+#[derive(Clone, Copy)]
 pub struct Row {
     /// About how many bytes its data take, with all shapes in it.
     pub bytes: u16,

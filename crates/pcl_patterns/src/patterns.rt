@@ -9,7 +9,7 @@ use std::alloc::{AllocError, Global};
 const SIDE_LIMIT: u32 = 400;
 
 /// The dots of a shape.
-#[derive(Clone, Copy, Debug)]
+#[derive(Clone, Copy)]
 pub struct Pattern<'a> {
     /// In dots.
     pub width: u32,
@@ -64,7 +64,7 @@ impl<'a> Pattern<'a> {
 }
 
 /// A pattern that is drawn.
-#[derive(Debug, Drop)]
+#[derive(Drop)]
 pub struct Drawing {
     /// In dots.
     width: u32,
@@ -116,7 +116,7 @@ impl Drawing {
 }
 
 /// How much of a pattern differs from the row above, where a white row stands above the uppermost one.
-#[derive(Clone, Copy, Debug)]
+#[derive(Clone, Copy)]
 pub struct Changes {
     /// The rows that differ.
     pub rows: usize,

@@ -5,14 +5,14 @@ ghost use Rattle.std.specs.Prelude.{◌<◌};
 use crate::patterns::PatternRows;
 
 /// What the dots of a pattern become.
-#[derive(Clone, Copy, Debug, PartialEq, Eq)]
+#[derive(Clone, Copy)]
 pub enum Ink {
     Black,
     White,
 }
 
 /// A dot, so far right and down.
-#[derive(Clone, Copy, Debug)]
+#[derive(Clone, Copy)]
 pub struct Place {
     pub x: u32,
     pub y: u32,

@@ -85,17 +85,27 @@ impl<'w> Entry<'w> {
         let file = self.file;
         let outcome = self.outcome.name();
         let status = self.status;
-        let dpi = number(alloc, self.dpi)?;
-        let pages = number(alloc, self.pages)?;
-        let input = sum_columns(alloc, self.input.as_ref())?;
-        let output = sum_columns(alloc, self.output.as_ref())?;
+        let seen = self.seen_columns(alloc)?;
+        let sums = self.files_columns(alloc)?;
         let said = match &self.said {
             Some(said) => said.as_str(),
             None => "-",
         };
-        format!(in alloc;
-            "{file}\t{outcome}\t{status}\t{dpi}\t{pages}\t{input}\t{output}\t{said}\n"
-        )
+        format!(in alloc; "{file}\t{outcome}\t{status}\t{seen}\t{sums}\t{said}\n")
+    }
+
+    /// The columns of the resolution and the pages.
+    fn seen_columns(&self, alloc: Global) -> Result<String, AllocError> {
+        let dpi = number(alloc, self.dpi)?;
+        let pages = number(alloc, self.pages)?;
+        format!(in alloc; "{dpi}\t{pages}")
+    }
+
+    /// The columns of the job as it came and as it is written.
+    fn files_columns(&self, alloc: Global) -> Result<String, AllocError> {
+        let input = sum_columns(alloc, self.input.as_ref())?;
+        let output = sum_columns(alloc, self.output.as_ref())?;
+        format!(in alloc; "{input}\t{output}")
     }
 }
 

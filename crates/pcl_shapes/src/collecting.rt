@@ -60,7 +60,7 @@ impl Collection {
     /// No page yet, of pages of so many dots per inch.
     pub fn new(alloc: Global, dpi: Dpi) -> Collection {
         Collection {
-            form: Form::at(dpi),
+            form: form_at(dpi),
             widths: Vec::new(alloc),
             heights: Vec::new(alloc),
             patterns: Patterns::new(alloc),
@@ -77,14 +77,24 @@ impl Collection {
 
     /// Collects the shapes of a page, and what its rows take.
     fn collect(&mut self, page: &Page) -> Result<(), AllocError> {
-        let shapes = find_shapes(*self.items.allocator(), &page.bitmap)?;
         let first = self.rows.len();
         append_rows(&page.bitmap, &mut self.rows)?;
-        let stay = self.screen(&shapes, first)?;
+        let shapes = find_shapes(*self.items.allocator(), &page.bitmap)?;
+        self.collect_found(page, &shapes, first)
+    }
+
+    /// Collects the shapes of a page that were found, unless none of them can be a letter. The first row of the page is in this place.
+    fn collect_found(
+        &mut self,
+        page: &Page,
+        shapes: &Shapes,
+        first: usize,
+    ) -> Result<(), AllocError> {
+        let stay = self.screen(shapes, first)?;
         if stay.iter().all(|stays| *stays) {
             return Ok(());
         }
-        self.collect_shapes(page, &shapes, &stay, first)
+        self.collect_shapes(page, shapes, &stay, first)
     }
 
     /// Which of the shapes of a page whose first row is in this place can't be letters.
@@ -170,6 +180,14 @@ impl Collection {
             pattern,
         })?;
         Ok(())
+    }
+}
+
+/// How letters of pages of so many dots per inch are printed.
+fn form_at(dpi: Dpi) -> Form {
+    match dpi {
+        Dpi::Dpi300 => Form::Characters,
+        Dpi::Dpi600 => Form::Macros,
     }
 }
 

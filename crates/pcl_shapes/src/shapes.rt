@@ -71,11 +71,22 @@ pub fn find_shapes(alloc: Global, bitmap: &Bitmap) -> Result<Shapes, AllocError>
     };
     let mut runs = KeptRuns::new(alloc, bitmap.dpi());
     for y in 0..bitmap.size().height(bitmap.dpi()) {
-        walk.step(bitmap, y)?;
-        labels.add_row(short_number(y), &walk.runs, &walk.links)?;
-        runs.keep(&walk.runs)?;
+        find_in_row(bitmap, y, &mut walk, &mut labels, &mut runs)?;
     }
     Ok(labels.into_shapes(runs))
+}
+
+/// Labels the runs of row `y`, the next one, and keeps them.
+fn find_in_row(
+    bitmap: &Bitmap,
+    y: u32,
+    walk: &mut RowWalk,
+    labels: &mut Labels,
+    runs: &mut KeptRuns,
+) -> Result<(), AllocError> {
+    walk.step(bitmap, y)?;
+    labels.add_row(short_number(y), &walk.runs, &walk.links)?;
+    runs.keep(&walk.runs)
 }
 
 /// The labels of runs so far.
