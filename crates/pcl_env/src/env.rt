@@ -31,7 +31,7 @@ const COLUMN: u32 = INCH / 10;
 
 /// What a job has set so far, and its cursor (docs/LANGUAGE.md, "Environment"). Lengths and positions
 /// are in units of 1/7200 inch, but for those of a raster.
-#[derive(Debug, Drop)]
+#[derive(Drop)]
 pub struct Env {
     size: Size,
     cursor: Position,
@@ -40,7 +40,7 @@ pub struct Env {
 }
 
 /// The settings that the return of a macro call puts back.
-#[derive(Clone, Copy, Debug)]
+#[derive(Clone, Copy)]
 struct Setup {
     copies: u8,
     pcl_unit: u32,
@@ -90,7 +90,7 @@ impl Model for Env {
 }
 
 /// What a macro call keeps of the settings, to put it back when it returns.
-#[derive(Debug, Drop)]
+#[derive(Drop)]
 pub struct Saved {
     setup: Setup,
 }

@@ -16,7 +16,7 @@ pub struct Position {
 }
 
 /// The positions that a job has pushed, `STACK_LIMIT` at most.
-#[derive(Debug, Drop)]
+#[derive(Drop)]
 pub struct Stack {
     places: ArrayVec<Position, STACK_LIMIT>,
 }
