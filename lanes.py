@@ -9,9 +9,9 @@ crate high up reads a tenth of what `rt check` has it read. What is stated is ke
 beside it, and a crate is built again once a file of it, or of a crate below, or the kit has changed. A program is left in
 crates/NAME/out/NAME, a static library in crates/NAME/out/libNAME.a.
 
-A crate has one job, since two take a third more of the processors, unless there are fewer crates to build than processors. There are a
-few jobs more than processors, since a crate is read by one job alone, and all but those of the crate that most work waits for are nice.
-LANES bounds how many processors are taken.
+There are as many jobs as processors. The crate that most work waits for has two of them, and the others one, since two take a third
+more of the processors, unless there are fewer crates to build than processors; and all but the first are nice. LANES bounds how many
+processors are taken.
 
     lanes.py --check pcl_tool [FLAG..]
 
@@ -38,7 +38,7 @@ KIT = pathlib.Path(subprocess.run(["rt", "doc"], stdout=subprocess.PIPE, text=Tr
 FIRST_JOB = 3_000_000_000  # bytes that a large check may take with one job
 FURTHER_JOB = 1_000_000_000  # bytes of each further job
 READING = 10  # seconds that a check reads before it proves anything
-SPARE = 2  # so many jobs more than processors
+FIRST_JOBS = 2  # of the crate that most work waits for
 MOST_JOBS = 4  # of a crate
 
 
@@ -62,10 +62,10 @@ class Crate:
 
     @functools.cached_property
     def work(self):
-        """About how many seconds its proofs take: one a function, and one for each `?`, a way out where all is dropped that is alive
-        there. Lines of proof say little."""
+        """About how many seconds its proofs take: one a function, one for each contract, and one for each `?`, a way out where all is
+        dropped that is alive there. Lines of proof say little."""
         texts = [it.read_text() for it in (self.folder / "src").rglob("*.rt")]
-        return READING + sum(it.count("fn ") + it.count("?") for it in texts)
+        return READING + sum(text.count(word) for text in texts for word in ("fn ", "ensures", "?"))
 
     @functools.cached_property
     def stamp(self):
@@ -227,11 +227,12 @@ def build_alone(names, processors):
             awaited = {*left, *(it.crate for it in running)}
             ready = [it for it in left if awaited.isdisjoint(it.uses)]
             for at, crate in enumerate(ready):
-                idle = processors + SPARE - sum(it.jobs for it in running)
+                idle = processors - sum(it.jobs for it in running)
                 if idle > 0 and (not running or free_memory() > FIRST_JOB):
                     left.remove(crate)
-                    jobs = within_memory(max(1, min(MOST_JOBS, idle // (len(ready) - at))))
-                    running.append(Build(crate, jobs, all(chain[crate] >= chain[it.crate] for it in running)))
+                    is_first = all(chain[crate] >= chain[it.crate] for it in running)
+                    jobs = min(idle, MOST_JOBS, max(idle // (len(ready) - at), FIRST_JOBS if is_first else 1))
+                    running.append(Build(crate, within_memory(jobs), is_first))
             time.sleep(0.1)
             for it in [it for it in running if it.has_ended()]:
                 running.remove(it)
