@@ -23,7 +23,8 @@
 use crate::folder::{Folder, Held};
 use case_tables::{CasesOfLines, TableFault, bytes_of, number};
 use clap::Error;
-use pcl_command::{Ending, Reporter};
+use pcl_answers::Ending;
+use pcl_files::{Failure, Reporter};
 use pcl_program::{exit_status, run};
 use pcl_tool::Watcher;
 use std::alloc::{AllocError, Global};
@@ -355,8 +356,8 @@ fn counts_of(text: &str) -> Result<(usize, usize), TableFault> {
 fn text_of(alloc: Global, ended: &Result<Ending, Error>) -> Result<String, AllocError> {
     Ok(match ended {
         Ok(Ending::Done | Ending::Checked(_) | Ending::Compared(_)) => String::new(alloc),
-        Ok(Ending::Failed { line, .. }) => String::from_utf8_lossy(alloc, line)?,
-        Ok(Ending::NoMemory) => String::from_str(alloc, "pclmin: out of memory\n")?,
+        Ok(Ending::Failed(Failure::Said { line, .. })) => String::from_utf8_lossy(alloc, line)?,
+        Ok(Ending::Failed(Failure::NoMemory)) => String::from_str(alloc, "pclmin: out of memory\n")?,
         Err(error) => format!(in alloc; "{error}")?,
     })
 }

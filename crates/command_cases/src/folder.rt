@@ -1,6 +1,6 @@
 //! A folder in memory, with the files of a run by their names.
 
-use pcl_command::{FileFault, JobFiles};
+use pcl_files::{FileFault, JobFiles};
 use std::alloc::{AllocError, Global};
 use std::io::{self, Cursor, ErrorKind, Write};
 
@@ -85,7 +85,7 @@ impl Folder {
 }
 
 impl JobFiles for Folder {
-    ghost use Rattle.pcl_command.specs.Files.{FileAct};
+    ghost use Rattle.pcl_files.specs.Files.{FileAct};
 
     type Reader = Cursor<Vec<u8>>;
 

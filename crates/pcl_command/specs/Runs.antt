@@ -5,23 +5,25 @@ use Rattle.pcl_base.specs.declared.dpi.Dpi.{Dpi}
 use Rattle.pcl_base.specs.declared.kind.Kind.{Kind}
 use Rattle.pcl_base.specs.declared.refusal.Refusal.{Refusal}
 use Rattle.pcl_page.specs.Delivering.{IsRefusal}
-use Rattle.pcl_tool.specs.declared.fault.Fault.{Fault}
-use Rattle.pcl_tool.specs.declared.fault.Fault.TheVariants.{Refused, Memory, ReadFault, TooLong, WriteFault, NoSuchPage}
+use Rattle.pcl_streams.specs.declared.fault.Fault.{Fault}
+use Rattle.pcl_streams.specs.declared.fault.Fault.TheVariants.{Refused, Memory, ReadFault, TooLong, WriteFault, NoSuchPage}
 use Rattle.pcl_cert.specs.declared.format.Format.{Format}
 use Rattle.pcl_tool.specs.Minimizing.{IsFiltered, IsFilteredCert, IsRead, input_limit}
-use Rattle.pcl_tool.specs.declared.page_images.PageChoice.{PageChoice}
-use Rattle.pcl_tool.specs.PageImages.{IsPagesPreview}
-use Rattle.pcl_tool.specs.Transfer.{GivesAtMost, AppendsFront, IsWritten}
+use Rattle.pcl_streams.specs.declared.page_images.PageChoice.{PageChoice}
+use Rattle.pcl_streams.specs.PageImages.{IsPagesPreview}
+use Rattle.pcl_streams.specs.Transfer.{GivesAtMost, AppendsFront, IsWritten}
 use Rattle.pcl_page.specs.Accepting.{IsAccepted, IsFirstAccepted}
 use Rattle.pcl_explain.specs.Findings.{Explains, ExplainsKind}
 use Rattle.pcl_shrink.specs.Shrinking.{IsSmallerJob}
-use Rattle.pcl_command.specs.Messages.{line_of, status_for}
-use Rattle.pcl_command.specs.Files.{FileAct, Opened, Unopened, Made, Unmade, Closed, Begun, Placed, Unplaced, Dropped, write_fault_of}
-use Rattle.pcl_command.specs.declared.files.FileFault.{FileFault}
-use Rattle.pcl_command.specs.Checks.{IsCheckRun, answer_status_for}
-use Rattle.pcl_command.specs.ComparisonLines.{compare_line_of, compare_status_for, comparison_status_for}
-use Rattle.pcl_command.specs.Comparisons.{IsCompareRun}
-use Rattle.pcl_command.specs.declared.comparisons.CompareFault.{CompareFault}
+use Rattle.pcl_files.specs.Messages.{line_of, status_for}
+use Rattle.pcl_files.specs.Files.{FileAct, Opened, Unopened, Made, Unmade, Closed, Begun, Placed, Unplaced, Dropped, write_fault_of}
+use Rattle.pcl_files.specs.declared.files.FileFault.{FileFault}
+use Rattle.pcl_answers.specs.Checks.{IsCheckRun}
+use Rattle.pcl_files.specs.Failures.{HasFailed}
+use Rattle.pcl_files.specs.WholeFiles.{IsSettled}
+use Rattle.pcl_answers.specs.ComparisonLines.{compare_line_of, compare_status_for}
+use Rattle.pcl_answers.specs.Comparisons.{IsCompareRun}
+use Rattle.pcl_answers.specs.declared.comparisons.CompareFault.{CompareFault}
 use Rattle.pcl_request.specs.Requests.{page_of}
 use Rattle.pcl_request.specs.declared.request.Task.{Task}
 use Rattle.pcl_request.specs.declared.request.Task.TheVariants.{Minimize, Certify, Preview, Explain, ExplainKind, DescribePages, Shrink}
@@ -36,8 +38,8 @@ use Rattle.pcl_request.specs.declared.request.CheckedFiles.{CheckedFiles}
 use Rattle.pcl_request.specs.declared.request.ComparedFiles.{ComparedFiles}
 use Rattle.pcl_request.specs.declared.request.Request.{Request}
 use Rattle.pcl_request.specs.declared.request.Request.TheVariants as asked
-use Rattle.pcl_command.specs.declared.running.Ending.{Ending}
-use Rattle.pcl_command.specs.declared.running.Ending.TheVariants.{Done, Checked, Compared, Failed, NoMemory}
+use Rattle.pcl_answers.specs.declared.endings.Ending.{Ending}
+use Rattle.pcl_answers.specs.declared.endings.Ending.TheVariants.{Done, Checked, Compared, Failed}
 
 -- what a reader gave and a writer holds where the job that it gives can't be read to its end, or memory runs out
 abbrev pub IsUnread : (given left old new : Option (List ℕ)) → Fault → Type 0
@@ -118,22 +120,6 @@ HasDoneSeen acts task FirstAccepted files kept given left old new done =
     ⊎ ((job : List ℕ) × (rest : Option (List ℕ)) × (dpi : Dpi) × IsRead given left job × IsFirstAccepted job dpi
     × HasDoneTask acts task dpi files kept (Some job) rest old new done)
 
--- A file that was begun is placed where the task was done, and dropped where it failed or the file can't be placed.
-abbrev pub IsSettled : {F : Type 0} → (F → FileAct → F → Type 0) → List ℕ → (holds : Option (List ℕ)) → Result (Unit {0}) Fault
-    → (files kept : F) → Result (Unit {0}) Fault → Type 0
-IsSettled acts name holds (Ok unit) files kept done =
-    (acts files (Placed name holds) kept × (done ≡ Ok tt))
-    ⊎ ((why : FileFault) × acts files (Unplaced name why) kept × (done ≡ Err (write_fault_of why)))
-IsSettled acts name holds (Err fault) files kept done = acts files (Dropped name) kept × (done ≡ Err fault)
-
--- a file was begun for this name, got these bytes and was settled; or it can't be begun
-abbrev pub IsFileWritten : {F : Type 0} → (F → FileAct → F → Type 0) → (name bytes : List ℕ) → (files kept : F)
-    → Result (Unit {0}) Fault → Type 0
-IsFileWritten {F} acts name bytes files kept done =
-    ((why : FileFault) × acts files (Unmade name why) kept × (done ≡ Err (write_fault_of why)))
-    ⊎ ((begun : F) × (held holds : Option (List ℕ)) × (written : Result (Unit {0}) Fault) × acts files (Begun name held) begun
-    × IsWritten held holds bytes written × IsSettled acts name holds written begun kept done)
-
 -- the task is done, or failed so, with what a file holds that was begun for this name, and the file was settled; or it can't be
 -- begun, and then nothing was read
 abbrev pub HasWrittenFile : {F : Type 0} → (F → FileAct → F → Type 0) → Run → List ℕ → (files kept : F) → (given left : Option (List ℕ))
@@ -169,49 +155,34 @@ abbrev pub HasDone : {F : Type 0} → (F → FileAct → F → Type 0) → Run �
     → Result (Unit {0}) Fault → Type 0
 HasDone acts run files kept given left old new done = HasDoneFrom acts run run.source files kept given left old new done
 
--- the end of a run that failed: what is said of it, and the status
-abbrev pub HasFailed : List ℕ → ℕ → Ending → Type 0
-HasFailed said code (Failed line status) = (line.items ≡ said) × (status ≡ code)
-HasFailed said code NoMemory = Unit {0}
-HasFailed said code Done = ⊥
-HasFailed said code (Checked answer) = ⊥
-HasFailed said code (Compared comparison) = ⊥
-
--- what is said where a job or an image would be written to a terminal
-abbrev pub terminal_line : List ℕ
-terminal_line = codes "pclmin: nothing is written to a terminal: send standard output to a file, or give -o FILE\n"
-
 -- how a run ends, by what it read and wrote
 abbrev pub HasRun : {F : Type 0} → (F → FileAct → F → Type 0) → Run → (files kept : F) → (given left old new : Option (List ℕ))
     → Ending → Type 0
 HasRun acts run files kept given left old new Done = HasDone acts run files kept given left old new (Ok tt)
-HasRun acts run files kept given left old new (Checked answer) = ⊥
-HasRun acts run files kept given left old new (Compared comparison) = ⊥
-HasRun acts run files kept given left old new failed =
+HasRun acts run files kept given left old new (Failed failure) =
     (fault : Fault) × HasDone acts run files kept given left old new (Err fault)
-    × HasFailed (line_of fault (page_of run.task)) (status_for fault) failed
+    × HasFailed (line_of fault (page_of run.task)) (status_for fault) failure
+HasRun acts run files kept given left old new other = ⊥
 
 -- how a check ends: no file was made, and nothing was read of the reader
 abbrev pub HasChecked : {F : Type 0} → (F → FileAct → F → Type 0) → CheckedFiles → (files kept : F)
     → (given left old new : Option (List ℕ)) → Ending → Type 0
-HasChecked acts asked files kept given left old new Done = ⊥
-HasChecked acts asked files kept given left old new (Compared comparison) = ⊥
 HasChecked acts asked files kept given left old new (Checked answer) =
     (kept ≡ files) × (left ≡ given) × IsCheckRun acts files asked old new (Ok answer)
-HasChecked acts asked files kept given left old new failed =
+HasChecked acts asked files kept given left old new (Failed failure) =
     (fault : Fault) × (kept ≡ files) × (left ≡ given) × IsCheckRun acts files asked old new (Err fault)
-    × HasFailed (line_of fault 0) (status_for fault) failed
+    × HasFailed (line_of fault 0) (status_for fault) failure
+HasChecked acts asked files kept given left old new other = ⊥
 
 -- how a comparison ends: nothing was read of the reader
 abbrev pub HasCompared : {F : Type 0} → (F → FileAct → F → Type 0) → ComparedFiles → (files kept : F)
     → (given left old new : Option (List ℕ)) → Ending → Type 0
-HasCompared acts asked files kept given left old new Done = ⊥
-HasCompared acts asked files kept given left old new (Checked answer) = ⊥
 HasCompared acts asked files kept given left old new (Compared comparison) =
     (left ≡ given) × IsCompareRun acts asked files kept old new (Ok comparison)
-HasCompared acts asked files kept given left old new failed =
+HasCompared acts asked files kept given left old new (Failed failure) =
     (fault : CompareFault) × (left ≡ given) × IsCompareRun acts asked files kept old new (Err fault)
-    × HasFailed (compare_line_of fault) (compare_status_for fault) failed
+    × HasFailed (compare_line_of fault) (compare_status_for fault) failure
+HasCompared acts asked files kept given left old new other = ⊥
 
 -- how what was asked for ends, by what it did with files, read and wrote
 abbrev pub HasEnded : {F : Type 0} → (F → FileAct → F → Type 0) → Request → (files kept : F) → (given left old new : Option (List ℕ))
@@ -221,11 +192,3 @@ HasEnded acts (asked.Check files_asked) files kept given left old new ending =
     HasChecked acts files_asked files kept given left old new ending
 HasEnded acts (asked.Compare files_asked) files kept given left old new ending =
     HasCompared acts files_asked files kept given left old new ending
-
--- the status of the program; 3 where memory ran out
-abbrev pub IsStatus : Ending → ℕ → Type 0
-IsStatus Done status = status ≡ 0
-IsStatus (Checked answer) status = status ≡ answer_status_for answer
-IsStatus (Compared comparison) status = status ≡ comparison_status_for comparison
-IsStatus (Failed line code) status = status ≡ code
-IsStatus NoMemory status = status ≡ 3

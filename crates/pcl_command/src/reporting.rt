@@ -2,29 +2,13 @@
 
 use itoa::Buffer;
 use pcl_base::{Dpi, JobFault};
+use pcl_files::Reporter;
 use pcl_page::page_count;
 use pcl_shrink::{Candidate, Shrunk};
-use pcl_tool::Watcher;
 use std::alloc::{AllocError, Global};
 
 /// What is said of a job without pages.
 const NO_PAGE: &[u8] = b"pclmin: no page\n";
-
-/// Is told what there is to say of a run besides what it writes, and how far it has come. No contract speaks of what it does
-/// then.
-pub trait Reporter: Watcher {
-    /// A line, with its line feed.
-    fn report(&self, line: &[u8]);
-}
-
-/// Where there is no reporter, nobody is told.
-impl<P: Reporter> Reporter for Option<P> {
-    fn report(&self, line: &[u8]) {
-        if let Some(reporter) = self {
-            reporter.report(line);
-        }
-    }
-}
 
 /// Reports that a job has no page, if that is so.
 pub fn report_no_page<P: Reporter>(

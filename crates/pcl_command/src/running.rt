@@ -4,61 +4,22 @@ ghost use Rattle.std.specs.Prelude.{◌≡◌, if◌then◌else◌, None, Some};
 ghost use Rattle.pcl_page.specs.Delivering.{IsRefusal};
 ghost use Rattle.pcl_explain.specs.Findings.{Explains};
 ghost use Rattle.pcl_shrink.specs.Shrinking.{IsSmallerJob};
-ghost use Rattle.pcl_command.specs.Messages.{line_of, status_for};
-ghost use Rattle.pcl_command.specs.ComparisonLines.{compare_line_of, compare_status_for};
-ghost use Rattle.pcl_command.specs.Runs.{HasDone, HasDoneSeen, HasDoneTask, HasEnded, HasFailed, HasWritten, IsCertifyRun, IsFileWritten, IsKindExplained, IsPreviewRun, IsSettled, IsStatus, IsTextRun, NeverRefuses, TellsOfPages, terminal_line};
+ghost use Rattle.pcl_command.specs.Runs.{HasDone, HasDoneSeen, HasDoneTask, HasEnded, HasWritten, IsCertifyRun, IsKindExplained, IsPreviewRun, IsTextRun, NeverRefuses, TellsOfPages};
 
-use crate::checks::check;
-use crate::comparison_lines::{compare_fault_line, compare_status_of, comparison_status};
-use crate::comparisons::{CompareFault, compare};
-use crate::files::JobFiles;
-use crate::messages::{MEMORY_STATUS, USAGE_STATUS, fault_line, status_of};
-use crate::reporting::{Reporter, report_no_page, report_shrunk};
-use crate::verdicts::answer_status;
+use crate::reporting::{report_no_page, report_shrunk};
+use pcl_answers::{Ending, check, compare, not_compared};
 use pcl_base::{Dpi, Kind};
 use pcl_cert::Format;
 use pcl_explain::{explanation, kind_explanation};
+use pcl_files::{Failure, JobFiles, Reporter, settle};
 use pcl_page::first_accepted;
-use pcl_pages::{Layout, describe_pages};
-use pcl_request::{Request, Resolution, Run, Source, Target, Task};
-use pcl_same::AskedComparison;
+use pcl_pages::describe_pages;
+use pcl_request::{Layout, Request, Resolution, Run, Source, Target, Task};
 use pcl_shrink::shrink;
-use pcl_tool::{
-    CheckAnswer, Fault, INPUT_LIMIT, PageChoice, Watcher, filter_cert_watched, filter_watched,
-    preview_pages, read_all, write_all,
-};
+use pcl_streams::{Fault, PageChoice, Watcher, preview_pages, read_all, write_all};
+use pcl_tool::{INPUT_LIMIT, filter_cert_watched, filter_watched};
 use std::alloc::Global;
 use std::io::{Read, Write};
-
-/// How a run ended, and what is left to be printed.
-#[derive(Drop)]
-pub enum Ending {
-    /// The run that was asked for is done.
-    Done,
-    /// A job was checked, and the line of this answer was written.
-    Checked(CheckAnswer),
-    /// Two jobs were compared, and the line of this comparison was written.
-    Compared(AskedComparison),
-    /// It failed: the line for standard error, with its line feed, and the status.
-    Failed { line: Vec<u8>, status: u8 },
-    /// Memory ran out, for the line of a fault too.
-    NoMemory,
-}
-
-impl Ending {
-    /// The status of the program.
-    pub fn status(&self) -> u8
-        ensures { IsStatus self.now result }
-    {
-        match self {
-            Ending::Done => 0,
-            Ending::Checked(answer) => answer_status(answer),
-            Ending::Compared(comparison) => comparison_status(comparison),
-            Ending::Failed { status, .. } => *status,
-            Ending::NoMemory => MEMORY_STATUS,
-        }
-    }
-}
 
 /// Does what is asked for, a run with the job that a reader gives. The watcher is called for each page that is done, unless the
 /// request is a quiet one.
@@ -78,19 +39,19 @@ pub fn carry_out<F: JobFiles, R: Read, W: Write, P: Reporter>(
             let told = told_of(run.quiet, watcher);
             match do_run(files, alloc, run, reader, out, told) {
                 Ok(()) => Ending::Done,
-                Err(fault) => failed(alloc, &fault, run.page()),
+                Err(fault) => Ending::Failed(Failure::of(alloc, &fault, run.page())),
             }
         }
         Request::Check(asked) => {
             let told = told_of(asked.quiet, watcher);
             match check(files, alloc, asked, out, told) {
                 Ok(answer) => Ending::Checked(answer),
-                Err(fault) => failed(alloc, &fault, 0),
+                Err(fault) => Ending::Failed(Failure::of(alloc, &fault, 0)),
             }
         }
         Request::Compare(asked) => match compare(files, alloc, asked, out) {
             Ok(comparison) => Ending::Compared(comparison),
-            Err(fault) => not_compared(alloc, &fault),
+            Err(fault) => Ending::Failed(not_compared(alloc, &fault)),
         },
     }
 }
@@ -147,41 +108,6 @@ fn write_result<F: JobFiles, R: Read, W: Write, P: Reporter>(
             }
             Err(why) => Err(Fault::from(why)),
         },
-    }
-}
-
-/// Places a file that was begun for a name where the task that wrote it is done, and drops it where that failed.
-fn settle<F: JobFiles>(
-    files: &mut F,
-    name: &str,
-    file: F::Writer,
-    done: Result<(), Fault>,
-) -> Result<(), Fault>
-    ensures { IsSettled F.acts name.now (F.Writer.contents file) done files.old files.new result }
-{
-    match done {
-        Ok(()) => match files.place(name, file) {
-            Ok(()) => Ok(()),
-            Err(why) => Err(Fault::from(why)),
-        },
-        Err(fault) => {
-            files.discard(name, file);
-            Err(fault)
-        }
-    }
-}
-
-/// Writes a file of these bytes, which takes the place of what its name had only where it is whole. After a fault, which is
-/// WriteFault or Memory, what was there stays.
-pub fn write_file<F: JobFiles>(files: &mut F, name: &str, bytes: &[u8]) -> Result<(), Fault>
-    ensures { IsFileWritten F.acts name.now bytes.now files.old files.new result }
-{
-    match files.begin(name) {
-        Ok(mut file) => {
-            let written = write_all(&mut file, bytes);
-            settle(files, name, file, written)
-        }
-        Err(why) => Err(Fault::from(why)),
     }
 }
 
@@ -330,45 +256,4 @@ fn write_smaller<R: Read, W: Write, P: Reporter>(
     let shrunk = shrink(alloc, &job, dpi)?;
     report_shrunk(alloc, job.len(), &shrunk, report, reporter)?;
     write_all(out, &shrunk.job)
-}
-
-/// The end where a job or an image would be written to a terminal.
-pub fn refuse_terminal(alloc: Global) -> Ending
-    ensures { HasFailed terminal_line 2 result }
-{
-    let said =
-        b"pclmin: nothing is written to a terminal: send standard output to a file, or give -o FILE\n";
-    match Vec::from_slice(alloc, said) {
-        Ok(line) => Ending::Failed {
-            line,
-            status: USAGE_STATUS,
-        },
-        Err(_) => Ending::NoMemory,
-    }
-}
-
-/// The end of a comparison that failed.
-fn not_compared(alloc: Global, fault: &CompareFault) -> Ending
-    ensures { HasFailed (compare_line_of fault.now) (compare_status_for fault.now) result }
-{
-    match compare_fault_line(alloc, fault) {
-        Ok(line) => Ending::Failed {
-            line,
-            status: compare_status_of(fault),
-        },
-        Err(_) => Ending::NoMemory,
-    }
-}
-
-/// The end of a run that failed.
-fn failed(alloc: Global, fault: &Fault, page: usize) -> Ending
-    ensures { HasFailed (line_of fault.now page) (status_for fault.now) result }
-{
-    match fault_line(alloc, fault, page) {
-        Ok(line) => Ending::Failed {
-            line,
-            status: status_of(fault),
-        },
-        Err(_) => Ending::NoMemory,
-    }
 }

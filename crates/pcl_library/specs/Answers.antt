@@ -13,24 +13,24 @@ use Rattle.pcl_page.specs.Accepting.{IsAccepted}
 use Rattle.pcl_page.specs.Delivering.{IsRefusal}
 use Rattle.pcl_meaning.specs.JobTexts.{IsJobOf}
 use Rattle.pcl_cert.specs.declared.format.Format.{Format}
-use Rattle.pcl_tool.specs.declared.fault.Fault.TheVariants as run
+use Rattle.pcl_streams.specs.declared.fault.Fault.TheVariants as run
 use Rattle.pcl_tool.specs.declared.job_verdict.JobVerdict.{JobVerdict}
 use Rattle.pcl_tool.specs.declared.job_verdict.JobVerdict.TheVariants as verdicts
-use Rattle.pcl_tool.specs.declared.page_images.PageChoice.{PageChoice}
-use Rattle.pcl_tool.specs.PageImages.{AreImagesOf, LacksPage}
+use Rattle.pcl_streams.specs.declared.page_images.PageChoice.{PageChoice}
+use Rattle.pcl_streams.specs.PageImages.{AreImagesOf, LacksPage}
 use Rattle.pcl_tool.specs.Minimizing.{IsCertifiedJobOf}
 use Rattle.pcl_tool.specs.JobVerdicts.{IsJobVerdict}
 use Rattle.pcl_same.specs.declared.comparison.AskedComparison.{AskedComparison}
 use Rattle.pcl_same.specs.declared.comparison.AskedComparison.TheVariants as comparisons
-use Rattle.pcl_command.specs.Comparisons.{IsComparisonFor}
+use Rattle.pcl_answers.specs.Comparisons.{IsComparisonFor}
 use Rattle.pcl_shrink.specs.Shrinking.{IsSmallerJob}
 use Rattle.pcl_explain.specs.Findings.{Explains}
 use Rattle.pcl_same.specs.declared.fault.Job.{Job}
 use Rattle.pcl_same.specs.declared.fault.Job.TheVariants.{First, Second}
-use Rattle.pcl_command.specs.declared.comparisons.CompareFault.TheVariants as compare
-use Rattle.pcl_command.specs.Messages.{line_of}
-use Rattle.pcl_command.specs.Verdicts.{verdict_line_of}
-use Rattle.pcl_command.specs.ComparisonLines.{comparison_line_of, compare_line_of}
+use Rattle.pcl_answers.specs.declared.comparisons.CompareFault.TheVariants as compare
+use Rattle.pcl_files.specs.Messages.{line_of}
+use Rattle.pcl_answers.specs.Verdicts.{verdict_line_of}
+use Rattle.pcl_answers.specs.ComparisonLines.{comparison_line_of, compare_line_of}
 use Rattle.pcl_library.specs.Arguments.{IsSeen, AreSeen, IsChoiceFor, IsFormatFor, IsPerformed}
 use Rattle.pcl_library.specs.Failures.{outcome_of, job_number}
 use Rattle.pcl_library.specs.declared.answer.Answer.{Answer}

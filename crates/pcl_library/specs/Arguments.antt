@@ -5,12 +5,12 @@ use Rattle.pcl_base.specs.declared.dpi.Dpi.{Dpi}
 use Rattle.pcl_base.specs.declared.dpi.Dpi.TheVariants.{Dpi300, Dpi600}
 use Rattle.pcl_cert.specs.declared.format.Format.{Format}
 use Rattle.pcl_cert.specs.declared.format.Format.TheVariants.{One, Two}
-use Rattle.pcl_tool.specs.declared.fault.Fault.TheVariants as run
-use Rattle.pcl_tool.specs.declared.page_images.PageChoice.{PageChoice}
-use Rattle.pcl_tool.specs.declared.page_images.PageChoice.TheVariants.{All, Range}
+use Rattle.pcl_streams.specs.declared.fault.Fault.TheVariants as run
+use Rattle.pcl_streams.specs.declared.page_images.PageChoice.{PageChoice}
+use Rattle.pcl_streams.specs.declared.page_images.PageChoice.TheVariants.{All, Range}
 use Rattle.pcl_request.specs.declared.request.Resolution.{Resolution}
 use Rattle.pcl_request.specs.declared.request.Resolution.TheVariants.{Given, FirstAccepted}
-use Rattle.pcl_command.specs.Resolutions.{IsSeenAt, AreSeenAt}
+use Rattle.pcl_files.specs.Resolutions.{IsSeenAt, AreSeenAt}
 use Rattle.pcl_library.specs.Failures.{outcome_of}
 use Rattle.pcl_library.specs.declared.failure.Argument.TheVariants as wrong
 use Rattle.pcl_library.specs.declared.failure.Failure.{Failure}

@@ -1,15 +1,15 @@
 -- Why a call fails, and what is said of it.
 use Rattle.std.specs.Prelude.{◌≡◌, ℕ, ◌<◌, List}
 use Rattle.pcl_base.specs.declared.fault.JobFault.{JobFault}
-use Rattle.pcl_tool.specs.declared.fault.Fault.TheVariants as run
-use Rattle.pcl_tool.specs.JobFaults.{fault_of}
+use Rattle.pcl_streams.specs.declared.fault.Fault.TheVariants as run
+use Rattle.pcl_streams.specs.JobFaults.{fault_of}
 use Rattle.pcl_same.specs.declared.fault.Job.{Job}
 use Rattle.pcl_same.specs.declared.fault.Job.TheVariants.{First, Second}
 use Rattle.pcl_same.specs.declared.fault.SameFault.{SameFault}
 use Rattle.pcl_same.specs.declared.fault.SameFault.TheVariants as same
-use Rattle.pcl_command.specs.declared.comparisons.CompareFault.TheVariants as compare
-use Rattle.pcl_command.specs.Messages.{line_of}
-use Rattle.pcl_command.specs.ComparisonLines.{compare_line_of}
+use Rattle.pcl_answers.specs.declared.comparisons.CompareFault.TheVariants as compare
+use Rattle.pcl_files.specs.Messages.{line_of}
+use Rattle.pcl_answers.specs.ComparisonLines.{compare_line_of}
 use Rattle.pcl_library.specs.declared.failure.Failure.{Failure}
 use Rattle.pcl_library.specs.declared.failure.Failure.TheVariants.{Wrong, Run, OneRefused}
 

@@ -8,7 +8,7 @@ ghost use Rattle.pcl_library.specs.Failures.{IsUnperformed};
 use crate::failure::{Argument, Failure};
 use pcl_base::{Dpi, PAGE_LIMIT};
 use pcl_cert::Format;
-use pcl_command::{resolve, resolve_both};
+use pcl_files::{resolve, resolve_both};
 use pcl_request::Resolution;
 use pcl_tool::{Fault, INPUT_LIMIT, PageChoice};
 use std::alloc::Global;

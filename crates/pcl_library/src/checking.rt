@@ -8,8 +8,9 @@ ghost use Rattle.pcl_library.specs.Answers.{Answers, AnswersAt, HasVerdict};
 use crate::answer::Answer;
 use crate::arguments::{resolution_numbered, within_limit};
 use crate::failure::Failure;
+use pcl_answers::verdict_line;
 use pcl_base::Dpi;
-use pcl_command::{resolve, verdict_line};
+use pcl_files::resolve;
 use pcl_tool::{JobVerdict, check_job};
 use std::alloc::Global;
 

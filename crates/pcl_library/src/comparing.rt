@@ -7,8 +7,8 @@ ghost use Rattle.pcl_library.specs.Answers.{Compares, ComparesAt};
 use crate::answer::Answer;
 use crate::arguments::both_seen_at;
 use crate::failure::Failure;
+use pcl_answers::{compare_jobs, comparison_line};
 use pcl_base::Dpi;
-use pcl_command::{compare_jobs, comparison_line};
 use std::alloc::Global;
 
 /// `pclmin_same`: whether two jobs have the same pages, and the line that says what differs first.

@@ -9,7 +9,8 @@ use crate::failure::Failure;
 use pcl_base::Dpi;
 use pcl_explain::explanation;
 use pcl_page::page_count;
-use pcl_pages::{Layout, describe_pages};
+use pcl_pages::describe_pages;
+use pcl_request::Layout;
 use std::alloc::Global;
 
 /// `pclmin_page_count`: how many pages the job has.

@@ -1,12 +1,13 @@
 //! Why a call fails.
 
 ghost use Rattle.std.specs.Prelude.{◌≡◌, IfOk};
-ghost use Rattle.pcl_tool.specs.declared.fault.Fault.TheVariants.{Memory};
+ghost use Rattle.pcl_streams.specs.declared.fault.Fault.TheVariants.{Memory};
 ghost use Rattle.pcl_library.specs.declared.failure.Failure.TheVariants.{Run};
 ghost use Rattle.pcl_library.specs.Failures.{failure_of_job, failure_of_jobs, IsSaid, outcome_of};
 
+use pcl_answers::{CompareFault, compare_fault_line};
 use pcl_base::{JobFault, Refusal};
-use pcl_command::{CompareFault, compare_fault_line, fault_line};
+use pcl_files::fault_line;
 use pcl_same::{Job, SameFault};
 use pcl_tool::Fault;
 use std::alloc::{AllocError, Global};

@@ -1,7 +1,7 @@
 //! Images of pages.
 
 ghost use Rattle.std.specs.Prelude.{◌⊎◌};
-ghost use Rattle.pcl_tool.specs.PageImages.{ArePageImages};
+ghost use Rattle.pcl_streams.specs.PageImages.{ArePageImages};
 ghost use Rattle.pcl_library.specs.Arguments.{IsNoResolution, AreNoPages, IsTooLong, FailsBy};
 ghost use Rattle.pcl_library.specs.Answers.{Shows, ShowsAt, HasImages, HasChosenImages, LacksPages, LacksChosen};
 

@@ -6,17 +6,9 @@ use crate::facts::{JobFacts, PageFacts};
 use crate::lines::table;
 use pcl_base::{Dpi, JobFault};
 use pcl_page::{Page, PageSink, perform_asked};
+use pcl_request::Layout;
 use std::alloc::{AllocError, Global};
 use std::marker::Model;
-
-/// How the description of pages is laid out.
-#[derive(Clone, Copy, Debug, PartialEq, Eq)]
-pub enum Layout {
-    /// Lines of columns that tabs part.
-    Table,
-    /// One object of JSON, on one line.
-    Json,
-}
 
 /// A text on the pages of a job. Of each page it has the number, the resolution, the size, the copies, the sides and the paper source
 /// that the job asks for, how many of its dots are black, the bytes of its least page text (docs/OUTPUT.md), and how many of these are

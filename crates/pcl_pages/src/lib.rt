@@ -5,4 +5,4 @@ mod describing;
 mod facts;
 mod lines;
 
-pub use describing::{Layout, describe_pages};
+pub use describing::describe_pages;

@@ -5,18 +5,23 @@ use Rattle.clap.specs.declared.error.Error.{Error}
 use Rattle.clap.specs.declared.error.kind.ErrorKind.TheVariants.{DisplayHelp, DisplayVersion, OutOfMemory}
 use Rattle.pcl_request.specs.Requests.{writes_raw}
 use Rattle.pcl_request.specs.declared.request.Request.{Request}
-use Rattle.pcl_command.specs.declared.running.Ending.{Ending}
-use Rattle.pcl_command.specs.declared.running.Ending.TheVariants.{NoMemory}
-use Rattle.pcl_command.specs.Files.{FileAct}
-use Rattle.pcl_command.specs.Runs.{HasEnded, HasFailed, HasStayed, IsStatus, terminal_line}
+use Rattle.pcl_answers.specs.declared.endings.Ending.{Ending}
+use Rattle.pcl_answers.specs.declared.endings.Ending.TheVariants.{Failed}
+use Rattle.pcl_answers.specs.Endings.{IsStatus}
+use Rattle.pcl_files.specs.declared.failures.Failure.TheVariants.{NoMemory}
+use Rattle.pcl_files.specs.Failures.{HasFailed, terminal_line}
+use Rattle.pcl_files.specs.Files.{FileAct}
+use Rattle.pcl_command.specs.Runs.{HasEnded, HasStayed}
 
 -- nothing was done, so that no job and no image reaches a terminal, and that is said
 abbrev pub SparesTerminal : {F : Type 0} → (files kept : F) → (given left old new : Option (List ℕ)) → Ending → Type 0
-SparesTerminal files kept given left old new ending = HasStayed files kept given left old new × HasFailed terminal_line 2 ending
+SparesTerminal files kept given left old new (Failed failure) =
+    HasStayed files kept given left old new × HasFailed terminal_line 2 failure
+SparesTerminal files kept given left old new other = ⊥
 
 -- an error is shown, but for memory that ran out, which ends a run
 abbrev pub IsShown : Error → Result Ending Error → Type 0
-IsShown why (Ok ending) = (kind_of why ≡ OutOfMemory) × (ending ≡ NoMemory)
+IsShown why (Ok ending) = (kind_of why ≡ OutOfMemory) × (ending ≡ Failed NoMemory)
 IsShown why (Err error) = (kind_of why ≢ OutOfMemory) × (error ≡ why)
 
 -- how a run ends that is given what its words ask for, or why they ask for nothing that reads or writes: what is asked for is done,

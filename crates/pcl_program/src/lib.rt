@@ -1,9 +1,8 @@
-//! The program `pclmin`: a run by the words of a command line, over any files, reader and writer, and its status; a batch of many
-//! jobs; and the process, with the files of the system and its standard streams.
+//! The program `pclmin`: a run by the words of a command line, over any files, reader and writer, and its status; and the process.
 #![tactic(auto)]
 
-mod batch;
 mod process;
+mod rewriting;
 mod running;
 
 pub use process::run_process;

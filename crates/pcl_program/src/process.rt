@@ -1,15 +1,10 @@
 //! The process of `pclmin`: its words, its standard streams, the files of the system, its line and its status.
 
-mod files;
-mod input;
-mod progress;
-
-use crate::process::files::SystemFiles;
-use crate::process::input::Input;
-use crate::process::progress::Voice;
 use crate::running::{exit_status, run};
 use clap::Error;
-use pcl_command::{Ending, USAGE_STATUS};
+use pcl_answers::Ending;
+use pcl_files::{Failure, USAGE_STATUS};
+use pcl_system::{Input, SystemFiles, Voice};
 use std::alloc::AllocError;
 use std::env;
 use std::io::{self, ErrorKind, IsTerminal};
@@ -35,7 +30,7 @@ pub fn run_process(rt: &HostRuntime) -> ExitCode {
             let _ = rt.eprint("pclmin: the arguments aren't text\n");
             return ExitCode::from(USAGE_STATUS);
         }
-        Err(AllocError) => Ok(Ending::NoMemory),
+        Err(AllocError) => Ok(Ending::Failed(Failure::NoMemory)),
     };
     ExitCode::from(end(rt, &ended))
 }
@@ -53,12 +48,12 @@ fn arguments(rt: &HostRuntime) -> Result<Option<Vec<String>>, AllocError> {
 fn end(rt: &(impl Print + Eprint), ended: &Result<Ending, Error>) -> u8 {
     match ended {
         Ok(Ending::Done | Ending::Checked(_) | Ending::Compared(_)) => {}
-        Ok(Ending::Failed { line, .. }) => {
+        Ok(Ending::Failed(Failure::Said { line, .. })) => {
             if let Ok(text) = std::str::from_utf8(line) {
                 let _ = rt.eprint(text);
             }
         }
-        Ok(Ending::NoMemory) => {
+        Ok(Ending::Failed(Failure::NoMemory)) => {
             let _ = rt.eprint("pclmin: out of memory\n");
         }
         Err(error) => {

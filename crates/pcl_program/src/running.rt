@@ -3,10 +3,13 @@
 ghost use Rattle.std.specs.Prelude.{◌⊎◌, ◌↔◌, map, IsTrue};
 ghost use Rattle.pcl_program.specs.Runs.{IsShown, HasRunAsked, HasRunWords, AskForBatch, IsExitStatus};
 
-use crate::batch::run_named;
+use crate::rewriting::Filter;
 use clap::Error;
 use clap::error::ErrorKind;
-use pcl_command::{Ending, JobFiles, Reporter, USAGE_STATUS, carry_out, refuse_terminal};
+use pcl_answers::Ending;
+use pcl_batch::run_named;
+use pcl_command::carry_out;
+use pcl_files::{Failure, JobFiles, Reporter, USAGE_STATUS, refuse_terminal};
 use pcl_request::Request;
 use pcl_words::{parse_batch, parse_request};
 use std::alloc::Global;
@@ -58,7 +61,11 @@ fn run_batch_words<F: JobFiles, S: AsStr, R: Read, W: Write, P: Reporter + Copy>
         Err(error) => return shown(error),
     };
     let paths = &asked.paths;
-    Ok(run_named(files, alloc, asked.batch, paths, reader, out, reporter))
+    let filter = Filter { reporter };
+    match run_named(files, alloc, asked.batch, paths, reader, out, filter) {
+        Ok(()) => Ok(Ending::Done),
+        Err(failure) => Ok(Ending::Failed(failure)),
+    }
 }
 
 /// Does what is asked for, with the job that a reader gives. The reporter is told of each page that is done, unless silence is asked
@@ -77,7 +84,9 @@ pub fn run_request<F: JobFiles, R: Read, W: Write, P: Reporter>(
         (W.contents out.old) (W.contents out.new) result }
 {
     match asked {
-        Ok(request) if is_terminal && request.writes_raw() => Ok(refuse_terminal(alloc)),
+        Ok(request) if is_terminal && request.writes_raw() => {
+            Ok(Ending::Failed(refuse_terminal(alloc)))
+        }
         Ok(request) => Ok(carry_out(files, alloc, request, reader, out, reporter)),
         Err(error) => shown(error),
     }
@@ -88,7 +97,7 @@ fn shown(error: Error) -> Result<Ending, Error>
     ensures { IsShown error result }
 {
     match error.kind() {
-        ErrorKind::OutOfMemory => Ok(Ending::NoMemory),
+        ErrorKind::OutOfMemory => Ok(Ending::Failed(Failure::NoMemory)),
         _ => Err(error),
     }
 }

@@ -1,7 +1,7 @@
 -- What the program is asked for.
 use Rattle.std.specs.Prelude.{◌≡◌, ℕ, Bool, true, false, ◌&&◌, List, codes}
 use Rattle.pcl_base.specs.declared.dpi.Dpi.TheVariants.{Dpi300, Dpi600}
-use Rattle.pcl_tool.specs.PageImages.{last_page}
+use Rattle.pcl_streams.specs.PageImages.{last_page}
 use Rattle.pcl_request.specs.declared.request.Beside.{Beside}
 use Rattle.pcl_request.specs.declared.request.Beside.TheVariants.{Input, Images}
 use Rattle.pcl_request.specs.declared.request.Request.{Request}

@@ -6,6 +6,6 @@ mod request;
 
 pub use batch::{Batch, ReportForm, Rewriting};
 pub use request::{
-    Beside, CheckedFiles, ComparedFiles, Request, Resolution, Run, Source, Target, Task,
+    Beside, CheckedFiles, ComparedFiles, Layout, Request, Resolution, Run, Source, Target, Task,
     resolution_named,
 };

@@ -6,8 +6,7 @@ ghost use Rattle.pcl_request.specs.declared.request.Resolution.{Resolution};
 
 use pcl_base::{Dpi, Kind};
 use pcl_cert::Format;
-use pcl_pages::Layout;
-use pcl_tool::PageChoice;
+use pcl_streams::PageChoice;
 
 /// What a run is asked to do with its job.
 #[derive(Clone, Copy)]
@@ -26,6 +25,15 @@ pub enum Task<'w> {
     DescribePages { layout: Layout },
     /// Write the smallest job that is found with its pages, which asks for the same, and report its bytes if that is asked for.
     Shrink { report: bool },
+}
+
+/// How the description of pages is laid out.
+#[derive(Clone, Copy, Debug, PartialEq, Eq)]
+pub enum Layout {
+    /// Lines of columns that tabs part.
+    Table,
+    /// One object of JSON, on one line.
+    Json,
 }
 
 /// Where a run takes its job from.

@@ -1,7 +1,4 @@
 pub mod Names
-pub mod Writes
-pub mod Choices
-pub mod Showings
 pub mod Framed
 pub mod Left
 pub mod SameCheckers

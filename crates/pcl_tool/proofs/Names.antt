@@ -1,13 +1,11 @@
 -- What proofs of this crate name of std, of the crates below, and of its own definitions; those above take these from here too.
 pub use Rattle.pcl_base.proofs.{Lists.same_fronts, Results.on_err}
-pub use Rattle.pcl_base.proofs.Names.{AllByRecursion, Appends, Appends-kept, Appends-trans, Bor, Consumes, Consumes-kept, Consumes-trans, Decides-eqb, Err, Keeps-refl, List, Some, SomeIff, [], ap, append-nil, append_cancel_left, append_cancel_right, arith, cases_eq, common_steps, drop-drop, drop-nil, err_from_is_err_and, false≢true, length, length-append, length-drop, length-take, length-take-le, nat_tests, nil_from_length, ok_or, page_height, page_row_bytes, refl, rules, same_from_all_zip, slice_get, strip_prefix_is, strip_suffix_is, sub-one, subst, sym, take-append-drop, take-nil, take_rest, ℕ}
-pub use Rattle.pcl_base.specs.declared.{dpi.Dpi.Dpi, fault.JobFault.JobFault, method.Method.Method, size.Size.Size}
-pub use Rattle.pcl_bitmap.proofs.Names.{Picture}
+pub use Rattle.pcl_base.proofs.Names.{AllByRecursion, Appends, Bor, Decides-eqb, Err, Keeps-refl, List, Some, ap, append-nil, append_cancel_left, append_cancel_right, arith, cases_eq, common_steps, drop-drop, err_from_is_err_and, false≢true, length, length-append, length-drop, length-take-le, nil_from_length, page_height, page_row_bytes, refl, rules, strip_prefix_is, strip_suffix_is, subst, sym, take-append-drop, ℕ}
+pub use Rattle.pcl_base.specs.declared.{dpi.Dpi.Dpi, fault.JobFault.JobFault, method.Method.Method}
 pub use Rattle.pcl_bitmap.specs.declared.{page.Page.Page}
 pub use Rattle.pcl_output.proofs.Names.{IsPageText, bitmap_rows, fixed_bytes, frame_bytes, node_number, row_above, row_at, start}
 pub use Rattle.pcl_output.specs.declared.{table.RowNumbers.RowNumbers}
-pub use Rattle.pcl_page.proofs.{Jobs.has_pages}
-pub use Rattle.pcl_page.proofs.Names.{AllShow, Hands, HasPages, IsRefusal, Sheet, Shows}
+pub use Rattle.pcl_page.proofs.Names.{Hands, HasPages, IsRefusal, Sheet, Shows}
 pub use Rattle.pcl_plan.proofs.Names.{IsPlanOf, StepsAndTable}
 pub use Rattle.pcl_plan.proofs.{Planned.table_of_plan}
 pub use Rattle.pcl_writer.proofs.Names.{IsWrittenPage}
@@ -17,6 +15,8 @@ pub use Rattle.pcl_cert.proofs.{PagesSpelled.certificate_again, ProvedLeast.prov
 pub use Rattle.pcl_cert.specs.declared.{check.Verdict.Verdict, check.Verdict.TheVariants.Edge, check.Verdict.TheVariants.Length, check.Verdict.TheVariants.NotGrammar, check.Verdict.TheVariants.OtherPage, check.Verdict.TheVariants.Place, check.Verdict.TheVariants.Proved, check.Verdict.TheVariants.Rows, fault.CertFault.CertFault, format.Format.Format, format.Format.TheVariants.One, format.Format.TheVariants.Two, page_proof.PageProof.PageProof}
 pub use Rattle.pcl_meaning.proofs.{Jobs.job_fits, SamePages.AreSame, SamePages.least_job, SamePages.moved, SamePages.pages_same}
 pub use Rattle.pcl_meaning.proofs.Names.{IsJobOf, IsLeastJobText, PrintEach, PrintsShortest}
-pub use Rattle.pcl_tool.specs.{Certified.AreProved, Certified.IsAnswered, Headline.TheClaim, Image.IsImageWritten, Image.header_of, Image.image_of, JobFaults.RefusedOrMemory, JobFaults.fault_of, JobVerdicts.AreCompared, JobVerdicts.IsFirstFailure, JobVerdicts.IsFramed, JobVerdicts.IsJobVerdict, JobVerdicts.text_bytes, LeastJobs.IsCertifiedBy, LeastJobs.IsLeastJobOf, Minimizing.IsCertifiedJobOf, Minimizing.IsFiltered, Minimizing.IsFilteredCert, Minimizing.IsRead, Minimizing.input_limit, PageImages.AreImagesOf, PageImages.ArePageImages, PageImages.AreThere, PageImages.IsPagesPreview, PageImages.LacksPage, PageImages.chosen, PageImages.images_of, Preview.HasNoPage, Preview.HasPage, Preview.IsPageDots, Preview.IsPreview, Transfer.AppendsFront, Transfer.IsReadAll, Transfer.IsWritten, Watching.HasTaken, Writing.IsJobWritten}
-pub use Rattle.pcl_tool.specs.declared.{fault.Fault.Fault, fault.Fault.TheVariants.Memory, fault.Fault.TheVariants.NoSuchPage, fault.Fault.TheVariants.ReadFault, fault.Fault.TheVariants.Refused, fault.Fault.TheVariants.TooLong, fault.Fault.TheVariants.WriteFault, job_verdict.JobVerdict.JobVerdict, minimizing.Output.Output, page_checks.Checker.Checker, page_images.PageChoice.PageChoice, page_images.PageChoice.TheVariants.All, page_images.PageChoice.TheVariants.Range, page_preview.Chosen.Chosen}
-pub use Rattle.pcl_tool.specs.inner.{CheckerSteps.BeginsWith, CheckerSteps.FindsNext, CheckerSteps.IsBegun, CheckerSteps.TakesPage, CheckerSteps.answer, CheckerSteps.proofs_left, Choice.chosen_after, PageChecks.IsFound, Showing.IsMet, Showing.IsMetBy, Showing.Showing, Showing.later, Showing.next_image, Showing.shown_after, WrittenJobs.IsOutput, WrittenJobs.IsProvedIn, WrittenJobs.Proves, WrittenJobs.SoFar, WrittenJobs.TakesText}
+pub use Rattle.pcl_tool.specs.{Certified.AreProved, Certified.IsAnswered, Headline.TheClaim, JobVerdicts.AreCompared, JobVerdicts.IsFirstFailure, JobVerdicts.IsFramed, JobVerdicts.IsJobVerdict, JobVerdicts.text_bytes, LeastJobs.IsCertifiedBy, LeastJobs.IsLeastJobOf, Minimizing.IsCertifiedJobOf, Minimizing.IsFiltered, Minimizing.IsFilteredCert, Minimizing.IsRead, Minimizing.input_limit, Writing.IsJobWritten}
+pub use Rattle.pcl_streams.specs.{Image.IsImageWritten, JobFaults.RefusedOrMemory, JobFaults.fault_of, PageImages.IsPagesPreview, Preview.HasNoPage, Preview.HasPage, Preview.IsPageDots, Transfer.AppendsFront, Transfer.IsReadAll, Transfer.IsWritten, Watching.HasTaken}
+pub use Rattle.pcl_streams.specs.declared.{fault.Fault.Fault, fault.Fault.TheVariants.Memory, fault.Fault.TheVariants.ReadFault, fault.Fault.TheVariants.Refused, fault.Fault.TheVariants.TooLong, fault.Fault.TheVariants.WriteFault}
+pub use Rattle.pcl_tool.specs.declared.{job_verdict.JobVerdict.JobVerdict, minimizing.Output.Output, page_checks.Checker.Checker}
+pub use Rattle.pcl_tool.specs.inner.{CheckerSteps.BeginsWith, CheckerSteps.FindsNext, CheckerSteps.IsBegun, CheckerSteps.TakesPage, CheckerSteps.answer, CheckerSteps.proofs_left, PageChecks.IsFound, WrittenJobs.IsOutput, WrittenJobs.IsProvedIn, WrittenJobs.Proves, WrittenJobs.SoFar, WrittenJobs.TakesText}

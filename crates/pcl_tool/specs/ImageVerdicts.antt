@@ -2,12 +2,12 @@
 use Rattle.std.specs.Prelude.{◌≡◌, ◌≢◌, List, ℕ, Result, Ok, Err}
 use Rattle.pcl_base.specs.declared.dpi.Dpi.{Dpi}
 use Rattle.pcl_page.specs.Delivering.{IsRefusal}
-use Rattle.pcl_tool.specs.declared.fault.Fault.{Fault}
+use Rattle.pcl_streams.specs.declared.fault.Fault.{Fault}
 use Rattle.pcl_tool.specs.declared.job_verdict.CheckAnswer.{CheckAnswer}
 use Rattle.pcl_tool.specs.declared.job_verdict.CheckAnswer.TheVariants.{OtherImages, Job}
-use Rattle.pcl_tool.specs.declared.page_images.PageChoice.TheVariants.{All}
-use Rattle.pcl_tool.specs.PageImages.{AreImagesOf}
-use Rattle.pcl_tool.specs.JobFaults.{RefusedOrMemory}
+use Rattle.pcl_streams.specs.declared.page_images.PageChoice.TheVariants.{All}
+use Rattle.pcl_streams.specs.PageImages.{AreImagesOf}
+use Rattle.pcl_streams.specs.JobFaults.{RefusedOrMemory}
 use Rattle.pcl_tool.specs.JobVerdicts.{IsJobVerdict}
 
 -- The output is accepted, and the images of its pages aren't these. Or they are, and what is answered of it is right of a job with

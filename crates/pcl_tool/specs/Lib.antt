@@ -1,9 +1,3 @@
-pub mod JobFaults
-pub mod Transfer
-pub mod Image
-pub mod Preview
-pub mod PageImages
-pub mod Watching
 pub mod Certified
 pub mod Minimizing
 pub mod Writing

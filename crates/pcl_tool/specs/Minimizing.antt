@@ -9,11 +9,11 @@ use Rattle.pcl_meaning.specs.JobTexts.{IsJobOf}
 use Rattle.pcl_cert.specs.declared.format.Format.{Format}
 use Rattle.pcl_cert.specs.declared.page_proof.PageProof.{PageProof}
 use Rattle.pcl_cert.specs.Certificates.{AreProofs, certificate_bytes}
-use Rattle.pcl_tool.specs.declared.fault.Fault.{Fault}
-use Rattle.pcl_tool.specs.JobFaults.{RefusedOrMemory}
-use Rattle.pcl_tool.specs.declared.fault.Fault.TheVariants.{Refused, Memory, ReadFault, TooLong, WriteFault, NoSuchPage}
+use Rattle.pcl_streams.specs.declared.fault.Fault.{Fault}
+use Rattle.pcl_streams.specs.JobFaults.{RefusedOrMemory}
+use Rattle.pcl_streams.specs.declared.fault.Fault.TheVariants.{Refused, Memory, ReadFault, TooLong, WriteFault, NoSuchPage}
 use Rattle.pcl_tool.specs.declared.minimizing.Output.{Output}
-use Rattle.pcl_tool.specs.Transfer.{GivesAtMost, AppendsFront}
+use Rattle.pcl_streams.specs.Transfer.{GivesAtMost, AppendsFront}
 use Rattle.pcl_tool.specs.Certified.{AreProved}
 
 -- The certificate of the page texts of some pages: by what it says of each, the checker answers Proved on its text.

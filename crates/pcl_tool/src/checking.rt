@@ -5,12 +5,12 @@ ghost use Rattle.pcl_cert.specs.declared.format.Format.{Format};
 ghost use Rattle.pcl_cert.specs.ReadingCertificates.{Fails, certificate_at};
 ghost use Rattle.pcl_tool.specs.JobVerdicts.{IsChecked};
 
+use crate::JobVerdict;
 use crate::page_checks::Checker;
-use crate::watching::{Unwatched, Watcher, perform_watched};
-use crate::{Fault, JobVerdict};
 use pcl_base::Dpi;
 use pcl_cert::{CertFault, PageProof, read_certificate};
 use pcl_page::{Page, PageSink};
+use pcl_streams::{Fault, Unwatched, Watcher, perform_watched};
 use std::alloc::{AllocError, Global};
 
 /// Checks that an output prints the pages of an input, and that no job text that does is shorter, by a certificate,

@@ -2,10 +2,10 @@
 
 ghost use Rattle.pcl_tool.specs.ImageVerdicts.{IsCheckedByImages};
 
+use crate::CheckAnswer;
 use crate::checking::check_job_watched;
-use crate::page_images::page_images;
-use crate::{CheckAnswer, Fault, PageChoice, Watcher};
 use pcl_base::Dpi;
+use pcl_streams::{Fault, PageChoice, Watcher, chosen_images};
 use std::alloc::Global;
 
 /// Checks that an output prints the pages of PBM images, which stand one after the other as [`preview_pages`](crate::preview_pages)
@@ -22,7 +22,7 @@ pub fn check_images<P: Watcher>(
 ) -> Result<CheckAnswer, Fault>
     ensures { IsCheckedByImages dpi images.now output.now certificate.now result }
 {
-    let printed = page_images(alloc, output, PageChoice::All, dpi)?;
+    let printed = chosen_images(alloc, output, PageChoice::All, dpi)?;
     if printed.as_slice() != images {
         return Ok(CheckAnswer::OtherImages);
     }

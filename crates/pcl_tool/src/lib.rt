@@ -1,24 +1,15 @@
-//! Whole runs: a job is read, performed, and shown, over any reader and writer.
+//! Whole runs: a job is read, performed, and written again or checked, over any reader and writer.
 #![tactic(auto)]
 
 mod checking;
-mod fault;
-mod image;
 mod image_checks;
 mod job_verdict;
 mod laws;
 mod minimizing;
 mod page_checks;
-mod page_images;
-mod page_preview;
-mod reading;
-mod watching;
-mod writing;
 mod written_job;
 
 pub use checking::{check_job, check_job_watched};
-pub use fault::Fault;
-pub use image::write_image;
 pub use image_checks::check_images;
 pub use job_verdict::{CheckAnswer, JobVerdict};
 pub use laws::{
@@ -28,10 +19,9 @@ pub use minimizing::{
     Output, filter, filter_cert, filter_cert_watched, filter_watched, least_job, minimize,
     minimize_watched,
 };
-pub use page_images::{PageChoice, preview_pages};
-pub use page_preview::{page_dots, preview};
 pub use pcl_base::INPUT_LIMIT;
 pub use pcl_meaning::{page_texts_mean_their_pages, written_jobs_ask_for_nothing};
-pub use reading::read_all;
-pub use watching::{Unwatched, Watcher, perform_watched};
-pub use writing::{write_all, write_bytes};
+pub use pcl_streams::{
+    Fault, PageChoice, Unwatched, Watcher, page_dots, perform_watched, preview, preview_pages,
+    read_all, write_all, write_bytes, write_image,
+};

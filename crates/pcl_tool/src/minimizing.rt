@@ -5,13 +5,10 @@ ghost use Rattle.pcl_tool.specs.Minimizing.{IsMinimized, IsFiltered, IsFilteredC
 ghost use Rattle.pcl_tool.specs.Writing.{IsJobWritten};
 ghost use Rattle.pcl_tool.specs.inner.WrittenJobs.{IsBegun, IsOutput};
 
-use crate::Fault;
-use crate::reading::read_all;
-use crate::watching::{Unwatched, Watcher, perform_watched};
-use crate::writing::write_all;
 use crate::written_job::WrittenJob;
 use pcl_base::{Dpi, INPUT_LIMIT};
 use pcl_cert::{Format, write_certificate};
+use pcl_streams::{Fault, Unwatched, Watcher, perform_watched, read_all, write_all};
 use pcl_writer::write_frame;
 use std::alloc::{AllocError, Global};
 use std::io::{Read, Write};

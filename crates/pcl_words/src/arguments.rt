@@ -5,12 +5,11 @@ use clap::{ArgMatches, Error};
 use pcl_base::{Dpi, PAGE_LIMIT};
 use pcl_cert::Format;
 use pcl_explain::kind_named;
-use pcl_pages::Layout;
 use pcl_request::{
-    Batch, Beside, CheckedFiles, ComparedFiles, ReportForm, Request, Resolution, Rewriting, Run,
-    Source, Target, Task, resolution_named,
+    Batch, Beside, CheckedFiles, ComparedFiles, Layout, ReportForm, Request, Resolution, Rewriting,
+    Run, Source, Target, Task, resolution_named,
 };
-use pcl_tool::PageChoice;
+use pcl_streams::PageChoice;
 use pcl_vocabulary::pclmin;
 use std::alloc::{AllocError, Global};
 use std::convert::AsStr;

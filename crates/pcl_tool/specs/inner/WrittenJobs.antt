@@ -10,10 +10,10 @@ use Rattle.pcl_cert.specs.declared.check.Verdict.TheVariants.{Proved}
 use Rattle.pcl_cert.specs.Certificates.{IsProof, HasProofMore, certificate_bytes}
 use Rattle.pcl_cert.specs.Checking.{IsVerdict}
 use Rattle.pcl_page.specs.Delivering.{IsRefusal}
-use Rattle.pcl_tool.specs.declared.fault.Fault.{Fault}
+use Rattle.pcl_streams.specs.declared.fault.Fault.{Fault}
 use Rattle.pcl_tool.specs.declared.minimizing.Output.{Output}
 use Rattle.pcl_tool.specs.declared.written_job.WrittenJob.TheInside.{Inside}
-use Rattle.pcl_tool.specs.JobFaults.{RefusedOrMemory}
+use Rattle.pcl_streams.specs.JobFaults.{RefusedOrMemory}
 use Rattle.pcl_tool.specs.Minimizing.{IsMinimized}
 
 -- the bytes of a job so far, and the certificate of its pages, where one of a format is wanted

@@ -1,0 +1,100 @@
+-- What the program says of two compared jobs.
+use Rattle.std.specs.Prelude.{ℕ, ℤ, List, ◌++◌, Option, None, Some, codes, decimal}
+use Rattle.std.specs.Fmt.{signed_decimal}
+use Rattle.pcl_base.specs.Refusal.{refusal_text}
+use Rattle.pcl_base.specs.declared.size.Size.{Size}
+use Rattle.pcl_base.specs.declared.size.Size.TheVariants.{Executive, Letter, Legal, A4}
+use Rattle.pcl_base.specs.declared.operation.Asking.{Asking}
+use Rattle.pcl_base.specs.declared.operation.Asking.TheVariants.{Sides, OutputBin, MediaType, PaperSource, SheetSide}
+use Rattle.pcl_same.specs.declared.comparison.AskedComparison.{AskedComparison}
+use Rattle.pcl_same.specs.declared.comparison.AskedComparison.TheVariants.{Same, Pages, Asks}
+use Rattle.pcl_same.specs.declared.comparison.PagesDifference.{PagesDifference}
+use Rattle.pcl_same.specs.declared.comparison.PagesDifference.TheVariants as pages
+use Rattle.pcl_same.specs.declared.comparison.AsksDifference.{AsksDifference}
+use Rattle.pcl_same.specs.declared.comparison.AsksDifference.TheVariants as asks
+use Rattle.pcl_same.specs.declared.comparison.ExitDifference.{ExitDifference}
+use Rattle.pcl_same.specs.declared.comparison.ExitDifference.TheVariants as exit
+use Rattle.pcl_same.specs.declared.comparison.SettingDifference.{SettingDifference}
+use Rattle.pcl_same.specs.declared.comparison.Difference.{Difference}
+use Rattle.pcl_same.specs.declared.comparison.Difference.TheVariants as difference
+use Rattle.pcl_same.specs.declared.fault.Job.{Job}
+use Rattle.pcl_same.specs.declared.fault.Job.TheVariants.{First, Second}
+use Rattle.pcl_answers.specs.declared.comparisons.CompareFault.{CompareFault}
+use Rattle.pcl_answers.specs.declared.comparisons.CompareFault.TheVariants.{Refused, Failed}
+use Rattle.pcl_files.specs.Messages.{line_of, status_for}
+use Rattle.pcl_answers.specs.Verdicts.{page_text}
+
+abbrev pub size_text : Size → List ℕ
+size_text Executive = codes "Executive"
+size_text Letter = codes "Letter"
+size_text Legal = codes "Legal"
+size_text A4 = codes "A4"
+
+-- what is told of the first job, and of the second
+abbrev pub pair_text : List ℕ → List ℕ → List ℕ → List ℕ
+pair_text label first second = label ++ first ++ codes " " ++ second
+
+abbrev pub difference_text : Difference → List ℕ
+difference_text (difference.Size first second) = pair_text (codes "size ") (size_text first) (size_text second)
+difference_text (difference.Copies first second) = pair_text (codes "copies ") (decimal first) (decimal second)
+difference_text (difference.Dot x y) = pair_text (codes "dot ") (decimal x) (decimal y)
+
+abbrev pub pages_text : PagesDifference → List ℕ
+pages_text (pages.Count first second) = pair_text (codes "not the same: page count ") (decimal first) (decimal second)
+pages_text (pages.Page number difference) = page_text (codes "not the same: page ") number ++ difference_text difference
+
+-- ---- what is asked
+
+abbrev pub setting_label : Asking → List ℕ
+setting_label Sides = codes "sides "
+setting_label OutputBin = codes "bin "
+setting_label MediaType = codes "media "
+setting_label PaperSource = codes "source "
+setting_label SheetSide = codes "side "
+
+abbrev pub value_text : Option ℤ → List ℕ
+value_text (Some value) = signed_decimal value
+value_text None = codes "none"
+
+abbrev pub setting_text : SettingDifference → List ℕ
+setting_text difference = pair_text (setting_label difference.setting) (value_text difference.first) (value_text difference.second)
+
+abbrev pub exit_text : ExitDifference → List ℕ
+exit_text (exit.Place first second) = pair_text (codes "pages before ") (decimal first) (decimal second)
+exit_text exit.Lines = codes "lines"
+
+abbrev pub asks_text : AsksDifference → List ℕ
+asks_text (asks.Page number difference) = page_text (codes "not the same: page ") number ++ setting_text difference
+asks_text (asks.ExitCount first second) = pair_text (codes "not the same: exit count ") (decimal first) (decimal second)
+asks_text (asks.Exit number difference) = page_text (codes "not the same: exit ") number ++ exit_text difference
+
+-- ---- the line on standard output, and the status
+
+abbrev pub comparison_text : AskedComparison → List ℕ
+comparison_text Same = codes "same"
+comparison_text (Pages difference) = pages_text difference
+comparison_text (Asks difference) = asks_text difference
+
+abbrev pub comparison_line_of : AskedComparison → List ℕ
+comparison_line_of comparison = comparison_text comparison ++ codes "\n"
+
+-- 0 where the jobs are the same, else 1
+abbrev pub comparison_status_for : AskedComparison → ℕ
+comparison_status_for Same = 0
+comparison_status_for (Pages difference) = 1
+comparison_status_for (Asks difference) = 1
+
+-- ---- faults
+
+abbrev pub refused_job_text : Job → List ℕ
+refused_job_text First = codes "first job refused: "
+refused_job_text Second = codes "second job refused: "
+
+-- the line on standard error
+abbrev pub compare_line_of : CompareFault → List ℕ
+compare_line_of (Refused which refusal) = codes "pclmin: " ++ refused_job_text which ++ refusal_text refusal ++ codes "\n"
+compare_line_of (Failed fault) = line_of fault 0
+
+abbrev pub compare_status_for : CompareFault → ℕ
+compare_status_for (Refused which refusal) = 1
+compare_status_for (Failed fault) = status_for fault

@@ -1,0 +1,64 @@
+-- Images of the dots in which two jobs differ.
+use Rattle.std.specs.Prelude.{◌≡◌, ◌⊎◌, ℕ, List, Option, Some, None, Result, Ok, Err}
+use Rattle.std.specs.Borrow.{Bor}
+use Rattle.pcl_base.specs.declared.dpi.Dpi.{Dpi}
+use Rattle.pcl_bitmap.specs.Bitmap.{Picture}
+use Rattle.pcl_streams.specs.declared.fault.Fault.{Fault}
+use Rattle.pcl_streams.specs.declared.fault.Fault.TheVariants.{Refused, Memory, ReadFault, TooLong, WriteFault, NoSuchPage}
+use Rattle.pcl_streams.specs.Image.{IsImageWritten}
+use Rattle.pcl_streams.specs.Preview.{HasPage}
+use Rattle.pcl_same.specs.declared.comparison.Comparison.{Comparison}
+use Rattle.pcl_same.specs.declared.comparison.Comparison.TheVariants.{Page}
+use Rattle.pcl_same.specs.declared.comparison.Difference.TheVariants.{Dot}
+use Rattle.pcl_same.specs.Comparing.{IsComparison}
+use Rattle.pcl_same.specs.DifferingDots.{IsDifference}
+use Rattle.pcl_files.specs.Files.{FileAct, Made, Unmade, Closed, write_fault_of}
+use Rattle.pcl_files.specs.declared.files.FileFault.{FileFault}
+
+-- the page where the first difference is one of dots
+abbrev pub dotted_page : Comparison → Option ℕ
+dotted_page (Page number (Dot x y)) = Some number
+dotted_page other = None
+
+-- the jobs compare so that the pages of this number are the first that differ, in a dot
+abbrev pub DifferInDots : Dpi → (first second : List ℕ) → ℕ → Type 0
+DifferInDots dpi first second number = (x y : ℕ) × IsComparison dpi first second (Page number (Dot x y))
+
+-- an image that is black exactly where the pages of this number differ
+pub record IsDifferenceOf (dpi : Dpi) (first second : List ℕ) (number : ℕ) (image : Picture) : Type 0 where
+  pub one : Picture
+  pub one_is : HasPage dpi first number one
+  pub other : Picture
+  pub other_is : HasPage dpi second number other
+  pub image_is : IsDifference one other image
+
+-- that image, or memory ran out
+abbrev pub IsDifferingPage : Dpi → (first second : List ℕ) → ℕ → Result Picture Fault → Type 0
+IsDifferingPage dpi first second number (Ok image) = IsDifferenceOf dpi first second number image
+IsDifferingPage dpi first second number (Err Memory) = Unit {0}
+IsDifferingPage dpi first second number (Err ReadFault) = ⊥
+IsDifferingPage dpi first second number (Err TooLong) = ⊥
+IsDifferingPage dpi first second number (Err WriteFault) = ⊥
+IsDifferingPage dpi first second number (Err NoSuchPage) = ⊥
+IsDifferingPage dpi first second number (Err (Refused refusal)) = ⊥
+
+-- the file of this name is made, gets the image, and is closed; or it can't be made
+abbrev pub IsImageMade : {F : Type 0} → (F → FileAct → F → Type 0) → List ℕ → Picture → (files kept : F) → Result (Unit {0}) Fault → Type 0
+IsImageMade {F} acts name image files kept done =
+    ((why : FileFault) × acts files (Unmade name why) kept × (done ≡ Err (write_fault_of why)))
+    ⊎ ((made : F) × (held holds : Option (List ℕ)) × acts files (Made name held) made × IsImageWritten held holds image done
+    × acts made (Closed name holds) kept)
+
+-- where no image is asked for, or no page differs in dots first, no file is made; memory may run out before one is
+abbrev pub IsDrawnTo : {F : Type 0} → (F → FileAct → F → Type 0) → Option (Bor (List ℕ)) → Option ℕ → Dpi → (first second : List ℕ)
+    → (files kept : F) → Result (Unit {0}) Fault → Type 0
+IsDrawnTo acts (Some name) (Some number) dpi first second files kept done =
+    ((kept ≡ files) × (done ≡ Err Memory))
+    ⊎ ((image : Picture) × IsDifferenceOf dpi first second number image × IsImageMade acts name.now image files kept done)
+IsDrawnTo acts name number dpi first second files kept done = (kept ≡ files) × (done ≡ Ok tt)
+
+-- what becomes of the image of a comparison
+abbrev pub IsDrawn : {F : Type 0} → (F → FileAct → F → Type 0) → Option (Bor (List ℕ)) → Dpi → (first second : List ℕ) → Comparison
+    → (files kept : F) → Result (Unit {0}) Fault → Type 0
+IsDrawn acts name dpi first second comparison files kept done =
+    IsDrawnTo acts name (dotted_page comparison) dpi first second files kept done

@@ -1,0 +1,6 @@
+pub mod Verdicts
+pub mod Checks
+pub mod ComparisonLines
+pub mod DifferenceImages
+pub mod Comparisons
+pub mod Endings

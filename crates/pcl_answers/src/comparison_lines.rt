@@ -1,0 +1,224 @@
+//! What the program says of two compared jobs.
+
+ghost use Rattle.std.specs.Prelude.{◌≡◌, ◌++◌, IfOk, OnOk};
+ghost use Rattle.pcl_answers.specs.ComparisonLines.{size_text, pair_text, difference_text, pages_text, comparison_text, comparison_line_of};
+ghost use Rattle.pcl_answers.specs.ComparisonLines.{setting_label, setting_text, value_text, exit_text, asks_text};
+ghost use Rattle.pcl_answers.specs.ComparisonLines.{comparison_status_for, refused_job_text, compare_line_of, compare_status_for};
+
+use crate::comparisons::CompareFault;
+use crate::verdicts::append_page;
+use itoa::Buffer;
+use pcl_base::{Asking, Size};
+use pcl_files::{fault_line, status_of};
+use pcl_same::{
+    AskedComparison, AsksDifference, Difference, ExitDifference, Job, PagesDifference,
+    SettingDifference,
+};
+use std::alloc::{AllocError, Global};
+
+/// The line for how two jobs compare, with its line feed.
+pub fn comparison_line(alloc: Global, comparison: &AskedComparison) -> Result<Vec<u8>, AllocError>
+    ensures { IfOk result (λ line. line.items ≡ comparison_line_of comparison.now) }
+{
+    let mut line = Vec::new(alloc);
+    append_comparison(*comparison, &mut line)?;
+    line.extend_from_slice(b"\n")?;
+    Ok(line)
+}
+
+/// Appends how two jobs compare.
+fn append_comparison(comparison: AskedComparison, line: &mut Vec<u8>) -> Result<(), AllocError>
+    ensures { OnOk result (line.new.items ≡ line.old.items ++ comparison_text comparison) }
+{
+    match comparison {
+        AskedComparison::Same => line.extend_from_slice(b"same"),
+        AskedComparison::Pages(difference) => append_pages(difference, line),
+        AskedComparison::Asks(difference) => append_asks(difference, line),
+    }
+}
+
+/// Appends how the pages of two jobs differ.
+fn append_pages(difference: PagesDifference, line: &mut Vec<u8>) -> Result<(), AllocError>
+    ensures { OnOk result (line.new.items ≡ line.old.items ++ pages_text difference) }
+{
+    match difference {
+        PagesDifference::Count { first, second } => append_pair(
+            b"not the same: page count ",
+            Buffer::new().format(first).as_bytes(),
+            Buffer::new().format(second).as_bytes(),
+            line,
+        ),
+        PagesDifference::Page { number, difference } => {
+            append_page(b"not the same: page ", number, line)?;
+            append_difference(difference, line)
+        }
+    }
+}
+
+/// Appends how what two jobs ask of the printer differs.
+fn append_asks(difference: AsksDifference, line: &mut Vec<u8>) -> Result<(), AllocError>
+    ensures { OnOk result (line.new.items ≡ line.old.items ++ asks_text difference) }
+{
+    match difference {
+        AsksDifference::Page { number, difference } => {
+            append_page(b"not the same: page ", number, line)?;
+            append_setting(difference, line)
+        }
+        AsksDifference::ExitCount { first, second } => append_pair(
+            b"not the same: exit count ",
+            Buffer::new().format(first).as_bytes(),
+            Buffer::new().format(second).as_bytes(),
+            line,
+        ),
+        AsksDifference::Exit { number, difference } => {
+            append_page(b"not the same: exit ", number, line)?;
+            append_exit(difference, line)
+        }
+    }
+}
+
+/// Appends the setting that two pages are asked with, and its values.
+fn append_setting(difference: SettingDifference, line: &mut Vec<u8>) -> Result<(), AllocError>
+    ensures { OnOk result (line.new.items ≡ line.old.items ++ setting_text difference) }
+{
+    append_pair(
+        setting_label(difference.setting),
+        value_of(difference.first, &mut Buffer::new()),
+        value_of(difference.second, &mut Buffer::new()),
+        line,
+    )
+}
+
+/// The text of a value that is asked for.
+fn value_of(value: Option<i32>, digits: &mut Buffer) -> &[u8]
+    ensures { result.now ≡ value_text value }
+{
+    match value {
+        Some(value) => digits.format(value).as_bytes(),
+        None => b"none",
+    }
+}
+
+/// What a page is asked with, as a label.
+fn setting_label(setting: Asking) -> &'static [u8]
+    ensures { result.now ≡ setting_label setting }
+{
+    match setting {
+        Asking::Sides => b"sides ",
+        Asking::OutputBin => b"bin ",
+        Asking::MediaType => b"media ",
+        Asking::PaperSource => b"source ",
+        Asking::SheetSide => b"side ",
+    }
+}
+
+/// Appends how two universal exits differ.
+fn append_exit(difference: ExitDifference, line: &mut Vec<u8>) -> Result<(), AllocError>
+    ensures { OnOk result (line.new.items ≡ line.old.items ++ exit_text difference) }
+{
+    match difference {
+        ExitDifference::Place { first, second } => append_pair(
+            b"pages before ",
+            Buffer::new().format(first).as_bytes(),
+            Buffer::new().format(second).as_bytes(),
+            line,
+        ),
+        ExitDifference::Lines => line.extend_from_slice(b"lines"),
+    }
+}
+
+/// Appends how two pages differ.
+fn append_difference(difference: Difference, line: &mut Vec<u8>) -> Result<(), AllocError>
+    ensures { OnOk result (line.new.items ≡ line.old.items ++ difference_text difference) }
+{
+    match difference {
+        Difference::Size { first, second } => {
+            append_pair(b"size ", size_name(first), size_name(second), line)
+        }
+        Difference::Copies { first, second } => append_pair(
+            b"copies ",
+            Buffer::new().format(first).as_bytes(),
+            Buffer::new().format(second).as_bytes(),
+            line,
+        ),
+        Difference::Dot { x, y } => append_pair(
+            b"dot ",
+            Buffer::new().format(x).as_bytes(),
+            Buffer::new().format(y).as_bytes(),
+            line,
+        ),
+    }
+}
+
+/// Appends a label, and two words with a space between them.
+fn append_pair(
+    label: &[u8],
+    first: &[u8],
+    second: &[u8],
+    line: &mut Vec<u8>,
+) -> Result<(), AllocError>
+    ensures { OnOk result (line.new.items ≡ line.old.items ++ pair_text label.now first.now second.now) }
+{
+    line.extend_from_slice(label)?;
+    line.extend_from_slice(first)?;
+    line.extend_from_slice(b" ")?;
+    line.extend_from_slice(second)
+}
+
+/// The name of a page size.
+fn size_name(size: Size) -> &'static [u8]
+    ensures { result.now ≡ size_text size }
+{
+    match size {
+        Size::Executive => b"Executive",
+        Size::Letter => b"Letter",
+        Size::Legal => b"Legal",
+        Size::A4 => b"A4",
+    }
+}
+
+/// The status of a run that compared two jobs so.
+pub fn comparison_status(comparison: &AskedComparison) -> u8
+    ensures { result ≡ comparison_status_for comparison.now }
+{
+    match comparison {
+        AskedComparison::Same => 0,
+        AskedComparison::Pages(_) | AskedComparison::Asks(_) => 1,
+    }
+}
+
+/// The line for a fault of a comparison, with its line feed.
+pub fn compare_fault_line(alloc: Global, fault: &CompareFault) -> Result<Vec<u8>, AllocError>
+    ensures { IfOk result (λ line. line.items ≡ compare_line_of fault.now) }
+{
+    match fault {
+        CompareFault::Refused { which, refusal } => {
+            let mut line = Vec::from_slice(alloc, b"pclmin: ")?;
+            line.extend_from_slice(refused_job(*which))?;
+            refusal.write_text(&mut line)?;
+            line.extend_from_slice(b"\n")?;
+            Ok(line)
+        }
+        CompareFault::Failed(fault) => fault_line(alloc, fault, 0),
+    }
+}
+
+/// What is said of a refused job before its refusal.
+fn refused_job(which: Job) -> &'static [u8]
+    ensures { result.now ≡ refused_job_text which }
+{
+    match which {
+        Job::First => b"first job refused: ",
+        Job::Second => b"second job refused: ",
+    }
+}
+
+/// The status of a comparison that failed so.
+pub fn compare_status_of(fault: &CompareFault) -> u8
+    ensures { result ≡ compare_status_for fault.now }
+{
+    match fault {
+        CompareFault::Refused { .. } => 1,
+        CompareFault::Failed(fault) => status_of(fault),
+    }
+}

@@ -1,0 +1,90 @@
+//! A comparison of two jobs, each from a file.
+
+ghost use Rattle.std.specs.Prelude.{◌≡◌};
+ghost use Rattle.pcl_streams.specs.declared.fault.Fault.TheVariants.{Memory};
+ghost use Rattle.pcl_answers.specs.declared.comparisons.CompareFault.TheVariants.{Failed};
+ghost use Rattle.pcl_answers.specs.Comparisons.{compare_fault_of, IsComparedFor, IsCompareRun};
+
+use crate::comparison_lines::comparison_line;
+use crate::difference_images::draw_difference;
+use pcl_base::{Dpi, Refusal};
+use pcl_files::{JobFiles, read_file, resolve_both};
+use pcl_request::ComparedFiles;
+use pcl_same::{AskedComparison, Job, SameFault, same_asked};
+use pcl_streams::{Fault, write_all};
+use std::alloc::{AllocError, Global};
+use std::io::Write;
+
+/// Why two jobs aren't compared.
+#[derive(Clone, Copy)]
+pub enum CompareFault {
+    /// The rules refuse one of them.
+    Refused { which: Job, refusal: Refusal },
+    /// Reading, writing or memory failed.
+    Failed(Fault),
+}
+
+impl From<SameFault> for CompareFault {
+    ghost from_gives = { λ fault e. e ≡ compare_fault_of fault };
+
+    fn from(fault: SameFault) -> CompareFault {
+        match fault {
+            SameFault::Refused { which, refusal } => CompareFault::Refused { which, refusal },
+            SameFault::Memory => CompareFault::Failed(Fault::Memory),
+        }
+    }
+}
+
+impl From<Fault> for CompareFault {
+    ghost from_gives = { λ fault e. e ≡ Failed fault };
+
+    fn from(fault: Fault) -> CompareFault {
+        CompareFault::Failed(fault)
+    }
+}
+
+impl From<AllocError> for CompareFault {
+    ghost from_gives = { λ _ e. e ≡ Failed Memory };
+
+    fn from(_e: AllocError) -> CompareFault {
+        CompareFault::Failed(Fault::Memory)
+    }
+}
+
+/// Reads the files, compares the jobs, draws the image that is asked for, and writes the line of the comparison. Nothing is
+/// written after any fault but of a write, and then a prefix of the line, or nothing where the image failed.
+pub fn compare<F: JobFiles, W: Write>(
+    files: &mut F,
+    alloc: Global,
+    asked: ComparedFiles<'_>,
+    out: &mut W,
+) -> Result<AskedComparison, CompareFault>
+    ensures { IsCompareRun F.acts asked.entry files.old files.new (W.contents out.old) (W.contents out.new) result }
+{
+    let first = read_file(files, alloc, asked.first)?;
+    let second = read_file(files, alloc, asked.second)?;
+    let dpi = resolve_both(alloc, asked.resolution, &first, &second)?;
+    let comparison = compare_jobs(alloc, asked.asks, &first, &second, dpi)?;
+    let line = comparison_line(alloc, &comparison)?;
+    let pages = comparison.of_pages();
+    draw_difference(files, alloc, asked.image, &first, &second, dpi, &pages)?;
+    write_all(out, &line)?;
+    Ok(comparison)
+}
+
+/// How two jobs compare: what they ask of the printer counts only where that is wanted.
+pub fn compare_jobs(
+    alloc: Global,
+    asks: bool,
+    first: &[u8],
+    second: &[u8],
+    dpi: Dpi,
+) -> Result<AskedComparison, SameFault>
+    ensures { IsComparedFor asks dpi first.now second.now result }
+{
+    match same_asked(alloc, first, second, dpi) {
+        Ok(AskedComparison::Asks(_)) if !asks => Ok(AskedComparison::Same),
+        Ok(comparison) => Ok(comparison),
+        Err(fault) => Err(fault),
+    }
+}

@@ -1,0 +1,80 @@
+//! Images of the dots in which two jobs differ, each to a file.
+
+ghost use Rattle.std.specs.Prelude.{◌≡◌, ℕ};
+ghost use Rattle.pcl_same.specs.Comparing.{IsComparison};
+ghost use Rattle.pcl_answers.specs.DifferenceImages.{dotted_page, DifferInDots, IsDifferingPage, IsImageMade, IsDrawn};
+
+use pcl_base::Dpi;
+use pcl_bitmap::Bitmap;
+use pcl_files::JobFiles;
+use pcl_same::{Comparison, Difference, differing_dots};
+use pcl_streams::{Fault, page_dots, write_image};
+use std::alloc::Global;
+
+/// Makes the file that is asked for, with an image of the dots that differ on the first page that does; none where that page
+/// differs in something else.
+pub fn draw_difference<F: JobFiles>(
+    files: &mut F,
+    alloc: Global,
+    image: Option<&str>,
+    first: &[u8],
+    second: &[u8],
+    dpi: Dpi,
+    comparison: &Comparison,
+) -> Result<(), Fault>
+    requires { IsComparison dpi first.now second.now comparison.now }
+    ensures { IsDrawn F.acts image.entry dpi first.now second.now comparison.now files.old files.new result }
+{
+    match (image, dotted_page(comparison)) {
+        (Some(name), Some(page)) => {
+            let image = differing_page(alloc, first, second, page, dpi)?;
+            make_image(files, alloc, name, &image)
+        }
+        _ => Ok(()),
+    }
+}
+
+/// The number of the page where the first difference is one of dots.
+fn dotted_page(comparison: &Comparison) -> Option<usize>
+    ensures { result ≡ dotted_page comparison.now }
+{
+    match comparison {
+        Comparison::Page {
+            number,
+            difference: Difference::Dot { .. },
+        } => Some(*number),
+        _ => None,
+    }
+}
+
+/// An image of the dots in which the pages of a number differ, which both jobs have, of one size. It fails where memory runs
+/// out.
+fn differing_page(
+    alloc: Global,
+    first: &[u8],
+    second: &[u8],
+    page: usize,
+    dpi: Dpi,
+) -> Result<Bitmap, Fault>
+    requires { DifferInDots dpi first.now second.now page }
+    ensures { IsDifferingPage dpi first.now second.now page result }
+{
+    let one = page_dots(alloc, first, page, dpi)?;
+    let other = page_dots(alloc, second, page, dpi)?;
+    Ok(differing_dots(alloc, &one, &other)?)
+}
+
+/// Makes the file of a name, writes an image to it and closes it. The fault of a file that can't be made comes too.
+fn make_image<F: JobFiles>(
+    files: &mut F,
+    alloc: Global,
+    name: &str,
+    image: &Bitmap,
+) -> Result<(), Fault>
+    ensures { IsImageMade F.acts name.now image.now files.old files.new result }
+{
+    let mut file = files.make(name)?;
+    let written = write_image(alloc, image, &mut file);
+    files.close(name, file);
+    written
+}

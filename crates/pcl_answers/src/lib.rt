@@ -1,0 +1,15 @@
+//! Jobs that are checked and compared, from files: what is answered, what is said of it, and how a run ends.
+#![tactic(auto)]
+
+mod checks;
+mod comparison_lines;
+mod comparisons;
+mod difference_images;
+mod endings;
+mod verdicts;
+
+pub use checks::check;
+pub use comparison_lines::{compare_fault_line, comparison_line};
+pub use comparisons::{CompareFault, compare, compare_jobs};
+pub use endings::{Ending, not_compared};
+pub use verdicts::{answer_line, answer_status, verdict_line, verdict_status};

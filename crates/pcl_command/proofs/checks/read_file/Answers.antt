@@ -1,5 +1,0 @@
-use Rattle.pcl_command.proofs.Names.{inr}
-use Rattle.pcl_command.proofs.checks.read_file.Goals as goal
-
-pub returns-in-Ok : goal.returns-in-Ok
-returns-in-Ok g c = inr (_, _, c.in-Ok.ensures.opened, c.read_all.ensures)

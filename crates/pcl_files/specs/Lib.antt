@@ -1,0 +1,5 @@
+pub mod Messages
+pub mod Failures
+pub mod Files
+pub mod WholeFiles
+pub mod Resolutions

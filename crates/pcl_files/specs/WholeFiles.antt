@@ -1,0 +1,31 @@
+-- What becomes of a file that is read whole, and of one that is written whole or not at all.
+use Rattle.std.specs.Prelude.{◌≡◌, ℕ, List, ◌⊎◌, Option, Result, Ok, Err}
+use Rattle.std.specs.Global.{Vec}
+use Rattle.pcl_base.specs.Limits.{input_limit}
+use Rattle.pcl_streams.specs.declared.fault.Fault.{Fault}
+use Rattle.pcl_streams.specs.declared.fault.Fault.TheVariants.{ReadFault}
+use Rattle.pcl_streams.specs.Transfer.{IsReadAll, IsWritten}
+use Rattle.pcl_files.specs.Files.{FileAct, Opened, Unopened, Unmade, Begun, Placed, Unplaced, Dropped, write_fault_of}
+use Rattle.pcl_files.specs.declared.files.FileFault.{FileFault}
+
+-- a file of this name was opened, and read to its end or up to a fault; or it can't be opened, which is a fault of reading
+abbrev pub IsFileRead : {F : Type 0} → (F → FileAct → F → Type 0) → F → List ℕ → Result (Vec ℕ) Fault → Type 0
+IsFileRead acts files name read =
+    (acts files (Unopened name) files × (read ≡ Err ReadFault))
+    ⊎ ((given left : Option (List ℕ)) × acts files (Opened name given) files × IsReadAll given left input_limit read)
+
+-- A file that was begun is placed where the task was done, and dropped where it failed or the file can't be placed.
+abbrev pub IsSettled : {F : Type 0} → (F → FileAct → F → Type 0) → List ℕ → (holds : Option (List ℕ)) → Result (Unit {0}) Fault
+    → (files kept : F) → Result (Unit {0}) Fault → Type 0
+IsSettled acts name holds (Ok unit) files kept done =
+    (acts files (Placed name holds) kept × (done ≡ Ok tt))
+    ⊎ ((why : FileFault) × acts files (Unplaced name why) kept × (done ≡ Err (write_fault_of why)))
+IsSettled acts name holds (Err fault) files kept done = acts files (Dropped name) kept × (done ≡ Err fault)
+
+-- a file was begun for this name, got these bytes and was settled; or it can't be begun
+abbrev pub IsFileWritten : {F : Type 0} → (F → FileAct → F → Type 0) → (name bytes : List ℕ) → (files kept : F)
+    → Result (Unit {0}) Fault → Type 0
+IsFileWritten {F} acts name bytes files kept done =
+    ((why : FileFault) × acts files (Unmade name why) kept × (done ≡ Err (write_fault_of why)))
+    ⊎ ((begun : F) × (held holds : Option (List ℕ)) × (written : Result (Unit {0}) Fault) × acts files (Begun name held) begun
+    × IsWritten held holds bytes written × IsSettled acts name holds written begun kept done)

@@ -1,0 +1,65 @@
+//! What is to be said of a run that failed.
+
+ghost use Rattle.pcl_files.specs.Failures.{HasFailed, IsFailureStatus, terminal_line};
+ghost use Rattle.pcl_files.specs.Messages.{line_of, status_for};
+
+use crate::messages::{MEMORY_STATUS, USAGE_STATUS, fault_line, status_of};
+use pcl_streams::Fault;
+use std::alloc::Global;
+
+/// What is to be said of a run that failed.
+#[derive(Drop)]
+pub enum Failure {
+    /// The line for standard error, with its line feed, and the status.
+    Said { line: Vec<u8>, status: u8 },
+    /// Memory ran out, for the line too.
+    NoMemory,
+}
+
+impl Failure {
+    /// Of a fault of a run that was asked for a page.
+    pub fn of(alloc: Global, fault: &Fault, page: usize) -> Failure
+        ensures { HasFailed (line_of fault.now page) (status_for fault.now) result }
+    {
+        match fault_line(alloc, fault, page) {
+            Ok(line) => Failure::Said {
+                line,
+                status: status_of(fault),
+            },
+            Err(_) => Failure::NoMemory,
+        }
+    }
+
+    /// Of a run that isn't what it should be, of which this line is said.
+    pub fn usage(alloc: Global, said: &[u8]) -> Failure
+        ensures { HasFailed said.now 2 result }
+    {
+        match Vec::from_slice(alloc, said) {
+            Ok(line) => Failure::Said {
+                line,
+                status: USAGE_STATUS,
+            },
+            Err(_) => Failure::NoMemory,
+        }
+    }
+
+    /// The status of the program.
+    pub fn status(&self) -> u8
+        ensures { IsFailureStatus self.now result }
+    {
+        match self {
+            Failure::Said { status, .. } => *status,
+            Failure::NoMemory => MEMORY_STATUS,
+        }
+    }
+}
+
+/// What is said where a job or an image would be written to a terminal.
+pub fn refuse_terminal(alloc: Global) -> Failure
+    ensures { HasFailed terminal_line 2 result }
+{
+    Failure::usage(
+        alloc,
+        b"pclmin: nothing is written to a terminal: send standard output to a file, or give -o FILE\n",
+    )
+}

@@ -1,0 +1,16 @@
+//! Files by their names, over whatever has them; the resolution at which jobs are seen; and what is said of a run that failed.
+#![tactic(auto)]
+
+mod failures;
+mod files;
+mod messages;
+mod reporter;
+mod resolutions;
+mod whole_files;
+
+pub use failures::{Failure, refuse_terminal};
+pub use files::{FileFault, JobFiles};
+pub use messages::{MEMORY_STATUS, USAGE_STATUS, fault_line, status_of};
+pub use reporter::Reporter;
+pub use resolutions::{resolve, resolve_both};
+pub use whole_files::{read_file, settle, write_file};

@@ -1,0 +1,19 @@
+//! Who is told what there is to say of a run.
+
+use pcl_streams::Watcher;
+
+/// Is told what there is to say of a run besides what it writes, and how far it has come. No contract speaks of what it does
+/// then.
+pub trait Reporter: Watcher {
+    /// A line, with its line feed.
+    fn report(&self, line: &[u8]);
+}
+
+/// Where there is no reporter, nobody is told.
+impl<P: Reporter> Reporter for Option<P> {
+    fn report(&self, line: &[u8]) {
+        if let Some(reporter) = self {
+            reporter.report(line);
+        }
+    }
+}

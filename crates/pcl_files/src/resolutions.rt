@@ -1,0 +1,58 @@
+//! The resolution at which jobs are seen.
+
+ghost use Rattle.std.specs.Prelude.{IfOk};
+ghost use Rattle.pcl_files.specs.Resolutions.{AreSeenAt, IsFirstCommon, IsSeenAt, SayIfAccepted};
+
+use pcl_base::Dpi;
+use pcl_page::{first_accepted, is_accepted};
+use pcl_request::Resolution;
+use std::alloc::{AllocError, Global};
+
+/// The resolution at which a job is seen.
+pub fn resolve(alloc: Global, resolution: Resolution, job: &[u8]) -> Result<Dpi, AllocError>
+    ensures { IfOk result (λ dpi. IsSeenAt resolution job.now dpi) }
+{
+    match resolution {
+        Resolution::Given(dpi) => Ok(dpi),
+        Resolution::FirstAccepted => first_accepted(alloc, job),
+    }
+}
+
+/// The resolution at which two jobs are seen.
+pub fn resolve_both(
+    alloc: Global,
+    resolution: Resolution,
+    first: &[u8],
+    second: &[u8],
+) -> Result<Dpi, AllocError>
+    ensures { IfOk result (λ dpi. AreSeenAt resolution first.now second.now dpi) }
+{
+    match resolution {
+        Resolution::Given(dpi) => Ok(dpi),
+        Resolution::FirstAccepted => first_common(alloc, first, second),
+    }
+}
+
+/// The first of 300 and 600 dots per inch at which two jobs are accepted; 300 where there is none.
+fn first_common(alloc: Global, first: &[u8], second: &[u8]) -> Result<Dpi, AllocError>
+    ensures { IfOk result (λ dpi. IsFirstCommon first.now second.now dpi) }
+{
+    if are_accepted(alloc, first, second, Dpi::Dpi300)? {
+        return Ok(Dpi::Dpi300);
+    }
+    if are_accepted(alloc, first, second, Dpi::Dpi600)? {
+        return Ok(Dpi::Dpi600);
+    }
+    Ok(Dpi::Dpi300)
+}
+
+/// Whether the rules accept two jobs.
+fn are_accepted(alloc: Global, first: &[u8], second: &[u8], dpi: Dpi) -> Result<bool, AllocError>
+    ensures { IfOk result (λ accepted. SayIfAccepted dpi first.now second.now accepted) }
+{
+    if is_accepted(alloc, first, dpi)? {
+        is_accepted(alloc, second, dpi)
+    } else {
+        Ok(false)
+    }
+}

@@ -1,0 +1,53 @@
+//! Files that are read whole, and files that are written whole or not at all.
+
+ghost use Rattle.pcl_files.specs.WholeFiles.{IsFileRead, IsFileWritten, IsSettled};
+
+use crate::files::JobFiles;
+use pcl_base::INPUT_LIMIT;
+use pcl_streams::{Fault, read_all, write_all};
+use std::alloc::Global;
+
+/// The bytes of the file of a name. ReadFault comes too where it can't be opened.
+pub fn read_file<F: JobFiles>(files: &F, alloc: Global, name: &str) -> Result<Vec<u8>, Fault>
+    ensures { IsFileRead F.acts files.now name.now result }
+{
+    match files.open(name) {
+        Ok(mut file) => read_all(alloc, &mut file, INPUT_LIMIT),
+        Err(_) => Err(Fault::ReadFault),
+    }
+}
+
+/// Places a file that was begun for a name where the task that wrote it is done, and drops it where that failed.
+pub fn settle<F: JobFiles>(
+    files: &mut F,
+    name: &str,
+    file: F::Writer,
+    done: Result<(), Fault>,
+) -> Result<(), Fault>
+    ensures { IsSettled F.acts name.now (F.Writer.contents file) done files.old files.new result }
+{
+    match done {
+        Ok(()) => match files.place(name, file) {
+            Ok(()) => Ok(()),
+            Err(why) => Err(Fault::from(why)),
+        },
+        Err(fault) => {
+            files.discard(name, file);
+            Err(fault)
+        }
+    }
+}
+
+/// Writes a file of these bytes, which takes the place of what its name had only where it is whole. After a fault, which is
+/// WriteFault or Memory, what was there stays.
+pub fn write_file<F: JobFiles>(files: &mut F, name: &str, bytes: &[u8]) -> Result<(), Fault>
+    ensures { IsFileWritten F.acts name.now bytes.now files.old files.new result }
+{
+    match files.begin(name) {
+        Ok(mut file) => {
+            let written = write_all(&mut file, bytes);
+            settle(files, name, file, written)
+        }
+        Err(why) => Err(Fault::from(why)),
+    }
+}

@@ -1,0 +1,4 @@
+pub mod Names
+pub mod Writes
+pub mod Choices
+pub mod Showings

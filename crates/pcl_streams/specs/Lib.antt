@@ -1,0 +1,7 @@
+pub mod JobFaults
+pub mod Transfer
+pub mod Image
+pub mod Preview
+pub mod PageImages
+pub mod Watching
+pub mod inner

@@ -1,0 +1,65 @@
+-- What a preview of several pages writes, and what each fault says.
+use Rattle.std.specs.Prelude.{◌≡◌, ℕ, ◌+◌, ◌≤◌, List, [], ◌∷◌, ◌++◌, length, take, drop, Option, Result, Ok, Err}
+use Rattle.std.specs.Global.{Vec}
+use Rattle.std.specs.Io.KnownBytes.{Appends, Keeps}
+use Rattle.pcl_base.specs.declared.dpi.Dpi.{Dpi}
+use Rattle.pcl_bitmap.specs.declared.page.Page.{Page}
+use Rattle.pcl_page.specs.Situation.{Sheet}
+use Rattle.pcl_page.specs.Jobs.{HasPages}
+use Rattle.pcl_page.specs.Delivering.{AllShow, IsRefusal}
+use Rattle.pcl_streams.specs.declared.fault.Fault.{Fault}
+use Rattle.pcl_streams.specs.declared.fault.Fault.TheVariants.{Refused, Memory, ReadFault, TooLong, WriteFault, NoSuchPage}
+use Rattle.pcl_streams.specs.declared.page_images.PageChoice.{PageChoice}
+use Rattle.pcl_streams.specs.declared.page_images.PageChoice.TheVariants.{All, Range}
+use Rattle.pcl_streams.specs.Transfer.{AppendsFront}
+use Rattle.pcl_streams.specs.Image.{image_of}
+
+-- the pages that are asked for
+abbrev pub chosen : PageChoice → List Page → List Page
+chosen All pages = pages
+chosen (Range before count) pages = take count (drop before pages)
+
+-- the number of the last page that is asked for by its number, 0 where none is
+abbrev pub last_page : PageChoice → ℕ
+last_page All = 0
+last_page (Range before count) = before + count
+
+-- of so many pages none is missing that is asked for
+abbrev pub AreThere : PageChoice → ℕ → Type 0
+AreThere All number = Unit {0}
+AreThere (Range before count) number = before + count ≤ number
+
+-- one image after the other
+abbrev pub images_of : List Page → List ℕ
+images_of [] = []
+images_of (page ∷ later) = image_of page.bitmap ++ images_of later
+
+-- the bytes are the images of the pages of an accepted job that are asked for
+pub record AreImagesOf (dpi : Dpi) (job : List ℕ) (choice : PageChoice) (bytes : List ℕ) : Type 0 where
+  pub sheets : List Sheet
+  pub meaning : HasPages dpi job sheets
+  pub there : AreThere choice (length sheets)
+  pub pages : List Page
+  pub show : AllShow dpi pages sheets
+  pub images : bytes ≡ images_of (chosen choice pages)
+
+-- a page that is asked for is missing in an accepted job
+abbrev pub LacksPage : Dpi → List ℕ → PageChoice → Type 0
+LacksPage dpi job choice = (sheets : List Sheet) × HasPages dpi job sheets × (AreThere choice (length sheets) → ⊥)
+
+abbrev pub ArePageImages : Dpi → List ℕ → PageChoice → Result (Vec ℕ) Fault → Type 0
+ArePageImages dpi job choice (Ok images) = AreImagesOf dpi job choice images.items
+ArePageImages dpi job choice (Err (Refused refusal)) = IsRefusal dpi job refusal
+ArePageImages dpi job choice (Err NoSuchPage) = LacksPage dpi job choice
+ArePageImages dpi job choice (Err Memory) = Unit {0}
+ArePageImages dpi job choice (Err fault) = ⊥
+
+-- the images are written; a prefix of them where a write fails, and nothing after any other fault
+abbrev pub IsPagesPreview : Dpi → List ℕ → PageChoice → Option (List ℕ) → Option (List ℕ) → Result (Unit {0}) Fault → Type 0
+IsPagesPreview dpi job choice old new (Ok unit) = (bytes : List ℕ) × AreImagesOf dpi job choice bytes × Appends old new bytes
+IsPagesPreview dpi job choice old new (Err WriteFault) =
+    (bytes : List ℕ) × AreImagesOf dpi job choice bytes × AppendsFront old new bytes
+IsPagesPreview dpi job choice old new (Err (Refused refusal)) = IsRefusal dpi job refusal × Keeps old new
+IsPagesPreview dpi job choice old new (Err NoSuchPage) = LacksPage dpi job choice × Keeps old new
+IsPagesPreview dpi job choice old new (Err Memory) = Keeps old new
+IsPagesPreview dpi job choice old new (Err fault) = ⊥

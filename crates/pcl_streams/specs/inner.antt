@@ -1,0 +1,3 @@
+-- What only proofs and contracts of private functions cite.
+pub mod Choice
+pub mod Showing

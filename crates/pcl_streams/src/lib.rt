@@ -1,0 +1,19 @@
+//! What runs read and write, over any reader and writer: whole inputs, images of pages, the faults of it, and who is told of pages
+//! that are done.
+#![tactic(auto)]
+
+mod fault;
+mod image;
+mod page_images;
+mod page_preview;
+mod reading;
+mod watching;
+mod writing;
+
+pub use fault::Fault;
+pub use image::write_image;
+pub use page_images::{PageChoice, chosen_images, preview_pages};
+pub use page_preview::{page_dots, preview};
+pub use reading::read_all;
+pub use watching::{Unwatched, Watcher, perform_watched};
+pub use writing::{write_all, write_bytes};

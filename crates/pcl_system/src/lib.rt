@@ -1,0 +1,10 @@
+//! The system that a process runs on: its files, standard input, and what a person is told on standard error.
+#![tactic(auto)]
+
+mod files;
+mod input;
+mod voice;
+
+pub use files::SystemFiles;
+pub use input::Input;
+pub use voice::Voice;
