@@ -13,7 +13,7 @@ use pcl_macros::{MacroControl, Macros};
 use std::alloc::{AllocError, Global};
 
 /// A macro that runs.
-#[derive(Debug, Default, Drop)]
+#[derive(Default, Drop)]
 pub struct Running {
     /// The place of its next command in the list of commands.
     pub next: usize,
