@@ -357,7 +357,10 @@ fn text_of(alloc: Global, ended: &Result<Ending, Error>) -> Result<String, Alloc
     Ok(match ended {
         Ok(Ending::Done | Ending::Checked(_) | Ending::Compared(_)) => String::new(alloc),
         Ok(Ending::Failed(Failure::Said { line, .. })) => String::from_utf8_lossy(alloc, line)?,
-        Ok(Ending::Failed(Failure::NoMemory)) => String::from_str(alloc, "pclmin: out of memory\n")?,
+        Ok(Ending::Failed(Failure::NoMemory)) => String::from_str(
+            alloc,
+            "pclmin: out of memory\n",
+        )?,
         Err(error) => format!(in alloc; "{error}")?,
     })
 }
