@@ -1,4 +1,4 @@
-//! Many jobs, one after the other: each is written again into a folder, beside the digests of both, and a report says what came of it.
+//! A batch: its jobs, one after the other, the report, and how it ends.
 
 use crate::job::write_job;
 use crate::rewriter::Rewriter;

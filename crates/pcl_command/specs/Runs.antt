@@ -1,5 +1,5 @@
 -- What a run of the program reads and writes, and how what is asked for ends.
-use Rattle.std.specs.Prelude.{◌≡◌, ℕ, ◌+◌, List, codes, length, ◌⊎◌, Option, Some, Result, Ok, Err}
+use Rattle.std.specs.Prelude.{◌≡◌, ℕ, ◌+◌, List, length, ◌⊎◌, Option, Some, Result, Ok, Err}
 use Rattle.std.specs.Io.KnownBytes.{Consumes, Appends, Keeps}
 use Rattle.pcl_base.specs.declared.dpi.Dpi.{Dpi}
 use Rattle.pcl_base.specs.declared.kind.Kind.{Kind}
@@ -16,7 +16,7 @@ use Rattle.pcl_page.specs.Accepting.{IsAccepted, IsFirstAccepted}
 use Rattle.pcl_explain.specs.Findings.{Explains, ExplainsKind}
 use Rattle.pcl_shrink.specs.Shrinking.{IsSmallerJob}
 use Rattle.pcl_files.specs.Messages.{line_of, status_for}
-use Rattle.pcl_files.specs.Files.{FileAct, Opened, Unopened, Made, Unmade, Closed, Begun, Placed, Unplaced, Dropped, write_fault_of}
+use Rattle.pcl_files.specs.Files.{FileAct, Opened, Unopened, Made, Unmade, Closed, Begun, write_fault_of}
 use Rattle.pcl_files.specs.declared.files.FileFault.{FileFault}
 use Rattle.pcl_answers.specs.Checks.{IsCheckRun}
 use Rattle.pcl_files.specs.Failures.{HasFailed}

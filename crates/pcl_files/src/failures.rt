@@ -30,7 +30,7 @@ impl Failure {
         }
     }
 
-    /// Of a run that isn't what it should be, of which this line is said.
+    /// Of a usage fault, with the line that is said of it.
     pub fn usage(alloc: Global, said: &[u8]) -> Failure
         ensures { HasFailed said.now 2 result }
     {
