@@ -96,4 +96,5 @@ table_view a = map (λ e. (e.0, stored_in e.1)) (filter (λ e. is_there a.deleti
 
 pub record IsFontMap (a : Inside) : Type 0 where
   pub unique : IsUnique nat_eq a.entries
-  pub earlier : (id : ℕ) → IfSome (lookup (nat_eq id) a.entries.entries) (λ entry. entry.is_permanent ≡ false → entry.deletions ≤ a.deletions)
+  pub earlier : (id : ℕ)
+      → IfSome (lookup (nat_eq id) a.entries.entries) (λ entry. entry.is_permanent ≡ false → entry.deletions ≤ a.deletions)
