@@ -10,14 +10,20 @@ the driver RAW without the backend is then sent once more, to a raw queue with t
 
 A job holds where, at the resolution at which the job without the backend is accepted, the printer gets what `shrink` writes of
 it, no longer than it was and the same by `pclmin same --asked`; and where no resolution is, where it gets it byte for byte. A raw
-job also has to be in the server's log of pages, with as many pages as `pclmin pages` finds. Prints of each job the queue, the
-document, the kind, the bytes without the backend and with it, and how they compare; then the sums by driver, and how many hold;
-status 1 if one doesn't.
+job also has to be in the server's log of pages, with as many pages as `pclmin pages` finds. Each printer answers while a job
+comes in, so that its own words would be found in what it got. One raw job goes to a device that is asked by SNMP too.
+
+A long job of a driver is cancelled in three places: while a slow printer takes it, with the backend and without, and while it
+still comes to the backend. The first two have to end the same, after a part of the job; the third prints nothing.
+
+Prints of each job the queue, the document, the kind, the bytes without the backend and with it, and how they compare; then the
+sums by driver, what the cancelled jobs came to, and how many jobs hold; status 1 if anything doesn't.
 
 Needs Debian's packages cups, cups-ppdc, cups-filters, ghostscript, foomatic-db-compressed-ppds, printer-driver-gutenprint and
 printer-driver-hpijs.
 """
 import os
+import re
 import socket
 import subprocess
 import sys
@@ -28,6 +34,11 @@ import time
 HERE = os.path.dirname(os.path.abspath(__file__))
 # How long all jobs may take, in seconds.
 PATIENCE = 900
+# What a printer says of itself while a job comes in, and how often: there is room for that in the back channel, which nobody reads.
+ANSWER = b"@PJL USTATUS DEVICE\r\nCODE=10001\r\nDISPLAY=\"PROCESSING JOB\"\r\nONLINE=TRUE\r\n\f"
+ANSWERS = 100
+# How many bytes of a job have come when it is cancelled.
+START = 100000
 FOOMATIC = "foomatic-db-compressed-ppds:0/ppd/foomatic-ppd/"
 # A queue's name, its driver as `lpadmin -m` takes it (None: RASTERTOHP), options of each of its jobs, and whether all of them
 # have to be accepted.
@@ -40,7 +51,7 @@ DRIVERS = [
     ("ljet4", FOOMATIC + "Generic-PCL_5e_Printer-ljet4.ppd", [], False),
     ("ljet4d", FOOMATIC + "Generic-PCL_5e_Printer-ljet4d.ppd", [], False),
 ]
-# The driver whose jobs go through a raw queue too.
+# The driver whose jobs go through a raw queue too, and that makes the jobs that are cancelled.
 RAW = "ljet2p"
 # A driver of CUPS's rastertohp, as ppdc takes it.
 RASTERTOHP = """
@@ -85,12 +96,15 @@ DOCUMENTS = [
     ("mixed", "20 text picture 300 300 200 1 rectfill showpage"),
     ("pages", "50 text showpage form showpage 10 text picture showpage"),
 ]
+# Ten pages that don't get smaller, of 10 MB: more than is on its way between a driver and a printer.
+NOISE = """/random 4096 string def 0 1 4095 { random exch rand 255 and put } for
+10 { gsave 595 842 scale 2480 3508 1 [2480 0 0 -3508 0 3508] { random rand 3700 mod 310 getinterval } image grestore showpage } repeat"""
 
 
 def make_documents(folder):
     """Writes the documents as PDF, and gives the names of the files by document."""
     files = {}
-    for name, drawing in DOCUMENTS:
+    for name, drawing in [*DOCUMENTS, ("noise", NOISE)]:
         source, files[name] = f"{folder}/{name}.ps", f"{folder}/{name}.pdf"
         with open(source, "w") as out:
             out.write(PROLOGUE + drawing + "\n")
@@ -101,19 +115,52 @@ def make_documents(folder):
 # ---- the printer and the server
 
 class Printer:
-    """Listens on a port of loopback, and keeps what each connection sends, in their order."""
+    """Listens on a port of loopback, answers while a job comes in, and keeps what each connection sends, in their order."""
 
-    def __init__(self):
+    def __init__(self, options="/?snmp=false"):
         self.jobs = []
         self.listener = socket.create_server(("127.0.0.1", 0), backlog=64)
-        self.uri = f"socket://127.0.0.1:{self.listener.getsockname()[1]}/?snmp=false&waiteof=false"
+        self.uri = f"socket://127.0.0.1:{self.listener.getsockname()[1]}{options}"
         threading.Thread(target=self.listen, daemon=True).start()
 
     def listen(self):
         while True:
             connection = self.listener.accept()[0]
-            with connection, connection.makefile("rb") as came:
-                self.jobs.append(came.read())
+            with connection:
+                self.jobs.append(self.take(connection))
+
+    def take(self, connection):
+        """What comes until its end. The first answer is there before the job is."""
+        job, answers = bytearray(), 0
+        try:
+            while True:
+                if answers < ANSWERS:
+                    connection.sendall(ANSWER)
+                    answers += 1
+                came = connection.recv(65536)
+                if not came:
+                    break
+                job += came
+                self.look(job)
+        except ConnectionError:
+            pass
+        return bytes(job)
+
+    def look(self, job):
+        """Called with all that has come of a job."""
+
+
+class SlowPrinter(Printer):
+    """Takes the start of a job, and the rest once it may."""
+
+    def __init__(self):
+        super().__init__()
+        self.started, self.may = threading.Event(), threading.Event()
+
+    def look(self, job):
+        if len(job) >= START:
+            self.started.set()
+            self.may.wait(PATIENCE)
 
 
 def run(*command):
@@ -178,6 +225,11 @@ def print_all(at, queue, options, files):
             run("lp", "-h", at, "-d", queue, "-t", name, "-o", "PageSize=A4", *chosen, *asked, files[name])
 
 
+def print_one(at, queue, file, *options):
+    """Sends a file, and gives the number of the job."""
+    return re.search(r"-(\d+) ", run("lp", "-h", at, "-d", queue, *options, file)).group(1)
+
+
 def print_raw(at, queue, folder, jobs):
     """Sends jobs of a driver as they are, in their order."""
     for job in jobs:
@@ -191,6 +243,27 @@ def wait_for(printers, wanted):
     end = time.monotonic() + PATIENCE
     while time.monotonic() < end and any(len(one.jobs) < wanted for one in printers):
         time.sleep(0.5)
+
+
+def wait_for_log(folder, job, said):
+    """Waits until the server's log says it of the job, and gives what the parentheses of the pattern hold."""
+    end = time.monotonic() + PATIENCE
+    while time.monotonic() < end:
+        with open(f"{folder}/log/error") as log:
+            found = re.search(rf"\[Job {job}\] {said}", log.read())
+        if found:
+            return found.groups()
+        time.sleep(0.1)
+    sys.exit(f"the server's log never says of job {job}: {said}")
+
+
+def shrink(program, folder, job):
+    """What `shrink` writes of a job."""
+    with open(f"{folder}/whole.pcl", "wb") as out:
+        out.write(job)
+    run(program, "shrink", "--dpi", "auto", "-o", f"{folder}/smaller.pcl", f"{folder}/whole.pcl")
+    with open(f"{folder}/smaller.pcl", "rb") as smaller:
+        return smaller.read()
 
 
 def judge(program, folder, without, came):
@@ -226,6 +299,55 @@ def compare_logged(program, folder, queue, jobs):
     holds = came == [pages_of(program, folder, job) for job in jobs]
     print(f"{queue}\t{sum(came)} pages of {len(came)} jobs logged{'' if holds else ': DOES NOT HOLD'}")
     return holds
+
+
+def compare_asked(program, at, folder, job):
+    """Says whether a raw job comes to a device that is also asked by SNMP as `shrink` writes it."""
+    printer = Printer("")
+    run("lpadmin", "-h", at, "-p", "asked", "-E", "-v", "pclmin:/auto/" + printer.uri)
+    print_raw(at, "asked", folder, [job])
+    wait_for([printer], 1)
+    holds = printer.jobs == [shrink(program, folder, job)]
+    print(f"by SNMP\t{sum(map(len, printer.jobs))} bytes came{'' if holds else ': DOES NOT HOLD'}")
+    return holds
+
+
+def compare_cancelled(program, at, folder, file):
+    """Cancels a long job of the driver RAW in its three places, and says whether each ends as it has to."""
+    driver = {name: driver for name, driver, _, _ in DRIVERS}[RAW]
+    whole, plain, small, early = Printer(), SlowPrinter(), SlowPrinter(), Printer()
+    jobs = {}
+    for name, device in [("whole", whole.uri), ("plain", plain.uri), ("small", "pclmin:/auto/" + small.uri),
+                         ("early", "pclmin:/auto/" + early.uri)]:
+        add_queue(at, folder, name, driver, device)
+        jobs[name] = print_one(at, name, file, "-o", "PageSize=A4")
+    wait_for_log(folder, jobs["early"], r"Started backend ")
+    run("cancel", "-h", at, "early-" + jobs["early"])
+    for printer in [plain, small]:
+        printer.started.wait(PATIENCE)
+    for name in ["plain", "small"]:
+        run("cancel", "-h", at, f"{name}-{jobs[name]}")
+    # by then, nothing is on its way any more
+    time.sleep(1)
+    for printer in [plain, small]:
+        printer.may.set()
+    ends = {name: wait_for_log(folder, jobs[name], r"PID \d+ \(.*/backend/\w+\) (.*)")[0] for name in jobs}
+    wait_for([whole, plain, small], 1)
+    smaller, came, without = shrink(program, folder, whole.jobs[0]), small.jobs[0], plain.jobs[0]
+    holds = (START < len(came) < len(smaller) // 2 and smaller.startswith(came) and len(without) < len(whole.jobs[0])
+             and ends["small"] == ends["plain"] and early.jobs == [])
+    print(f"cancelled\t{len(without)} bytes of {len(whole.jobs[0])} came without the backend, which {ends['plain']}\n"
+          f"cancelled\t{len(came)} bytes of {len(smaller)} came with it, which {ends['small']}\n"
+          f"cancelled\t{sum(map(len, early.jobs))} bytes came of a job that was on its way to it, which {ends['early']}"
+          f"{'' if holds else ': DOES NOT HOLD'}")
+    return holds
+
+
+def compare_left(folder):
+    """Says whether the backend has left no folder."""
+    left = [name for name in os.listdir(f"{folder}/spool/tmp") if name.startswith("pclmin.")]
+    print(f"left\t{len(left)} temporary folders{': DOES NOT HOLD' if left else ''}")
+    return not left
 
 
 def compare(program, folder, queues):
@@ -270,14 +392,15 @@ def main(program):
             run("lpadmin", "-h", at, "-p", "raw", "-E", "-v", "pclmin:/auto/" + raw.uri)
             print_raw(at, "raw", folder, printers[RAW][0].jobs)
             wait_for([raw], wanted)
+            others = [compare_asked(program, at, folder, printers[RAW][0].jobs[0]), compare_cancelled(program, at, folder, files["noise"])]
         finally:
             server.terminate()
             server.wait()
         queues = [(name, *printers[name], accepted) for name, _, _, accepted in DRIVERS]
         held, jobs = compare(program, folder, [*queues, ("raw", printers[RAW][0], raw, True)])
-        logged = compare_logged(program, folder, "raw", printers[RAW][0].jobs)
+        others += [compare_logged(program, folder, "raw", printers[RAW][0].jobs), compare_left(folder)]
     print(f"{held} of {jobs} hold")
-    return 0 if held == jobs and logged else 1
+    return 0 if held == jobs and all(others) else 1
 
 
 if __name__ == "__main__":
