@@ -239,7 +239,7 @@ def print_raw(at, queue, folder, jobs):
 
 
 def wait_for(printers, wanted):
-    """Waits until so many jobs have come to each printer, or patience ends."""
+    """Waits until as many jobs as wanted have come to each printer, or patience ends."""
     end = time.monotonic() + PATIENCE
     while time.monotonic() < end and any(len(one.jobs) < wanted for one in printers):
         time.sleep(0.5)

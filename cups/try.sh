@@ -11,7 +11,7 @@ cases=0
 mkdir -p "$folder/backend" "$folder/tmp" "$folder/a temporary place"
 cat > "$folder/backend/keep" << 'END'
 #!/bin/sh
-# Keeps what comes and how it is called, waits so many tenths of a second, and ends with a status.
+# Keeps what comes and how it is called, waits WAIT tenths of a second, and ends with the status ENDS.
 folder=$(dirname "$(dirname "$0")")
 trap 'echo stopped >> "$folder/called"; exit 9' TERM
 echo "$DEVICE_URI $# $4" > "$folder/called"
@@ -90,11 +90,11 @@ by_then() {
     return 1
 }
 
-# ended STATUS: the backend ends within five seconds, with that status; where it doesn't, it is ended
+# ended STATUS...: the backend ends within five seconds, with one of these; where it doesn't, it is ended
 ended() {
     by_then '! kill -0 $backend' || { kill -KILL -- -$backend; touch "$folder/go"; }
     wait $backend
-    test $? -eq "$1"
+    [[ " $* " == *" $? "* ]]
 } 2> /dev/null
 
 nothing_left() { test -z "$(ls -A "$TMPDIR")"; }
@@ -139,6 +139,10 @@ holds "no standard error: the job is sent all the same" 'rm "$folder/kept"; DEVI
 holds "no standard input: nothing is sent, and it fails" 'rm -f "$folder/called"; DEVICE_URI=pclmin:/auto/keep://there cups/backend/pclmin 1 me title 1 "" <&- 2> "$folder/said"; test $? -eq 1 && grep -q "^ERROR: pclmin: " "$folder/said" && test ! -e "$folder/called"'
 holds "no room for the job: nothing is sent, and it fails" \
     'rm -f "$folder/called"; (ulimit -f 1000; trap "" XFSZ; feed "$folder/long"); test $? -eq 1 && grep -q "^ERROR: pclmin: " "$folder/said" && test ! -e "$folder/called"'
+printf '#!/bin/sh\nulimit -f 1\nexec %s "$@"\n' "$program" > "$folder/narrow"
+chmod +x "$folder/narrow"
+holds "no room for what it is written as: the job goes as it came" \
+    'PCLMIN=$folder/narrow feed $job && cmp -s $job "$folder/kept" && grep -q "^WARNING: pclmin: sent as it came: ..*$" "$folder/said"'
 holds "no temporary folder: the job goes as it came" \
     'TMPDIR=/none feed $job && cmp -s $job "$folder/kept" && TMPDIR=/none send "$folder/text" auto && cmp -s "$folder/text" "$folder/kept" && grep -q "^WARNING: pclmin: sent as it came: " "$folder/said"'
 holds "a device that ends early is waited for, and what it left behind isn't" \
@@ -231,6 +235,22 @@ holds "also to the group" 'coming TERM -; ended 143; held=$?; exec 6>&-; sleep 0
 holds "also HUP" 'coming HUP ""; ended 143; held=$?; exec 6>&-; sleep 0.1; test $held -eq 0 -a ! -e "$folder/called" && nothing_left'
 holds "TERM while the job is performed ends it, and the program" \
     'from=$folder/nested start keep ""; by_then "test -e $TMPDIR/pclmin.*/smaller"; sleep 0.1; kill -TERM $backend; ended 143 && nothing_left && test ! -e "$folder/called" && ! pgrep -f "$program.*$TMPDIR" > /dev/null'
+# moments: TERM to the group or to the backend alone, a bit later each time
+moments() {
+    local moment receiver
+    for moment in {0..24}; do
+        rm -f "$folder/kept"
+        CONTENT_TYPE=application/vnd.cups-raw from=$folder/long start slow ''
+        touch "$folder/go"
+        sleep "$(printf '0.%03d' $((moment * 3)))"
+        receiver=$backend
+        if [ $((moment % 2)) -eq 0 ] && kill -0 -- -$backend 2> /dev/null; then receiver=-$backend; fi
+        kill -TERM -- "$receiver" 2> /dev/null
+        ended 0 143 && nothing_left || return 1
+        if [ -e "$folder/kept" ]; then cmp -s -n "$(wc -c < "$folder/kept")" "$folder/long" "$folder/kept" || return 1; fi
+    done
+}
+holds "TERM at any moment ends it, and leaves nothing but the start of the job" moments
 holds "nothing is left" nothing_left
 holds "KILL leaves its folder" 'coming KILL -; ended 137; exec 6>&-; test "$(ls "$TMPDIR" | wc -l)" -eq 1'
 holds "where there is no command flock, nothing is taken away" 'PATH=$folder/bare send $job auto; test "$(ls "$TMPDIR" | wc -l)" -eq 1'
