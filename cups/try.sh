@@ -145,6 +145,11 @@ holds "no room for what it is written as: the job goes as it came" \
     'PCLMIN=$folder/narrow feed $job && cmp -s $job "$folder/kept" && grep -q "^WARNING: pclmin: sent as it came: ..*$" "$folder/said"'
 holds "no temporary folder: the job goes as it came" \
     'TMPDIR=/none feed $job && cmp -s $job "$folder/kept" && TMPDIR=/none send "$folder/text" auto && cmp -s "$folder/text" "$folder/kept" && grep -q "^WARNING: pclmin: sent as it came: " "$folder/said"'
+mkdir "$folder/odd"
+printf '#!/bin/sh\nmkdir "$@"\n' > "$folder/odd/mkfifo"
+chmod +x "$folder/odd/mkfifo"
+holds "where the shell can't go on, it fails, and says so" \
+    'rm -f "$folder/called"; PATH=$folder/odd:$PATH feed $job; test $? -eq 1 && grep -q "^ERROR: pclmin: " "$folder/said" && test ! -e "$folder/called"'
 holds "a device that ends early is waited for, and what it left behind isn't" \
     'SECONDS=0; ENDS=5 CONTENT_TYPE=application/vnd.cups-raw send $job auto early; test $? -eq 5 -a $SECONDS -lt 3'
 holds "its last message comes without an end of line" 'grep -qx "INFO: without an end of line" "$folder/said"'
