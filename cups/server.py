@@ -184,7 +184,8 @@ def write_settings(folder, port):
     with open(f"{folder}/cups-files.conf", "w") as out:
         out.write(f"ServerRoot {folder}\nServerBin {folder}/bin\nDataDir /usr/share/cups\nRequestRoot {folder}/spool\n"
                   f"TempDir {folder}/spool/tmp\nCacheDir {folder}/cache\nStateDir {folder}/state\nUser lp\nGroup lp\n"
-                  f"SystemGroup root\nAccessLog {folder}/log/access\nErrorLog {folder}/log/error\nPageLog {folder}/log/page\n")
+                  f"SystemGroup root\nAccessLog {folder}/log/access\nErrorLog {folder}/log/error\nPageLog {folder}/log/page\n"
+                  f"SetEnv PCLMIN_SECONDS {PATIENCE}\n")
     with open(f"{folder}/cupsd.conf", "w") as out:
         out.write(f"Listen 127.0.0.1:{port}\nLogLevel debug\nMaxLogSize 0\nBrowsing No\nWebInterface No\nDefaultAuthType None\n"
                   "MaxJobs 0\nPageLogFormat %p %j %P %C\n"
