@@ -11,6 +11,7 @@ mod languages;
 mod lines;
 mod refusals;
 mod sequences;
+mod values;
 
 pub use finding::{Finding, Findings};
 pub use kinds::{kind_explanation, kind_named};

@@ -4,6 +4,7 @@ ghost use Rattle.std.specs.Prelude.{◌≡◌, IfOk};
 ghost use Rattle.pcl_explain.specs.Findings.{AreFindings, IsFirstRefusal};
 
 use crate::sequences::blank_sequence;
+use crate::values::{leave_out_like_ones, refused_values};
 use crate::{Finding, Findings};
 use pcl_base::{Dpi, JobFault, Kind, Refusal};
 use pcl_escape::{Command, read_job};
@@ -13,8 +14,12 @@ use std::alloc::{AllocError, Global};
 /// How many findings there are at most.
 const FINDING_LIMIT: usize = 100;
 
+/// How often a job is performed at most after its first refusal.
+const PERFORMING_LIMIT: usize = 32;
+
 /// What the rules refuse in a job: the refusal of the job, and then that of the job without all commands like those that were
-/// refused before, up to 100 in all. None exactly where the job is accepted.
+/// refused before, up to 100 in all. Where a value is refused, the commands of its name with other values that are refused by themselves
+/// are found with it, so that the job is performed once for each name, and 32 times at most. None exactly where the job is accepted.
 pub fn find_refusals(alloc: Global, job: &[u8], dpi: Dpi) -> Result<Option<Findings>, AllocError>
     ensures { IfOk result (λ findings. AreFindings dpi job.now findings) }
 {
@@ -47,9 +52,10 @@ fn findings_from(
     match read_job(alloc, job) {
         Ok(mut commands) => {
             let first = leave_out(&mut commands, refusal);
+            let with_first = leave_out_values(alloc, &mut commands, &first, dpi)?;
             Ok(Findings {
                 first,
-                later: later_findings(alloc, commands, job.len(), dpi)?,
+                later: later_findings(alloc, commands, job.len(), dpi, with_first)?,
             })
         }
         Err(JobFault::Refused(_)) => {
@@ -87,16 +93,13 @@ fn read_on(alloc: Global, job: &[u8], first: Refusal, dpi: Dpi) -> Result<Unread
         if !is_of_one_sequence(refused.kind) {
             return Ok(unread);
         }
-        blank_sequence(&mut bytes, refused.at);
-        match read_job(alloc, &bytes) {
-            Ok(commands) => {
-                for finding in later_findings(alloc, commands, job.len(), dpi)?.iter() {
-                    unread.later.push(*finding)?;
-                }
+        let start = blank_sequence(&mut bytes, refused.at);
+        match next_fault(alloc, &bytes, start)? {
+            Some(refusal) => refused = refusal,
+            None => {
+                unread.later = findings_of(alloc, &bytes, dpi, unread.later)?;
                 return Ok(unread);
             }
-            Err(JobFault::Refused(refusal)) => refused = refusal,
-            Err(JobFault::Memory) => return Err(AllocError),
         }
         if refused.kind == first.kind && refused.name == first.name {
             unread.times = unread.times.saturating_add(1);
@@ -105,6 +108,32 @@ fn read_on(alloc: Global, job: &[u8], first: Refusal, dpi: Dpi) -> Result<Unread
         }
     }
     Ok(unread)
+}
+
+/// The next fault of reading from a place on at which a sequence begins, if there is one: what stands before isn't read again.
+fn next_fault(alloc: Global, bytes: &[u8], from: usize) -> Result<Option<Refusal>, AllocError> {
+    match read_job(alloc, bytes.get(from..).unwrap_or(&[])) {
+        Ok(_) => Ok(None),
+        Err(JobFault::Refused(refusal)) => {
+            let at = refusal.at.saturating_add(from);
+            Ok(Some(Refusal::new(refusal.kind, at, refusal.name)))
+        }
+        Err(JobFault::Memory) => Err(AllocError),
+    }
+}
+
+/// What is found in a job that can be read, after some findings.
+fn findings_of(
+    alloc: Global,
+    job: &[u8],
+    dpi: Dpi,
+    findings: Vec<Finding>,
+) -> Result<Vec<Finding>, AllocError> {
+    match read_job(alloc, job) {
+        Ok(commands) => later_findings(alloc, commands, job.len(), dpi, findings),
+        Err(JobFault::Refused(_)) => Ok(findings),
+        Err(JobFault::Memory) => Err(AllocError),
+    }
 }
 
 /// Whether a refusal of reading is that of one sequence, so that reading can go on after it.
@@ -124,30 +153,52 @@ fn add_unread(findings: &mut Vec<Finding>, refusal: Refusal) -> Result<(), Alloc
     Ok(())
 }
 
-/// What is found in commands, one after the other, each without those that were found before.
+/// What is found in commands after some findings, one after the other, each without those that were found before.
 fn later_findings(
     alloc: Global,
     commands: Vec<Command<'_>>,
     end: usize,
     dpi: Dpi,
+    before: Vec<Finding>,
 ) -> Result<Vec<Finding>, AllocError> {
     let mut left = commands;
-    let mut findings = Vec::new(alloc);
-    for _ in 1..FINDING_LIMIT {
+    let mut findings = before;
+    for _ in 0..PERFORMING_LIMIT {
+        if findings.len() >= FINDING_LIMIT {
+            break;
+        }
         let Some(refusal) = refusal_of(alloc, &left, end, dpi)? else {
-            return Ok(findings);
+            break;
         };
         let finding = leave_out(&mut left, refusal);
         findings.push(finding)?;
         if finding.value.is_none() {
-            return Ok(findings);
+            break;
         }
+        findings.extend_from_slice(&leave_out_values(alloc, &mut left, &finding, dpi)?)?;
     }
+    findings.truncate(FINDING_LIMIT - 1);
     Ok(findings)
 }
 
+/// Leaves out the commands of the name of a finding with other values that are refused by themselves, where it is its value that is
+/// refused, and says what was left out.
+fn leave_out_values(
+    alloc: Global,
+    commands: &mut Vec<Command<'_>>,
+    finding: &Finding,
+    dpi: Dpi,
+) -> Result<Vec<Finding>, AllocError> {
+    if finding.refusal.kind != Kind::UnsupportedValue {
+        return Ok(Vec::new(alloc));
+    }
+    let found = refused_values(alloc, commands, finding.refusal.name, dpi)?;
+    leave_out_like_ones(commands, &found);
+    Ok(found)
+}
+
 /// The refusal of commands, if they have one.
-fn refusal_of(
+pub fn refusal_of(
     alloc: Global,
     commands: &[Command<'_>],
     end: usize,

@@ -3,13 +3,14 @@
 /// The byte that begins a sequence.
 const ESCAPE: u8 = 27;
 
-/// Puts silent bytes in the place of the sequence, or the control code, that stands around a place.
-pub fn blank_sequence(bytes: &mut [u8], at: usize) {
+/// Puts silent bytes in the place of the sequence, or the control code, that stands around a place, and says where that begins.
+pub fn blank_sequence(bytes: &mut [u8], at: usize) -> usize {
     let start = start_of_sequence(bytes, at);
     let end = end_of_sequence(bytes, start);
     for byte in bytes.iter_mut().take(end).skip(start) {
         *byte = 0;
     }
+    start
 }
 
 /// Where the sequence begins that stands around a place: the last ESC there or before it, or the place itself where that is a
@@ -20,13 +21,11 @@ fn start_of_sequence(bytes: &[u8], at: usize) -> usize {
             return at;
         }
     }
-    let mut start = at;
-    for (place, byte) in bytes.iter().enumerate().take(at.saturating_add(1)) {
-        if *byte == ESCAPE {
-            start = place;
-        }
+    let before = bytes.get(..at.saturating_add(1)).unwrap_or(bytes);
+    match before.iter().rposition(|byte| *byte == ESCAPE) {
+        Some(place) => place,
+        None => at,
     }
-    start
 }
 
 /// Where the sequence ends that begins at a place: after a control code, after two characters, or after the first letter that
