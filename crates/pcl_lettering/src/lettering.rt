@@ -21,8 +21,7 @@ impl Lettering {
     /// The letters of pages that were collected.
     pub fn new(alloc: Global, collection: Collection) -> Result<Lettering, AllocError> {
         let mut collection = collection;
-        join_shapes(alloc, &mut collection)?;
-        let letters = find_letters(alloc, &collection)?;
+        let letters = letters_of(alloc, &mut collection)?;
         Lettering::laid_out(alloc, collection, letters)
     }
 
@@ -61,6 +60,15 @@ impl Lettering {
             Lettering::Macros(layout) => append_definitions(alloc, layout, out),
         }
     }
+}
+
+/// The letters of pages that were collected: none, at once, where these have no shapes.
+fn letters_of(alloc: Global, collection: &mut Collection) -> Result<Letters, AllocError> {
+    if collection.items.is_empty() {
+        return Ok(Letters::new(alloc));
+    }
+    join_shapes(alloc, collection)?;
+    find_letters(alloc, collection)
 }
 
 /// Writes the pages of a job with its letters, one after the other.

@@ -1,7 +1,7 @@
 //! The shapes that are printed as letters.
 
 use crate::frequency::{Frequency, find_frequency};
-use indexmap::{IndexMap, IndexSet};
+use indexmap::IndexMap;
 use pcl_patterns::{Glyph, Letter, Letters, number_of_place};
 use pcl_shapes::{Collection, Item};
 use std::alloc::{AllocError, Global};
@@ -10,10 +10,7 @@ use std::alloc::{AllocError, Global};
 pub fn find_letters(alloc: Global, collection: &Collection) -> Result<Letters, AllocError> {
     let tops = usual_tops(alloc, collection)?;
     let frequency = find_frequency(alloc, collection)?;
-    let mut found = Letters {
-        glyphs: IndexSet::new(alloc),
-        letters: Vec::new(alloc),
-    };
+    let mut found = Letters::new(alloc);
     append_letters(collection, &tops, &frequency, &mut found)?;
     found.letters.sort_unstable();
     Ok(found)

@@ -4,7 +4,9 @@
 //! these. So each row is taken to cost what its data take, and each shape its part of that. A row from which letters went costs those
 //! that are left more, which is why patterns are looked at in rounds.
 
-use pcl_patterns::{FINE, add, in_fine_parts, number_of, number_of_place, quotient, sum_parts};
+use pcl_patterns::{
+    FINE, Row, add, in_fine_parts, number_of, number_of_place, quotient, short_number, sum_parts,
+};
 use pcl_shapes::{Collection, Item};
 use std::alloc::{AllocError, Global};
 
@@ -44,16 +46,9 @@ impl Frequency {
         collection: &Collection,
         uses: &[usize],
     ) -> Result<(), AllocError> {
-        let sums = self.sums(alloc, collection)?;
-        self.costs = raster_costs(alloc, collection, self, &sums)?;
+        self.costs = raster_costs(alloc, collection, self)?;
         self.are_letters = find_cheaper(alloc, collection, uses, self)?;
         Ok(())
-    }
-
-    /// What a byte of weight costs in all rows before each one together, in fine parts.
-    fn sums(&self, alloc: Global, collection: &Collection) -> Result<Vec<i64>, AllocError> {
-        let changes = weight_changes(alloc, collection, self)?;
-        sum_parts(alloc, &collection.rows, &changes)
     }
 }
 
@@ -81,43 +76,24 @@ pub fn count_uses(alloc: Global, collection: &Collection) -> Result<Vec<usize>, 
     Ok(uses)
 }
 
-/// The rows that a shape is in, of the rows of all pages in turn.
+/// The shapes of a page, and its rows with the white one below them.
 #[derive(Clone, Copy)]
-struct Span {
-    start: usize,
-    /// The row past the last one.
-    end: usize,
+struct PageShapes<'a> {
+    items: &'a [Item],
+    rows: &'a [Row],
 }
 
-impl Span {
-    /// The rows that a shape is in.
-    fn of(collection: &Collection, item: &Item) -> Span {
-        let page = usize::from(item.page);
-        let first = collection.starts.get(page).copied().unwrap_or(0);
-        let start = first.saturating_add(usize::from(item.top));
-        Span {
-            start,
-            end: start.saturating_add(collection.patterns.row_count(item.pattern)),
+impl<'a> PageShapes<'a> {
+    /// Those of a page, of the shapes from this place on, which are of this page and later ones.
+    fn of(collection: &'a Collection, page: usize, from: usize) -> PageShapes<'a> {
+        let items = collection.items.get(from..).unwrap_or(&[]);
+        let count = items.partition_point(|item| usize::from(item.page) <= page);
+        let start = collection.starts.get(page).copied().unwrap_or(0);
+        PageShapes {
+            items: items.get(..count).unwrap_or(&[]),
+            rows: collection.rows.get(start..).unwrap_or(&[]),
         }
     }
-}
-
-/// By how much the weights of the shapes that are in rasters are more in a row together than in the row before it.
-fn weight_changes(
-    alloc: Global,
-    collection: &Collection,
-    frequency: &Frequency,
-) -> Result<Vec<i64>, AllocError> {
-    let mut changes = vec![in alloc; 0i64; collection.rows.len().saturating_add(1)]?;
-    for item in collection.items.iter() {
-        if !frequency.is_letter(item.pattern) {
-            let weight = collection.patterns.weight(item.pattern);
-            let span = Span::of(collection, item);
-            add(&mut changes, span.start, weight);
-            add(&mut changes, span.end, 0i64.saturating_sub(weight));
-        }
-    }
-    Ok(changes)
 }
 
 /// For each pattern, about how many bytes its shapes take in rasters, in fine parts.
@@ -125,18 +101,77 @@ fn raster_costs(
     alloc: Global,
     collection: &Collection,
     frequency: &Frequency,
-    sums: &[i64],
 ) -> Result<Vec<i64>, AllocError> {
     let mut costs = vec![in alloc; 0i64; collection.patterns.len()]?;
-    for item in collection.items.iter() {
-        if !frequency.is_letter(item.pattern) {
-            let span = Span::of(collection, item);
-            let parts = number_of(sums, span.end).saturating_sub(number_of(sums, span.start));
-            let cost = parts.saturating_mul(collection.patterns.weight(item.pattern));
-            add(&mut costs, item.pattern as usize, quotient(cost, FINE));
+    let mut place: usize = 0;
+    for page in 0..collection.starts.len() {
+        let shapes = PageShapes::of(collection, page, place);
+        place = place.saturating_add(shapes.items.len());
+        if !shapes.items.is_empty() {
+            let height = collection.height_of(short_number(number_of_place(page)));
+            let sums = sums_on_page(alloc, collection, frequency, shapes, height)?;
+            add_costs(collection, frequency, shapes, &sums, &mut costs);
         }
     }
     Ok(costs)
+}
+
+/// What a byte of weight costs in all rows of a page of this height before each one together, in fine parts.
+fn sums_on_page(
+    alloc: Global,
+    collection: &Collection,
+    frequency: &Frequency,
+    shapes: PageShapes<'_>,
+    height: u32,
+) -> Result<Vec<i64>, AllocError> {
+    let count = (height as usize).saturating_add(1);
+    let rows = shapes.rows.get(..count).unwrap_or(shapes.rows);
+    let mut changes = vec![in alloc; 0i64; rows.len().saturating_add(1)]?;
+    add_weights(collection, frequency, shapes, &mut changes);
+    sum_parts(alloc, rows, &changes)
+}
+
+/// Adds by how much the weights of the shapes of a page that are in rasters are more in a row together than in the row before it.
+fn add_weights(
+    collection: &Collection,
+    frequency: &Frequency,
+    shapes: PageShapes<'_>,
+    changes: &mut [i64],
+) {
+    for item in shapes.items {
+        if !frequency.is_letter(item.pattern) {
+            let weight = collection.patterns.weight(item.pattern);
+            add(changes, usize::from(item.top), weight);
+            add(
+                changes,
+                row_past(collection, item),
+                0i64.saturating_sub(weight),
+            );
+        }
+    }
+}
+
+/// Adds about how many bytes the shapes of a page take in rasters to those of their patterns, in fine parts.
+fn add_costs(
+    collection: &Collection,
+    frequency: &Frequency,
+    shapes: PageShapes<'_>,
+    sums: &[i64],
+    costs: &mut [i64],
+) {
+    for item in shapes.items {
+        if !frequency.is_letter(item.pattern) {
+            let start = number_of(sums, usize::from(item.top));
+            let parts = number_of(sums, row_past(collection, item)).saturating_sub(start);
+            let cost = parts.saturating_mul(collection.patterns.weight(item.pattern));
+            add(costs, item.pattern as usize, quotient(cost, FINE));
+        }
+    }
+}
+
+/// The row past the white one below a shape.
+fn row_past(collection: &Collection, item: &Item) -> usize {
+    usize::from(item.top).saturating_add(collection.patterns.row_count(item.pattern))
 }
 
 /// For each pattern, whether its shapes are letters already, or take fewer bytes so.

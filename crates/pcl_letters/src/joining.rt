@@ -56,8 +56,8 @@ fn join_once(
     frequency: &Frequency,
 ) -> Result<bool, AllocError> {
     collection.items.sort()?;
-    let pairs = find_pairs(alloc, collection, frequency)?;
-    join(alloc, collection, &pairs)?;
+    let mut pairs = find_pairs(alloc, collection, frequency)?;
+    join(alloc, collection, &mut pairs)?;
     Ok(!pairs.is_empty())
 }
 
@@ -283,17 +283,18 @@ fn two_at(collection: &Collection, place: usize) -> Option<Pair> {
     pair_of(&collection.patterns, first, second)
 }
 
-/// Joins these pairs, if there are any.
+/// Joins these pairs, if there are any, and drops those for whose patterns there is no room.
 fn join(
     alloc: Global,
     collection: &mut Collection,
-    pairs: &IndexMap<Pair, usize>,
+    pairs: &mut IndexMap<Pair, usize>,
 ) -> Result<(), AllocError> {
     if pairs.is_empty() {
         return Ok(());
     }
     let mut numbers = IndexMap::new(alloc);
     add_patterns(alloc, collection, pairs, &mut numbers)?;
+    pairs.retain(|pair: &Pair, _count: &mut usize| -> bool { numbers.contains_key(pair) });
     join_items(collection, pairs, &numbers);
     Ok(())
 }
@@ -322,7 +323,9 @@ fn add_pattern(
         let number = collection
             .patterns
             .number_of_drawing(&joined, collection.form)?;
-        numbers.insert(pair, number)?;
+        if let Some(number) = number {
+            numbers.insert(pair, number)?;
+        }
     }
     Ok(())
 }

@@ -3,6 +3,7 @@
 use crate::pattern_set::Patterns;
 use crate::patterns::Pattern;
 use indexmap::IndexSet;
+use std::alloc::Global;
 
 /// A pattern, and where it stands on a line.
 #[derive(Clone, Copy, PartialEq, Eq, Hash)]
@@ -47,6 +48,14 @@ pub struct Letters {
 }
 
 impl Letters {
+    /// No letters.
+    pub fn new(alloc: Global) -> Letters {
+        Letters {
+            glyphs: IndexSet::new(alloc),
+            letters: Vec::new(alloc),
+        }
+    }
+
     /// How far the topmost row of a glyph lies above the baseline.
     pub fn top_of(&self, glyph: u32) -> u32 {
         self.glyphs

@@ -9,6 +9,12 @@ use indexmap::IndexMap;
 use std::alloc::{AllocError, Global};
 use std::hash::{FoldHasher, Hasher};
 
+/// What is kept of patterns may take so many bytes before there is more room.
+const FIRST_ROOM: usize = 1_048_576;
+
+/// About how many bytes a pattern takes besides its rows.
+const PATTERN_BYTES: usize = 64;
+
 /// Patterns, numbered from 0 as they came. They are told apart by a hash of their sides and dots: if two had the same one, a letter would
 /// be another than it should be, and the look at the job would refuse it.
 #[derive(Drop)]
@@ -17,6 +23,8 @@ pub struct Patterns {
     kept: IndexMap<u64, KeptPattern>,
     /// The rows of patterns in turn.
     rows: Vec<u8>,
+    /// About how many bytes all of this may take.
+    room: usize,
 }
 
 /// What is kept of a pattern.
@@ -60,7 +68,21 @@ impl Patterns {
         Patterns {
             kept: IndexMap::new(alloc),
             rows: Vec::new(alloc),
+            room: FIRST_ROOM,
         }
+    }
+
+    /// Makes room for so many bytes more. What prints patterns is sent, so where they take more bytes than the pages do as rasters few of
+    /// them can be letters.
+    pub fn add_room(&mut self, bytes: usize) {
+        self.room = self.room.saturating_add(bytes);
+    }
+
+    /// Whether there is room for so many patterns more, with so many bytes of rows.
+    fn has_room(&self, patterns: usize, rows: usize) -> bool {
+        let count = self.kept.len().saturating_add(patterns);
+        let bytes = self.rows.len().saturating_add(rows);
+        count.saturating_mul(PATTERN_BYTES).saturating_add(bytes) <= self.room
     }
 
     /// How many there are.
@@ -101,37 +123,55 @@ impl Patterns {
 
     /// The number of the pattern of a shape that is in these rows of its page. A pattern that isn't there is added, without its dots where
     /// a single shape of it is no letter, since what prints it takes as many bytes as the shape takes in these rows: they are kept once it
-    /// comes again.
+    /// comes again. None where there is no room to add it.
     pub fn number_of_shape(
         &mut self,
         pattern: Pattern<'_>,
         form: Form,
         rows: &[Row],
-    ) -> Result<u32, AllocError> {
-        let (place, is_new) = self.place_of(pattern, form)?;
+    ) -> Result<Option<u32>, AllocError> {
+        let Some((place, is_new)) = self.place_of(pattern, form)? else {
+            return Ok(None);
+        };
         if !is_new || self.is_worth_a_letter(place, rows) {
             self.keep_rows(place, pattern)?;
         }
-        Ok(number_of_place(place))
+        Ok(Some(number_of_place(place)))
     }
 
-    /// The number of a pattern that was drawn, which is added if it isn't there.
-    pub fn number_of_drawing(&mut self, drawing: &Drawing, form: Form) -> Result<u32, AllocError> {
+    /// The number of a pattern that was drawn, which is added if it isn't there: none where there is no room.
+    pub fn number_of_drawing(
+        &mut self,
+        drawing: &Drawing,
+        form: Form,
+    ) -> Result<Option<u32>, AllocError> {
         let pattern = drawing.pattern();
-        let (place, _) = self.place_of(pattern, form)?;
+        if !self.has_room(1, pattern.rows.len()) {
+            return Ok(None);
+        }
+        let Some((place, _)) = self.place_of(pattern, form)? else {
+            return Ok(None);
+        };
         self.keep_rows(place, pattern)?;
-        Ok(number_of_place(place))
+        Ok(Some(number_of_place(place)))
     }
 
-    /// The place of a pattern, which is added without its rows if it isn't there, and whether it was added.
-    fn place_of(&mut self, pattern: Pattern<'_>, form: Form) -> Result<(usize, bool), AllocError> {
+    /// The place of a pattern, which is added without its rows if it isn't there, and whether it was added. None where there is no room.
+    fn place_of(
+        &mut self,
+        pattern: Pattern<'_>,
+        form: Form,
+    ) -> Result<Option<(usize, bool)>, AllocError> {
         let hash = hash_of(pattern);
         if let Some(place) = self.kept.get_index_of(&hash) {
-            return Ok((place, false));
+            return Ok(Some((place, false)));
+        }
+        if !self.has_room(1, 0) {
+            return Ok(None);
         }
         let kept = KeptPattern::without_rows(pattern, form);
         let (place, _) = self.kept.insert_full(hash, kept)?;
-        Ok((place, true))
+        Ok(Some((place, true)))
     }
 
     /// Whether a single shape of the pattern in a place, in these rows, may take more bytes there than what prints it.
@@ -142,8 +182,11 @@ impl Patterns {
         }
     }
 
-    /// Keeps the rows of the pattern in a place, unless they are kept.
+    /// Keeps the rows of the pattern in a place, unless they are kept or there is no room.
     fn keep_rows(&mut self, place: usize, pattern: Pattern<'_>) -> Result<(), AllocError> {
+        if !self.has_room(0, pattern.rows.len()) {
+            return Ok(());
+        }
         let start = number_of_place(self.rows.len());
         if let Some(kept) = self.kept.get_index_mut(place) {
             if kept.start.is_none() {

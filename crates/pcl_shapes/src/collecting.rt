@@ -15,6 +15,12 @@ use std::marker::Model;
 /// After so many shapes no further pages are looked at.
 const ITEM_LIMIT: usize = 4_000_000;
 
+/// After so many shapes, and one more for so many bytes of the texts of the pages, no further pages are looked at either: shapes of text
+/// take some twenty bytes each in a raster.
+const FIRST_ITEMS: usize = 65_536;
+
+const ITEM_BYTES: usize = 12;
+
 /// A shape on a page. Their order is that of printing: by pages, by lines, and from left to right.
 #[derive(Clone, Copy, PartialEq, Eq, PartialOrd, Ord)]
 pub struct Item {
@@ -47,6 +53,8 @@ pub struct Collection {
     pub rows: Vec<Row>,
     /// For each page, how many rows come before it.
     pub starts: Vec<usize>,
+    /// How many shapes may be kept before a page is looked at.
+    item_limit: usize,
 }
 
 impl Model for Collection {
@@ -67,7 +75,15 @@ impl Collection {
             items: Vec::new(alloc),
             rows: Vec::new(alloc),
             starts: Vec::new(alloc),
+            item_limit: FIRST_ITEMS,
         }
+    }
+
+    /// Makes room for the shapes of a page whose text takes so many bytes as a raster.
+    pub fn add_room(&mut self, bytes: usize) {
+        self.patterns.add_room(bytes / 2);
+        let limit = self.item_limit.saturating_add(bytes / ITEM_BYTES);
+        self.item_limit = limit.min(ITEM_LIMIT);
     }
 
     /// The height of a page, in dots.
@@ -75,12 +91,19 @@ impl Collection {
         self.heights.get(usize::from(page)).copied().unwrap_or(0)
     }
 
-    /// Collects the shapes of a page, and what its rows take.
+    /// Collects the shapes of a page, and what its rows take where it has some.
     fn collect(&mut self, page: &Page) -> Result<(), AllocError> {
         let first = self.rows.len();
-        append_rows(&page.bitmap, &mut self.rows)?;
+        let items = self.items.len();
         let shapes = find_shapes(*self.items.allocator(), &page.bitmap)?;
-        self.collect_found(page, &shapes, first)
+        if !shapes.extents.is_empty() {
+            append_rows(&page.bitmap, &mut self.rows)?;
+            self.collect_found(page, &shapes, first)?;
+        }
+        if self.items.len() == items {
+            self.rows.truncate(first);
+        }
+        Ok(())
     }
 
     /// Collects the shapes of a page that were found, unless none of them can be a letter. The first row of the page is in this place.
@@ -171,7 +194,9 @@ impl Collection {
         let page = number_of_place(self.heights.len());
         let baseline = guess_baseline(extent, bottoms, self.form.scale());
         let rows = rows_of(&self.rows, first, extent);
-        let pattern = self.patterns.number_of_shape(pattern, self.form, rows)?;
+        let Some(pattern) = self.patterns.number_of_shape(pattern, self.form, rows)? else {
+            return Ok(());
+        };
         self.items.push(Item {
             page: short_number(page),
             baseline: short_number(baseline),
@@ -229,7 +254,7 @@ impl PageSink for Collection {
 
     fn page(&mut self, page: &Page) -> Result<(), AllocError> {
         self.starts.push(self.rows.len())?;
-        if self.items.len() < ITEM_LIMIT {
+        if self.items.len() < self.item_limit {
             self.collect(page)?;
         }
         self.widths.push(page.size.width(page.dpi))?;

@@ -1,6 +1,6 @@
 //! Runs of black dots in the rows of a page, and which of them hang together.
 
-use crate::edges::append_edges;
+use crate::edges::{append_edges, count_runs};
 use pcl_base::Dpi;
 use pcl_bitmap::Bitmap;
 use std::alloc::{AllocError, Global};
@@ -16,6 +16,14 @@ pub struct Run {
     pub end: u16,
     /// The label of the first run that it touches of the row above; a label of its own where there is none.
     pub label: u32,
+}
+
+/// After so many labels no further runs are looked for on a page: its shapes are the dots of a picture, and each label takes memory.
+fn label_limit(dpi: Dpi) -> u32 {
+    match dpi {
+        Dpi::Dpi300 => 131_072,
+        Dpi::Dpi600 => 262_144,
+    }
 }
 
 /// Two labels whose runs hang together.
@@ -81,8 +89,8 @@ impl KeptRuns {
     }
 }
 
-/// Goes over the rows of a page from the topmost one on. Labels are numbered in the order of their first runs, and each walk over a page
-/// gives its runs the same.
+/// Goes over the rows of a page from the topmost one on, and passes over those that are white or crowded. Labels are numbered in the order
+/// of their first runs, and each walk over a page gives its runs the same.
 #[derive(Drop)]
 pub struct RowWalk {
     /// The runs of the row, from left to right.
@@ -115,9 +123,10 @@ impl RowWalk {
     /// no other.
     pub fn step(&mut self, bitmap: &Bitmap, y: u32) -> Result<(), AllocError> {
         self.links.clear();
-        if self.count >= RUN_LIMIT
-            || y >= bitmap.size().height(bitmap.dpi())
+        if y >= bitmap.size().height(bitmap.dpi())
+            || self.is_full(bitmap.dpi())
             || bitmap.is_blank(y)
+            || is_crowded(bitmap.row(y))
         {
             swap(&mut self.above, &mut self.runs);
             self.runs.clear();
@@ -132,6 +141,11 @@ impl RowWalk {
         }
         self.count = self.count.saturating_add(self.runs.len());
         Ok(())
+    }
+
+    /// Whether no further runs of a page of so many dots per inch are looked for.
+    fn is_full(&self, dpi: Dpi) -> bool {
+        self.count >= RUN_LIMIT || self.labels >= label_limit(dpi)
     }
 
     /// Labels the runs of the row that has these edges.
@@ -152,6 +166,11 @@ impl RowWalk {
         }
         Ok(())
     }
+}
+
+/// Whether a row has more runs than one for eight dots, as no row of text or of a printed picture has: a picture's dots are hundreds there.
+fn is_crowded(row: &[u8]) -> bool {
+    count_runs(row) as usize > row.len()
 }
 
 /// Whether a row of a page is the one above once more.

@@ -13,5 +13,5 @@ pub use Rattle.pcl_meaning.proofs.{WrittenJobs.job_of_texts}
 pub use Rattle.pcl_same.proofs.Names.{IsAskedComparison, IsComparedAsked, IsComparedBeside, IsKept}
 pub use Rattle.pcl_same.specs.declared.{comparison.AskedComparison.AskedComparison, comparison.AskedComparison.TheVariants.Same, fault.Job.TheVariants.Second, fault.SameFault.SameFault, keeping.KeptJob.KeptJob}
 pub use Rattle.pcl_shrink.specs.{Asking.asked_at, Asking.asked_job, Asking.asked_pages, Asking.change_text, Asking.drops, Asking.exit_bytes, Asking.exit_text, Asking.exits_after, Asking.is_exit_after, Asking.is_reset_before, Asking.page_start, Looking.SaysIfSame, Outcome.IsOutcome, Outcome.RefusesWith, Shrinking.IsShrunk, Shrinking.IsSmallerJob, Shrinking.PrintsAlike, Texts.AreLeastTexts, Texts.TakesText, Texts.least_of}
-pub use Rattle.pcl_shrink.specs.declared.{rasters.Text.Text}
-pub use Rattle.pcl_shrink.specs.inner.{Best.IsBest, Best.IsShorter, Proposals.IsLimit}
+pub use Rattle.pcl_shrink.specs.declared.{candidate.Proposal.Proposal, rasters.Text.Text}
+pub use Rattle.pcl_shrink.specs.inner.{Best.IsBest, Best.IsShorter, Best.best_bytes, Proposals.IsLimit}

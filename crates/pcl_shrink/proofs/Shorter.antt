@@ -1,6 +1,6 @@
 -- The shorter of the best job so far and a proposal, and what comes of it.
-use Rattle.std.proofs.Common.{◌≡◌, ℕ, ◌<◌, ◌≤◌, List, length, ◌++◌, refl, ap, ◌∙◌, arith}
-use Rattle.pcl_shrink.proofs.Names.{Dpi, Asks, Sheet, HasPages, HasAsks, Same, IsAskedComparison, frame_bytes, nothing_for, job_of_texts, asked_job, AreLeastTexts, IsSmallerJob, IsBest, IsShorter, IsLimit}
+use Rattle.std.proofs.Common.{◌≡◌, ℕ, ◌<◌, ◌≤◌, List, length, ◌++◌, Option, Result, Ok, Err, IfOk, refl, ap, ◌∙◌, arith}
+use Rattle.pcl_shrink.proofs.Names.{Dpi, Asks, Sheet, HasPages, HasAsks, Same, IsAskedComparison, frame_bytes, nothing_for, job_of_texts, asked_job, AreLeastTexts, IsSmallerJob, IsBest, IsShorter, IsLimit, Proposal, best_bytes}
 use Rattle.pcl_shrink.proofs.Smaller.{OnePages, OneAsks, AskNothing, same_as_raster, proposal_smaller}
 use Rattle.pcl_shrink.proofs.LeastJobs.{joined, print_each, job_of_nothing}
 
@@ -63,3 +63,10 @@ pub raster_job : OnePages → OneAsks → AskNothing → {dpi : Dpi} {job best l
 raster_job one one_asks ask_nothing {dpi} {job} {best} {last} {asks} texts meaning asked least spelled look s =
     let here = rw spelled at look in
     smaller_job one one_asks ask_nothing texts (here.keeps s) meaning asked least here.takes
+
+-- the job itself is the best one so far: what becomes of it is one too
+pub keeps_best : {dpi : Dpi} {job : List ℕ} (proposal : List ℕ) {E : Type 0} (result : Result (Option Proposal) E) → IsBest dpi job job
+    → IfOk result (λ shorter. IsShorter dpi job job proposal (best_bytes job shorter))
+    → IfOk result (λ best. IsBest dpi job (best_bytes job best))
+keeps_best proposal (Ok shorter) s look = look.keeps s
+keeps_best proposal (Err fault) s look = tt

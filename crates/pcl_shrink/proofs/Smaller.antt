@@ -1,6 +1,6 @@
 -- Smaller jobs with the same pages, which ask for the same.
 use Rattle.std.proofs.Common.{◌≡◌, ℕ, ◌<◌, List, [], ◌∷◌, length, refl, sym, subst, arith}
-use Rattle.pcl_shrink.proofs.Names.{Dpi, Asks, asks_of, Sheet, HasPages, HasAsks, AllAlike, Same, KeptJob, IsAskedComparison, IsKept, nothing_for, IsJobOf, PrintsAlike, IsSmallerJob, IsBest}
+use Rattle.pcl_shrink.proofs.Names.{Dpi, Asks, asks_of, Sheet, HasPages, HasAsks, AllAlike, Same, KeptJob, IsAskedComparison, IsKept, nothing_for, IsJobOf, PrintsAlike, IsSmallerJob, IsBest, IsLimit}
 
 -- a job has one list of pages, and asks for one thing
 abbrev pub OnePages : Type 0
@@ -25,6 +25,17 @@ input_best {dpi} {kept = kept} k = record {
   meaning = k.meaning;
   prints = record { again = k.pages; accepted = k.meaning; alike = same_pages dpi k.pages };
   asks = asks_of kept.asks;
+  asked = k.asked;
+  asked_again = k.asked;
+  within_input = omega arith;
+}
+
+pub limit_best : {dpi : Dpi} {job : List ℕ} {limit : ℕ} → IsLimit dpi job limit → IsBest dpi job job
+limit_best {dpi} k = record {
+  pages = k.pages;
+  meaning = k.meaning;
+  prints = record { again = k.pages; accepted = k.meaning; alike = same_pages dpi k.pages };
+  asks = k.asks;
   asked = k.asked;
   asked_again = k.asked;
   within_input = omega arith;

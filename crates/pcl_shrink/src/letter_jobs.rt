@@ -11,7 +11,7 @@ use std::marker::Model;
 
 /// A proposal of a smaller job with the same pages, which asks for what a job asks for, with these letters as soft fonts or as macros
 /// (docs/GLYPHS.md), and with these texts for the pages and stretches of pages where that takes fewer bytes: none where that is so
-/// everywhere. Nothing is promised of it but that the input is accepted. A refusal is the job's.
+/// everywhere, or where it has as many bytes as the job. Nothing is promised of it but that the input is accepted. A refusal is the job's.
 pub fn letter_job(
     alloc: Global,
     job: &[u8],
@@ -22,7 +22,7 @@ pub fn letter_job(
 ) -> Result<Option<Vec<u8>>, JobFault>
     ensures { IsOutcome dpi job.now result }
 {
-    let writer = LetterWriter::new(alloc, asks, texts, lettering)?;
+    let writer = LetterWriter::new(alloc, asks, texts, lettering, job.len())?;
     let writer = after_pages(alloc, job, dpi, writer)?;
     Ok(writer.finish()?)
 }
@@ -64,6 +64,10 @@ struct LetterWriter<'a, 'b> {
     has_letters: bool,
     /// What is written, with the stretch after the letters.
     out: Vec<u8>,
+    /// With so many bytes what is written is too long.
+    limit: usize,
+    /// Whether it is: then nothing of it is left, and no more is written.
+    is_too_long: bool,
 }
 
 impl<'a, 'b> LetterWriter<'a, 'b> {
@@ -73,6 +77,7 @@ impl<'a, 'b> LetterWriter<'a, 'b> {
         asks: &'b Asks<'a>,
         texts: &'b [Vec<u8>],
         lettering: &'b Lettering,
+        limit: usize,
     ) -> Result<LetterWriter<'a, 'b>, AllocError> {
         let mut start = Vec::new(alloc);
         lettering.append_start(alloc, &mut start)?;
@@ -87,7 +92,18 @@ impl<'a, 'b> LetterWriter<'a, 'b> {
             place: 0,
             has_letters: false,
             out: Vec::new(alloc),
+            limit,
+            is_too_long: false,
         })
+    }
+
+    /// Gives up where the stretch, with letters and without, makes what is written too long.
+    fn give_up_if_too_long(&mut self) {
+        let stretch = self.out.len().saturating_sub(self.place);
+        if self.place.saturating_add(stretch.min(self.plain)) >= self.limit {
+            self.out = Vec::new(*self.out.allocator());
+            self.is_too_long = true;
+        }
     }
 
     /// Appends what stands before the next page.
@@ -131,15 +147,28 @@ impl<'a, 'b> LetterWriter<'a, 'b> {
         Ok(())
     }
 
-    /// The job with the pages that came: none where no stretch has letters.
+    /// The job with the pages that came: none where no stretch has letters, or where it is too long.
     fn finish(self) -> Result<Option<Vec<u8>>, AllocError> {
         let mut writer = self;
+        if writer.is_too_long {
+            return Ok(None);
+        }
         writer.end_stretch()?;
         if !writer.has_letters {
             return Ok(None);
         }
         append_end(writer.asks, writer.pages, &mut writer.out)?;
-        Ok(Some(writer.out))
+        Ok((writer.out.len() < writer.limit).then_some(writer.out))
+    }
+
+    /// Appends a page, of which this is a text without letters.
+    fn append_page(&mut self, page: &Page, text: &[u8]) -> Result<(), AllocError> {
+        self.begin_page()?;
+        self.plain = self.plain.saturating_add(text.len());
+        self.writer.append_page(page, text, &mut self.out)?;
+        self.pages = self.pages.saturating_add(1);
+        self.give_up_if_too_long();
+        Ok(())
     }
 }
 
@@ -154,13 +183,10 @@ impl<'a, 'b> PageSink for LetterWriter<'a, 'b> {
     ghost takes = { λ old page new. Unit {0} };
 
     fn page(&mut self, page: &Page) -> Result<(), AllocError> {
-        let Some(text) = self.texts.get(self.pages) else {
-            return Ok(());
-        };
-        self.begin_page()?;
-        self.plain = self.plain.saturating_add(text.len());
-        self.writer.append_page(page, text, &mut self.out)?;
-        self.pages = self.pages.saturating_add(1);
-        Ok(())
+        let texts = self.texts;
+        match texts.get(self.pages) {
+            Some(text) if !self.is_too_long => self.append_page(page, text),
+            _ => Ok(()),
+        }
     }
 }

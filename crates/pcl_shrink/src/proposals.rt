@@ -18,8 +18,8 @@ use std::alloc::Global;
 /// What is proposed for a job, and what it is measured by.
 #[derive(Drop)]
 pub struct Proposed {
-    /// The shortest job that was made, of which nothing is promised.
-    pub proposal: Proposal,
+    /// The shortest job that was made, of which nothing is promised: none where none is shorter than the job.
+    pub proposal: Option<Proposal>,
     /// How many bytes the least page texts of the job take, with what it asks for around them.
     pub limit: usize,
     /// How many pages the job has.
@@ -42,29 +42,32 @@ pub fn propose(alloc: Global, job: &[u8], dpi: Dpi) -> Result<Proposed, JobFault
     })
 }
 
-/// The shorter of the texts of the pages, with what is asked around them, and of a job with letters found by this.
+/// The shorter of the texts of the pages, with what is asked around them, and of a job with letters found by this: none where neither is
+/// shorter than the job.
 fn proposal_of(
     alloc: Global,
     job: &[u8],
     dpi: Dpi,
     texts: Vec<Text>,
     found: Found<'_>,
-) -> Result<Proposal, JobFault>
+) -> Result<Option<Proposal>, JobFault>
     ensures { RefusesWith dpi job.now result }
 {
     let by = raster_kind(&texts);
     let plain = shortest_texts(alloc, texts)?;
     let Found { shapes, asks } = found;
     match propose_letters(alloc, job, dpi, &asks, &plain, shapes)? {
-        Some(job) => Ok(Proposal {
+        Some(job) => Ok(Some(Proposal {
             job,
             by: Candidate::Glyphs,
-        }),
-        None => Ok(Proposal {
-            job: plain_job(alloc, &asks, plain)?,
-            by,
-        }),
+        })),
+        None => Ok(proposal_by(by, plain_job(alloc, &asks, plain, job.len())?)),
     }
+}
+
+/// A job that was made in some way, if it was.
+fn proposal_by(by: Candidate, job: Option<Vec<u8>>) -> Option<Proposal> {
+    Some(Proposal { job: job?, by })
 }
 
 /// What the shortest texts of pages are called.
@@ -76,7 +79,7 @@ fn raster_kind(texts: &[Text]) -> Candidate {
     }
 }
 
-/// A job with letters among these shapes, where that is shorter than these texts of its pages.
+/// A job with letters among these shapes, where that is shorter than these texts of its pages and than the job.
 fn propose_letters(
     alloc: Global,
     job: &[u8],
@@ -91,7 +94,7 @@ fn propose_letters(
     lettered(alloc, job, dpi, asks, plain, &lettering)
 }
 
-/// A job with these letters, where there are any and it is shorter than these texts of its pages.
+/// A job with these letters, where there are any and it is shorter than these texts of its pages and than the job.
 fn lettered(
     alloc: Global,
     job: &[u8],

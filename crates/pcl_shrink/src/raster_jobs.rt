@@ -41,12 +41,17 @@ pub fn asked_len(alloc: Global, asks: &Asks<'_>, texts: &[Text]) -> Result<usize
     Ok(len.saturating_add(around.len()))
 }
 
-/// The same as `asked_job` with any texts of the pages, each of which is dropped once it is appended.
+/// The same as `asked_job` with any texts of the pages, each of which is dropped once it is appended: none where that has so many bytes or
+/// more, of which no more than these are made.
 pub fn plain_job(
     alloc: Global,
     asks: &Asks<'_>,
     texts: Vec<Vec<u8>>,
-) -> Result<Vec<u8>, AllocError> {
+    limit: usize,
+) -> Result<Option<Vec<u8>>, AllocError> {
+    if total_len(&texts) >= limit {
+        return Ok(None);
+    }
     let pages = texts.len();
     let mut out = Vec::new(alloc);
     for (number, text) in texts.into_iter().enumerate() {
@@ -54,5 +59,14 @@ pub fn plain_job(
         out.extend_from_slice(&text)?;
     }
     append_end(asks, pages, &mut out)?;
-    Ok(out)
+    Ok((out.len() < limit).then_some(out))
+}
+
+/// How many bytes some texts have together.
+fn total_len(texts: &[Vec<u8>]) -> usize {
+    let mut len: usize = 0;
+    for text in texts {
+        len = len.saturating_add(text.len());
+    }
+    len
 }

@@ -21,6 +21,14 @@ pub struct Text {
 }
 
 impl Text {
+    /// How many bytes the shortest of them has.
+    pub fn shortest_len(&self) -> usize {
+        match &self.coarse {
+            Some(coarse) => coarse.len(),
+            None => self.least.len(),
+        }
+    }
+
     /// The shortest of them.
     fn into_shortest(self) -> Vec<u8> {
         let Text { least, coarse } = self;

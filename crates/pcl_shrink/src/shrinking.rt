@@ -3,12 +3,12 @@
 ghost use Rattle.std.specs.Prelude.{◌≡◌, length, IfOk};
 ghost use Rattle.pcl_same.specs.Keeping.{IsKept};
 ghost use Rattle.pcl_shrink.specs.Shrinking.{IsShrunk};
-ghost use Rattle.pcl_shrink.specs.inner.Best.{best_bytes, IsShorter};
-ghost use Rattle.pcl_shrink.specs.inner.Proposals.{IsLimit, IsWithin};
+ghost use Rattle.pcl_shrink.specs.inner.Best.{best_bytes, IsBest, IsShorter};
+ghost use Rattle.pcl_shrink.specs.inner.Proposals.{IsBestWithin, IsLimit, IsWithin};
 
 use crate::candidate::Proposal;
 use crate::looking::is_same;
-use crate::proposals::propose;
+use crate::proposals::{Proposed, propose};
 use crate::raster_jobs::asked_job;
 use crate::texts::texts_alone;
 use crate::{Candidate, Shrunk};
@@ -23,13 +23,51 @@ use std::alloc::{AllocError, Global};
 pub fn shrink(alloc: Global, job: &[u8], dpi: Dpi) -> Result<Shrunk, JobFault>
     ensures { IsShrunk dpi job.now result }
 {
-    let proposed = propose(alloc, job, dpi)?;
-    // The pages are kept for the looks once what proposes has gone.
-    let kept = keep_job(alloc, job, dpi)?;
-    let best = shorter(alloc, &kept, dpi, job, None, proposed.proposal)?;
-    let best = within(alloc, &kept, dpi, job, best, proposed.limit)?;
+    let Proposed {
+        proposal,
+        limit,
+        pages,
+    } = propose(alloc, job, dpi)?;
+    let best = best_of(alloc, job, dpi, proposal, limit)?;
     one_meaning();
-    Ok(best_or_input(alloc, job, best, proposed.pages)?)
+    Ok(best_or_input(alloc, job, best, pages)?)
+}
+
+/// The best of the job, of what is proposed for it, and of the least page texts with what the job asks for around them, which have so many
+/// bytes at least: none where it is the job. Pages are kept only where something is looked at, once what proposes has gone.
+fn best_of(
+    alloc: Global,
+    job: &[u8],
+    dpi: Dpi,
+    proposal: Option<Proposal>,
+    limit: usize,
+) -> Result<Option<Proposal>, JobFault>
+    ensures { IsLimit dpi job.now limit → IsBestWithin dpi job.now result }
+{
+    one_meaning();
+    written_jobs_ask_for_nothing();
+    if proposal.is_none() && job.len() <= limit {
+        return Ok(None);
+    }
+    let kept = keep_job(alloc, job, dpi)?;
+    let best = looked_at(alloc, &kept, dpi, job, proposal)?;
+    within(alloc, &kept, dpi, job, best, limit)
+}
+
+/// What is proposed where it is shorter than the job, has its pages and asks for the same.
+fn looked_at(
+    alloc: Global,
+    kept: &KeptJob<'_>,
+    dpi: Dpi,
+    job: &[u8],
+    proposal: Option<Proposal>,
+) -> Result<Option<Proposal>, AllocError>
+    ensures { IsKept dpi job.now kept.now → IfOk result (λ best. IsBest dpi job.now (best_bytes job.now best)) }
+{
+    match proposal {
+        Some(proposal) => shorter(alloc, kept, dpi, job, None, proposal),
+        None => Ok(None),
+    }
 }
 
 /// The best job so far where it has no more than so many bytes, which is what the least page texts take with what the job asks for

@@ -68,6 +68,7 @@ impl PageSink for TextWriter {
 
     fn page(&mut self, page: &Page) -> Result<(), AllocError> {
         let text = page_text(*self.texts.allocator(), page)?;
+        self.shapes.add_room(text.shortest_len());
         self.shapes.page(page)?;
         self.texts.push(text)?;
         Ok(())

@@ -33,6 +33,12 @@ HasProposed dpi job (Ok proposed) = IsMeasured dpi job proposed.limit proposed.p
 HasProposed dpi job (Err (Refused refusal)) = IsRefusal dpi job refusal
 HasProposed dpi job (Err Memory) = Unit {0}
 
+-- the best job is no longer than the job, nor than least page texts with what is asked for around them
+abbrev pub IsBestWithin : Dpi → List ℕ → Result (Option Proposal) JobFault → Type 0
+IsBestWithin dpi job (Ok best) = IsSmallerJob dpi job (best_bytes job best)
+IsBestWithin dpi job (Err (Refused refusal)) = IsRefusal dpi job refusal
+IsBestWithin dpi job (Err Memory) = Unit {0}
+
 -- a job that was the best so far becomes one that is no longer than least page texts with what is asked for around them
 abbrev pub IsWithin : Dpi → List ℕ → Option Proposal → Result (Option Proposal) JobFault → Type 0
 IsWithin dpi job best (Ok last) = IsBest dpi job (best_bytes job best) → IsSmallerJob dpi job (best_bytes job last)

@@ -1,14 +1,12 @@
 use Rattle.std.proofs.Common.{◌∙◌, ap, length, subst, sym}
 use Rattle.pcl_shrink.proofs.Names.{IsSmallerJob}
-use Rattle.pcl_shrink.proofs.Smaller.{input_best}
 use Rattle.pcl_shrink.proofs.shrinking.shrink.Goals as goal
 
 pub returns : goal.returns
 returns c =
     let job = c.args.job.now in
-    let kept = c.in_ok-kept.ensures in
-    let measured = c.in_ok-proposed.ensures in
-    let smaller = c.in_ok-best-2.ensures kept measured.limit_is ((c.in_ok-best.ensures kept).keeps (input_best kept)) in
+    let measured = c.in_ok-proposal.ensures in
+    let smaller = c.in_ok-best.ensures measured.limit_is in
     let s = subst (IsSmallerJob c.args.dpi job) (sym c.in_ok-best_or_input.ensures.job) smaller in
     record {
       smaller = s;

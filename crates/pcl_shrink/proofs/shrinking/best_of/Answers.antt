@@ -1,0 +1,9 @@
+use Rattle.pcl_shrink.proofs.Names.{arith}
+use Rattle.pcl_shrink.proofs.Smaller.{limit_best}
+use Rattle.pcl_shrink.proofs.Shorter.{limited_job}
+use Rattle.pcl_shrink.proofs.shrinking.best_of.Goals as goal
+
+pub returns-then-job-limit : goal.returns-then-job-limit
+returns-then-job-limit c = λ limit.
+    limited_job c.one_meaning.ensures.pages c.one_meaning.ensures.asks c.written_jobs_ask_for_nothing.ensures limit
+    (omega (arith, c.if-job-limit.true)) (limit_best limit)
