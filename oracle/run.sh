@@ -1,5 +1,6 @@
 #!/usr/bin/env bash
-# A short run of the other programs (README.md): tables by reference.py and least.py, and random jobs and triples by all.
+# A run of the other programs (README.md): tables by reference.py and least.py, random jobs and triples by all, and 20,000 random jobs
+# through `shrink` and back. It takes a quarter of an hour on four cores.
 # PCLMIN names another build of pclmin. Needs rustc and Python 3.
 set -euo pipefail
 cd "$(dirname "$0")/.."
@@ -17,3 +18,4 @@ done
 python3 oracle/fuzz.py "$PCLMIN" build/oracle/plain 1800 1 --workers 2 --folder build/oracle
 python3 oracle/fuzz.py "$PCLMIN" build/oracle/plain 200 2 --model --workers 2 --folder build/oracle
 python3 oracle/fuzz.py "$PCLMIN" build/oracle/plain 200 3 --triples --workers 2 --folder build/oracle
+python3 oracle/shrunk.py "$PCLMIN" build/oracle/plain 20000 4 --workers "$(nproc)" --folder build/oracle

@@ -1,0 +1,116 @@
+#!/usr/bin/env python3
+"""Sends random jobs through `pclmin shrink` and back, and has the plain program (plain/) look at all pages of both.
+
+    python3 oracle/shrunk.py PCLMIN PLAIN COUNT SEED [--workers N] [--folder FOLDER]
+
+The jobs are those of random_jobs.py: one to three that are mostly accepted, joined, or one of any kind, at a resolution that is drawn
+too; the first of eight that is accepted, or the last. What `shrink` writes of an accepted one is no longer, has as many pages, each the same by the plain program, and is the same by
+`same --asked`; a job that it refuses is refused by the plain program in the same line. A job that doesn't hold is kept in FOLDER
+(build/fuzz) as shrunk-SEED-NUMBER.pcl, with a line on standard output, and the status is then 1. The number of workers is 1 if it isn't
+given; the jobs don't depend on it.
+"""
+
+import argparse
+import collections
+import concurrent.futures
+import os
+import random
+import sys
+
+sys.dont_write_bytecode = True
+import programs
+from random_jobs import job_of, right_job
+
+# How many jobs are drawn for one that is accepted.
+TRIES = 8
+
+
+def random_job(draw):
+    """A job, and the resolution at which it is seen."""
+    jobs = [right_job(draw) for _ in range(draw.choice([1, 1, 2, 3]))] if draw.random() < 0.9 else [job_of(draw)]
+    return draw.choice([b"\f", b"", b"\x1bE"]).join(jobs), draw.choice([300, 300, 600])
+
+
+class Looker:
+    """Asks both programs."""
+
+    def __init__(self, asked):
+        self.pclmin, self.plain = programs.Program(asked.pclmin, asked.folder), programs.Plain(asked.plain)
+        self.seed, self.folder = asked.seed, asked.folder
+
+    def pages(self, job, at):
+        """The images of all pages by the plain program, or the line of its refusal."""
+        (first, count), = self.plain.answers([(["pbm", "--page", "1"] + at, job)])
+        if count == 0 or first[0] != 0:
+            return first[2]
+        more = self.plain.answers([(["pbm", "--page", str(page)] + at, job) for page in range(2, count + 1)])
+        return [first] + [answer for answer, _ in more]
+
+    def same(self, job, written, at):
+        """The answer of `same --asked`."""
+        for name, content in zip(self.pclmin.names, (job, written)):
+            with open(name, "wb") as out:
+                out.write(content)
+        return self.pclmin.run(["same", "--asked"] + at + self.pclmin.names[:2], b"")
+
+    def look(self, number):
+        """What doesn't hold of a job, none where all does; and how it came out."""
+        draw = random.Random("%d %d shrunk" % (self.seed, number))
+        for _ in range(TRIES):
+            job, dpi = random_job(draw)
+            at = ["--dpi", str(dpi)]
+            status, written, said = self.pclmin.run(["shrink"] + at, job)
+            if status == 0:
+                break
+        fault, outcome = self.fault_of(job, at, status, written, said)
+        if fault:
+            with open(os.path.join(self.folder, "shrunk-%d-%d.pcl" % (self.seed, number)), "wb") as out:
+                out.write(job)
+            fault = "job %d at %d: %s" % (number, dpi, fault)
+        return fault, outcome
+
+    def fault_of(self, job, at, status, written, said):
+        pages = self.pages(job, at)
+        if status == 1:
+            return (None if pages == said else "refused with %r, by the plain program %r" % (said, pages)), "refused"
+        if status != 0:
+            return "status %d, %r" % (status, said), "failed"
+        if len(written) > len(job):
+            return "%d bytes in place of %d" % (len(written), len(job)), "longer"
+        if self.pages(written, at) != pages:
+            return "other pages", "others"
+        if self.same(job, written, at)[:2] != (0, b"same\n"):
+            return "not the same by same --asked", "others"
+        return None, "shorter" if len(written) < len(job) else "as it came"
+
+
+def begin(asked):
+    global looker
+    looker = Looker(asked)
+
+
+def look(number):
+    return looker.look(number)
+
+
+def main():
+    parser = argparse.ArgumentParser()
+    for name, kind in (("pclmin", str), ("plain", str), ("count", int), ("seed", int)):
+        parser.add_argument(name, type=kind)
+    parser.add_argument("--workers", type=int, default=1)
+    parser.add_argument("--folder", default="build/fuzz")
+    asked = parser.parse_args()
+    os.makedirs(asked.folder, exist_ok=True)
+    outcomes, faults = collections.Counter(), 0
+    with concurrent.futures.ProcessPoolExecutor(asked.workers, initializer=begin, initargs=[asked]) as pool:
+        for fault, outcome in pool.map(look, range(asked.count), chunksize=20):
+            outcomes[outcome] += 1
+            if fault:
+                faults += 1
+                print(fault, flush=True)
+    print("%d jobs of the seed %d through shrink: %s" % (asked.count, asked.seed, ", ".join("%d %s" % (n, it) for it, n in outcomes.items())))
+    sys.exit(1 if faults else 0)
+
+
+if __name__ == "__main__":
+    main()
