@@ -3,11 +3,11 @@
 
     process/calls.py PROGRAM
 
-PROGRAM is a built pclmin. A run in which a read fails, interrupted ones too, says `pclmin: cannot read`; one in which a write or a
-rename fails says `pclmin: cannot write`; both end with status 3. One in which a file can't be opened says either. Where something
-else of the system fails, a run says one of these or does what it does else. Standard output then has a prefix of what it has else, or
-nothing where a job is read no further; the file of -o is as it was, and none is left beside it. Where each read gives and each write
-takes one byte, all is as ever. Needs a C compiler.
+PROGRAM is a built pclmin. A run in which a read fails, interrupted ones too, says `pclmin: cannot read`; one in which a write, a
+rename or a sync fails says `pclmin: cannot write`; both end with status 3. One in which a file can't be opened says either. Where
+something else of the system fails, a run says one of these or does what it does else. Standard output then has a prefix of what it has
+else, or nothing where a job is read no further; the files of -o, --cert and --image are as they were, all of them, and none is left
+beside them. Where each read gives and each write takes one byte, all is as ever. Needs a C compiler.
 """
 
 import errno
@@ -20,11 +20,11 @@ from failing import HERE, Failing
 
 EXAMPLES = HERE.parent / "examples"
 READ, WRITE = b"pclmin: cannot read\n", b"pclmin: cannot write\n"
-RUNS = ["pbm dot.pcl", "min dot.pcl", "min --cert cert dot.pcl", "min --cert cert --format 2 dot.pcl", "shrink dot.pcl",
-        "shrink -o kept dot.pcl", "pages dot.pcl", "explain dot.pcl", "check dot.pcl dot.min dot.cert", "same dot.pcl dot.min",
+RUNS = ["pbm dot.pcl", "min dot.pcl", "min --cert cert dot.pcl", "min --cert cert --format 2 dot.pcl",
+        "min --cert kept.cert -o kept dot.pcl", "min --cert cert -o kept dot.pcl", "shrink dot.pcl", "shrink -o kept dot.pcl", "pages dot.pcl", "explain dot.pcl", "check dot.pcl dot.min dot.cert", "same dot.pcl dot.min",
         "same --image image dot.pcl other.pcl"]
-LINES = {"read": [READ], "write": [WRITE], "rename": [WRITE], "open": [READ, WRITE]}
-OTHERS = ["realpath", "statx", "fchmod", "fcntl"]
+LINES = {"read": [READ], "write": [WRITE], "rename": [WRITE], "fsync": [WRITE], "open": [READ, WRITE]}
+OTHERS = ["link", "flock", "realpath", "statx", "fchmod", "fcntl"]
 ERRORS = [errno.EIO, errno.EINTR]
 
 
@@ -42,7 +42,8 @@ def main():
 
 def made(folder):
     """What files hold that a run makes."""
-    return {path.name: path.read_bytes() for path in folder.iterdir() if path.name in ("kept", "cert", "image") or ".part" in path.name}
+    names = ("kept", "kept.cert", "cert", "image")
+    return {path.name: path.read_bytes() for path in folder.iterdir() if path.name in names or "-part" in path.name}
 
 
 def try_run(failing, words):
@@ -55,10 +56,8 @@ def try_run(failing, words):
         return (ran.returncode, ran.stdout, ran.stderr, made(folder)) == (ample.returncode, ample.stdout, ample.stderr, files)
 
     def has_failed(ran, lines):
-        left = made(folder)
-        return (ran.returncode == 3 and ran.stderr in lines and ample.stdout.startswith(ran.stdout) and left["kept"] == b"kept"
-                and not any(".part" in name for name in left)
-                and all(files[name].startswith(content) for name, content in left.items() if name != "kept"))
+        return (ran.returncode == 3 and ran.stderr in lines and ample.stdout.startswith(ran.stdout)
+                and made(folder) == {"kept": b"kept", "kept.cert": b"kept"})
 
     counts = []
     for what in [*LINES, *OTHERS]:

@@ -1,5 +1,5 @@
 // Makes one call of a program fail: the one whose number FAIL_AT has, counted from 1 over the calls that FAIL_WHAT names, which is
-// `memory` for all allocations, or one of read, write, open, rename, realpath, statx, fchmod and fcntl. It fails with the error whose
+// `memory` for all allocations, or one of read, write, open, rename, link, fsync, flock, realpath, statx, fchmod and fcntl. It fails with the error whose
 // number FAIL_ERROR has, and an allocation with ENOMEM. At its end the program writes into the file FAIL_COUNT how many of these calls
 // it made. Where FAIL_SHORT is set, each read gives and each write takes one byte at most. It is loaded before the C library
 // (LD_PRELOAD).
@@ -11,6 +11,7 @@
 #include <stdio.h>
 #include <stdlib.h>
 #include <string.h>
+#include <sys/file.h>
 #include <sys/stat.h>
 #include <unistd.h>
 
@@ -87,6 +88,18 @@ int open(const char *path, int flags, ...) {
 
 int rename(const char *from, const char *to) {
     return fails("rename", error) ? -1 : NEXT(rename)(from, to);
+}
+
+int link(const char *from, const char *to) {
+    return fails("link", error) ? -1 : NEXT(link)(from, to);
+}
+
+int fsync(int file) {
+    return fails("fsync", error) ? -1 : NEXT(fsync)(file);
+}
+
+int flock(int file, int how) {
+    return fails("flock", error) ? -1 : NEXT(flock)(file, how);
 }
 
 char *realpath(const char *path, char *resolved) {

@@ -9,7 +9,7 @@ HERE = pathlib.Path(__file__).resolve().parent
 
 
 class Failing:
-    """Runs in a folder, where a file `kept` is put before each."""
+    """Runs in a folder, where files `kept` and `kept.cert` are put before each, and what a run makes else is removed."""
 
     def __init__(self, folder):
         self.folder = folder
@@ -19,7 +19,10 @@ class Failing:
 
     def run(self, words, **settings):
         """What one run did; settings are those of failing.c, without FAIL_."""
-        (self.folder / "kept").write_bytes(b"kept")
+        for name in ("kept", "kept.cert"):
+            (self.folder / name).write_bytes(b"kept")
+        for name in ("cert", "image"):
+            (self.folder / name).unlink(missing_ok=True)
         added = {"FAIL_" + name.upper(): str(value) for name, value in settings.items()}
         environment = dict(os.environ, LD_PRELOAD=str(self.shim), FAIL_COUNT=str(self.count), **added)
         return subprocess.run(words, cwd=self.folder, env=environment, stdin=subprocess.DEVNULL, capture_output=True, timeout=60,

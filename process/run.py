@@ -28,6 +28,9 @@ NOBODY = 65534
 STEP, ENOUGH = 16, 50
 PLENTY = 4_000_000
 OUT_OF_MEMORY = "pclmin: out of memory"
+OTHER_OWNER = b"pclmin: cannot write: the file is another user's, and would become this one's\n"
+# As many bytes a job may have.
+LENGTH_LIMIT = 2_147_483_647
 
 
 def cases():
@@ -71,9 +74,12 @@ def run_case(program, command):
     """The status of a command, and what it says on standard error."""
     with tempfile.TemporaryDirectory() as folder:
         fill(folder, program)
-        done = subprocess.run(
-            ["bash", "-c", 'PATH="$PWD:$PATH"; ' + command], cwd=folder, stdin=subprocess.DEVNULL,
-            stdout=subprocess.DEVNULL, stderr=subprocess.PIPE, preexec_fn=without_rights, timeout=60, check=False)
+        try:
+            done = subprocess.run(
+                ["timeout", "20", "bash", "-c", 'PATH="$PWD:$PATH"; ' + command], cwd=folder, stdin=subprocess.DEVNULL,
+                stdout=subprocess.DEVNULL, stderr=subprocess.PIPE, preexec_fn=without_rights, timeout=60, check=False)
+        except subprocess.TimeoutExpired:
+            return "no end", ""
         return done.returncode, done.stderr.decode().strip()
 
 
@@ -117,6 +123,43 @@ def check_memory(program):
                 break
         print(f"{' '.join(words)}: begins within {begins} KB, is first done within {done} KB")
     return wrong, count
+
+
+def check_owners(program):
+    """A file that is replaced keeps its owner and its rights, where root does it; where somebody else would, it stays as it is."""
+    if os.geteuid() != 0:
+        return [], 0
+    wrong = []
+    with tempfile.TemporaryDirectory() as folder:
+        fill(folder, program)
+        path = os.path.join(folder, "theirs.pcl")
+        for owner, mode, rights, status, said in ((NOBODY, 0o4755, None, 0, b""), (0, 0o666, without_rights, 3, OTHER_OWNER)):
+            with open(path, "wb") as file:
+                file.write(DOT)
+            os.chown(path, owner, owner)
+            os.chmod(path, mode)
+            done = subprocess.run([program, "min", "-o", path, path], capture_output=True, preexec_fn=rights, timeout=60, check=False)
+            there = os.stat(path)
+            with open(path, "rb") as file:
+                is_right = file.read() == (WRITTEN if status == 0 else DOT)
+            came = (done.returncode, done.stderr, there.st_uid, there.st_gid, there.st_mode & 0o7777)
+            if came != (status, said, owner, owner, mode) or not is_right:
+                wrong.append(f"-o of a file of user {owner} with mode {mode:o}: {came}")
+    return wrong, 2
+
+
+def check_lengths(program):
+    """As many bytes as a job may have, and one more, of a file that takes no room: a minute."""
+    wrong = []
+    with tempfile.TemporaryDirectory() as folder:
+        path = os.path.join(folder, "sparse.pcl")
+        for length, wanted in ((LENGTH_LIMIT, (0, b"\x1bE\x1bE", b"")), (LENGTH_LIMIT + 1, (3, b"", b"pclmin: input too long\n"))):
+            with open(path, "wb") as file:
+                file.truncate(length)
+            done = subprocess.run([program, "min", path], capture_output=True, timeout=600, check=False)
+            if (done.returncode, done.stdout, done.stderr) != wanted:
+                wrong.append(f"a job of {length} bytes: {done}")
+    return wrong, 2
 
 
 def run_on_terminal(program, words, job):
@@ -194,7 +237,7 @@ def main():
         copy = shutil.copy(program, os.path.join(folder, "program"))
         os.chmod(copy, 0o755)
         wrong, count = [], 0
-        for check in (check_table, check_memory, check_terminal, check_spared_terminal):
+        for check in (check_table, check_owners, check_lengths, check_memory, check_terminal, check_spared_terminal):
             faults, cases_of_it = check(copy)
             wrong += faults
             count += cases_of_it

@@ -98,6 +98,8 @@ impl Reporter for &Told {
         let _ = said.extend_from_slice(line);
         self.said.set(said);
     }
+
+    fn jobs_done(&self, _done: usize, _jobs: usize) {}
 }
 
 impl Watcher for &Told {

@@ -1,6 +1,6 @@
 //! A folder in memory, with the files of a run by their names.
 
-use pcl_files::{FileFault, JobFiles};
+use pcl_files::{FileFault, FileKind, JobFiles};
 use std::alloc::{AllocError, Global};
 use std::io::{self, Cursor, ErrorKind, Write};
 
@@ -49,7 +49,8 @@ struct Named {
     bytes: Vec<u8>,
 }
 
-/// Files by their names. Of folders below this one `out` alone is there.
+/// Files by their names. Of folders below this one `out` alone takes files: nothing can be made in `full`, what lies in `other` is
+/// another user's, and no other is there.
 #[derive(Drop)]
 pub(crate) struct Folder {
     alloc: Global,
@@ -67,6 +68,7 @@ impl Folder {
 
     /// The bytes of a file.
     pub(crate) fn bytes_of(&self, name: &str) -> Option<&[u8]> {
+        let name = plain(name);
         let file = self.files.iter().find(|file| file.name.as_str() == name)?;
         Some(&file.bytes)
     }
@@ -100,47 +102,64 @@ impl JobFiles for Folder {
         }
     }
 
-    fn make(&mut self, name: &str) -> Result<Held, FileFault> {
-        if !is_there(name) {
-            return Err(FileFault::System);
-        }
-        self.put(name, Vec::new(self.alloc))?;
-        Ok(Held::new(self.alloc))
+    fn are_one(&self, name: &str, other: &str) -> bool {
+        plain(name) == plain(other)
     }
 
-    /// What wasn't flushed is lost.
-    fn close(&mut self, name: &str, file: Held) {
-        let Held { mut bytes, flushed } = file;
-        bytes.truncate(flushed);
-        for named in self.files.iter_mut() {
-            if named.name.as_str() == name {
-                named.bytes = bytes;
-                return;
-            }
+    fn kind_of(&self, name: &str) -> Option<FileKind> {
+        self.bytes_of(name).map(|_| FileKind::File)
+    }
+
+    fn make_folder(&mut self, name: &str) -> Result<(), FileFault> {
+        match plain(name).split('/').next() {
+            Some("out" | ".") => Ok(()),
+            _ => Err(FileFault::System),
         }
     }
 
     fn begin(&mut self, name: &str) -> Result<Held, FileFault> {
-        if !is_there(name) {
-            return Err(FileFault::System);
+        match fault_of(name) {
+            Some(why) => Err(why),
+            None => Ok(Held::new(self.alloc)),
         }
-        Ok(Held::new(self.alloc))
+    }
+
+    fn begin_aside(&mut self, name: &str) -> Result<Held, FileFault> {
+        self.begin(name)
     }
 
     /// What wasn't flushed is lost.
     fn place(&mut self, name: &str, file: Held) -> Result<(), FileFault> {
         let Held { mut bytes, flushed } = file;
         bytes.truncate(flushed);
-        Ok(self.put(name, bytes)?)
+        Ok(self.put(plain(name), bytes)?)
+    }
+
+    fn place_both(
+        &mut self,
+        name: &str,
+        file: Held,
+        other: &str,
+        other_file: Held,
+    ) -> Result<(), FileFault> {
+        self.place(name, file)?;
+        self.place(other, other_file)
     }
 
     fn discard(&mut self, _name: &str, _file: Held) {}
 }
 
-/// Whether the folder of a file is there.
-fn is_there(name: &str) -> bool {
-    match name.split_once('/') {
-        Some((folder, _)) => folder == "out",
-        None => true,
+/// A name without what says nothing of its place.
+fn plain(name: &str) -> &str {
+    name.strip_prefix("./").unwrap_or(name)
+}
+
+/// Why a file can't be begun, by its folder.
+fn fault_of(name: &str) -> Option<FileFault> {
+    match plain(name).split_once('/') {
+        None | Some(("out", _)) => None,
+        Some(("full", _)) => Some(FileFault::Folder),
+        Some(("other", _)) => Some(FileFault::Owner),
+        Some(_) => Some(FileFault::System),
     }
 }

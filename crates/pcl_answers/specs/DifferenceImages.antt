@@ -12,7 +12,8 @@ use Rattle.pcl_same.specs.declared.comparison.Comparison.TheVariants.{Page}
 use Rattle.pcl_same.specs.declared.comparison.Difference.TheVariants.{Dot}
 use Rattle.pcl_same.specs.Comparing.{IsComparison}
 use Rattle.pcl_same.specs.DifferingDots.{IsDifference}
-use Rattle.pcl_files.specs.Files.{FileAct, Made, Unmade, Closed, write_fault_of}
+use Rattle.pcl_files.specs.Files.{FileAct, Begun, Unbegun, write_fault_of}
+use Rattle.pcl_files.specs.WholeFiles.{IsSettled}
 use Rattle.pcl_files.specs.declared.files.FileFault.{FileFault}
 
 -- the page where the first difference is one of dots
@@ -42,14 +43,14 @@ IsDifferingPage dpi first second number (Err WriteFault) = ⊥
 IsDifferingPage dpi first second number (Err NoSuchPage) = ⊥
 IsDifferingPage dpi first second number (Err (Refused refusal)) = ⊥
 
--- the file of this name is made, gets the image, and is closed; or it can't be made
+-- a file is begun for this name, gets the image, and is settled; or it can't be begun
 abbrev pub IsImageMade : {F : Type 0} → (F → FileAct → F → Type 0) → List ℕ → Picture → (files kept : F) → Result (Unit {0}) Fault → Type 0
 IsImageMade {F} acts name image files kept done =
-    ((why : FileFault) × acts files (Unmade name why) kept × (done ≡ Err (write_fault_of why)))
-    ⊎ ((made : F) × (held holds : Option (List ℕ)) × acts files (Made name held) made × IsImageWritten held holds image done
-    × acts made (Closed name holds) kept)
+    ((why : FileFault) × acts files (Unbegun name why) kept × (done ≡ Err (write_fault_of why)))
+    ⊎ ((begun : F) × (held holds : Option (List ℕ)) × (written : Result (Unit {0}) Fault) × acts files (Begun name held) begun
+    × IsImageWritten held holds image written × IsSettled acts name holds written begun kept done)
 
--- where no image is asked for, or no page differs in dots first, no file is made; memory may run out before one is
+-- where no image is asked for, or no page differs in dots first, no file is begun; memory may run out before one is
 abbrev pub IsDrawnTo : {F : Type 0} → (F → FileAct → F → Type 0) → Option (Bor (List ℕ)) → Option ℕ → Dpi → (first second : List ℕ)
     → (files kept : F) → Result (Unit {0}) Fault → Type 0
 IsDrawnTo acts (Some name) (Some number) dpi first second files kept done =

@@ -6,7 +6,7 @@ ghost use Rattle.pcl_answers.specs.DifferenceImages.{dotted_page, DifferInDots, 
 
 use pcl_base::Dpi;
 use pcl_bitmap::Bitmap;
-use pcl_files::JobFiles;
+use pcl_files::{JobFiles, settle};
 use pcl_same::{Comparison, Difference, differing_dots};
 use pcl_streams::{Fault, page_dots, write_image};
 use std::alloc::Global;
@@ -64,7 +64,8 @@ fn differing_page(
     Ok(differing_dots(alloc, &one, &other)?)
 }
 
-/// Makes the file of a name, writes an image to it and closes it. The fault of a file that can't be made comes too.
+/// Writes an image to the file of a name, which takes its place where it is whole. The fault of a file that can't be begun or placed
+/// comes too.
 fn make_image<F: JobFiles>(
     files: &mut F,
     alloc: Global,
@@ -73,8 +74,7 @@ fn make_image<F: JobFiles>(
 ) -> Result<(), Fault>
     ensures { IsImageMade F.acts name.now image.now files.old files.new result }
 {
-    let mut file = files.make(name)?;
+    let mut file = files.begin_aside(name)?;
     let written = write_image(alloc, image, &mut file);
-    files.close(name, file);
-    written
+    settle(files, name, file, written)
 }

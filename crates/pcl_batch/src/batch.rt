@@ -1,133 +1,158 @@
 //! A batch: its jobs, one after the other, the report, and how it ends.
 
 use crate::job::write_job;
+use crate::reasons::{Obstacle, Reason};
 use crate::rewriter::Rewriter;
 use indexmap::IndexSet;
 use itoa::Buffer;
-use pcl_files::{Failure, JobFiles, USAGE_STATUS};
-use pcl_report::{Entry, file_name, header};
-use pcl_request::Batch;
+use pcl_files::{Failure, FileFault, JobFiles, Reporter};
+use pcl_report::{Entry, Paths, Totals, header};
+use pcl_request::{Batch, Destination, Rewriting};
 use pcl_streams::{Fault, write_all};
 use std::alloc::{AllocError, Global};
 use std::io::Write;
 
-/// How many jobs failed, and what is worst among their statuses.
+/// What came of the jobs so far, and the worst of their statuses.
 #[derive(Clone, Copy)]
 struct Tally {
-    failed: usize,
+    totals: Totals,
     status: u8,
 }
 
 impl Tally {
     /// Of no job.
     const NOTHING: Tally = Tally {
-        failed: 0,
+        totals: Totals::NONE,
         status: 0,
     };
 
-    /// With one job more that has this status.
-    fn with(self, status: u8) -> Tally {
+    /// With one job more.
+    fn with(self, entry: &Entry<'_>) -> Tally {
         Tally {
-            failed: self.failed.saturating_add(usize::from(status != 0)),
-            status: self.status.max(status),
+            totals: self.totals.with(entry),
+            status: self.status.max(entry.status),
         }
     }
 }
 
 /// Writes the jobs of files again, one after the other, and a report of them. A job that fails stops none of those after it, and what
 /// an earlier batch did isn't done again. A failure has the worst of their statuses.
-pub fn run_batch<F: JobFiles, W: Write, R: Rewriter<F>>(
+pub(crate) fn run_batch<F: JobFiles, W: Write, R: Rewriter, P: Reporter>(
     files: &mut F,
     alloc: Global,
     batch: Batch<'_>,
     paths: &[&str],
     out: &mut W,
     rewriter: R,
+    reporter: P,
 ) -> Result<(), Failure> {
-    match write_jobs(files, alloc, batch, paths, out, rewriter) {
-        Ok(tally) => ended(alloc, paths.len(), tally),
+    if let Err(why) = make_folder_of(files, batch.place) {
+        return Err(Failure::of_file(alloc, why));
+    }
+    match write_jobs(files, alloc, batch, paths, out, rewriter, reporter) {
+        Ok(tally) => ended(alloc, tally),
         Err(fault) => Err(Failure::of(alloc, &fault, 0)),
     }
 }
 
-/// Writes the jobs, and a line of the report after each.
-fn write_jobs<F: JobFiles, W: Write, R: Rewriter<F>>(
+/// Makes the folder that jobs are written into.
+fn make_folder_of<F: JobFiles>(files: &mut F, place: Destination<'_>) -> Result<(), FileFault> {
+    match place {
+        Destination::Itself => Ok(()),
+        Destination::Folder(folder) | Destination::Below(folder) => files.make_folder(folder),
+    }
+}
+
+/// Writes the jobs, a line of the report after each, and the last one.
+fn write_jobs<F: JobFiles, W: Write, R: Rewriter, P: Reporter>(
     files: &mut F,
     alloc: Global,
     batch: Batch<'_>,
     paths: &[&str],
     out: &mut W,
     rewriter: R,
+    reporter: P,
 ) -> Result<Tally, Fault> {
     let mut names = IndexSet::new(alloc);
     let mut tally = Tally::NOTHING;
     write_all(out, header(batch.form).as_bytes())?;
     for path in paths {
-        let is_new = take_name(&mut names, path)?;
-        let status = write_entry(files, alloc, batch, path, is_new, out, rewriter)?;
-        tally = tally.with(status);
+        let entry = entry_of(files, alloc, batch, path, &mut names, rewriter)?;
+        write_all(out, &entry.line(alloc, batch.form)?)?;
+        tally = tally.with(&entry);
+        reporter.jobs_done(tally.totals.jobs, paths.len());
     }
+    reporter.ended();
+    write_all(out, &tally.totals.line(alloc, batch.form)?)?;
     Ok(tally)
 }
 
-/// Writes a job, unless another one of its name was written before it, and its line of the report. It gives the job's status.
-fn write_entry<F: JobFiles, W: Write, R: Rewriter<F>>(
+/// Writes a job, unless it has no place, or one before it has a name that it needs.
+fn entry_of<'w, F: JobFiles, R: Rewriter>(
     files: &mut F,
     alloc: Global,
     batch: Batch<'_>,
-    path: &str,
-    is_new: bool,
-    out: &mut W,
+    path: &'w str,
+    names: &mut IndexSet<String>,
     rewriter: R,
-) -> Result<u8, Fault> {
-    let entry = entry_of(files, alloc, batch, path, is_new, rewriter)?;
-    let line = entry.line(alloc, batch.form)?;
-    write_all(out, &line)?;
-    Ok(entry.status)
+) -> Result<Entry<'w>, AllocError> {
+    let obstacle = match Paths::new(alloc, batch.place, path)? {
+        Some(paths) if take_names(alloc, names, batch.rewriting, &paths)? => {
+            return write_job(files, alloc, batch, path, &paths, rewriter);
+        }
+        Some(_) => Obstacle::Taken,
+        None => Obstacle::LeadsOut,
+    };
+    let Reason { status, said } = Reason::of(alloc, obstacle)?;
+    Ok(Entry::failed(path, status, said))
 }
 
-/// Notes the name of a job, and says whether no job before it had this name.
-fn take_name<'w>(names: &mut IndexSet<&'w str>, path: &'w str) -> Result<bool, AllocError> {
-    match names.insert(file_name(path)) {
+/// Notes the names of what is written of a job, and says whether no job before it had one of them.
+fn take_names(
+    alloc: Global,
+    names: &mut IndexSet<String>,
+    rewriting: Rewriting,
+    paths: &Paths,
+) -> Result<bool, AllocError> {
+    let has_job = take_name(alloc, names, &paths.job)?;
+    let has_sums = take_name(alloc, names, &paths.sums)?;
+    let has_certificate = match rewriting {
+        Rewriting::Shrink => true,
+        Rewriting::Certify => take_name(alloc, names, &paths.certificate)?,
+    };
+    Ok(has_job && has_sums && has_certificate)
+}
+
+/// Notes a name, and says whether it is new.
+fn take_name(
+    alloc: Global,
+    names: &mut IndexSet<String>,
+    name: &String,
+) -> Result<bool, AllocError> {
+    match names.insert(String::from_str(alloc, name.as_str())?) {
         Ok(is_new) => Ok(is_new),
         Err(_) => Err(AllocError),
     }
 }
 
-/// Writes a job, unless another one of its name was written before it.
-fn entry_of<'w, F: JobFiles, R: Rewriter<F>>(
-    files: &mut F,
-    alloc: Global,
-    batch: Batch<'_>,
-    path: &'w str,
-    is_new: bool,
-    rewriter: R,
-) -> Result<Entry<'w>, AllocError> {
-    if is_new {
-        return write_job(files, alloc, batch, path, rewriter);
-    }
-    let said = String::from_str(alloc, "a job before this one has its name")?;
-    Ok(Entry::failed(path, USAGE_STATUS, said))
-}
-
-/// The end of a batch of so many jobs.
-fn ended(alloc: Global, jobs: usize, tally: Tally) -> Result<(), Failure> {
-    let Tally { failed, status } = tally;
+/// The end of a batch.
+fn ended(alloc: Global, tally: Tally) -> Result<(), Failure> {
+    let Tally { totals, status } = tally;
     if status == 0 {
         return Ok(());
     }
-    match failed_line(alloc, jobs, failed) {
+    match failed_line(alloc, totals) {
         Ok(line) => Err(Failure::Said { line, status }),
         Err(_) => Err(Failure::NoMemory),
     }
 }
 
 /// What is said where some jobs failed, with its line feed.
-fn failed_line(alloc: Global, jobs: usize, failed: usize) -> Result<Vec<u8>, AllocError> {
+fn failed_line(alloc: Global, totals: Totals) -> Result<Vec<u8>, AllocError> {
     let mut line = Vec::from_slice(alloc, b"pclmin: ")?;
-    line.extend_from_slice(Buffer::new().format(failed).as_bytes())?;
+    line.extend_from_slice(Buffer::new().format(totals.failed).as_bytes())?;
     line.extend_from_slice(b" of ")?;
-    line.extend_from_slice(Buffer::new().format(jobs).as_bytes())?;
+    line.extend_from_slice(Buffer::new().format(totals.jobs).as_bytes())?;
     line.extend_from_slice(b" jobs failed\n")?;
     Ok(line)
 }

@@ -1,262 +1,289 @@
-//! One job of a batch.
+//! One job of a batch: what it is, what lies in its place, and what is to be done.
 
+use crate::reasons::{Obstacle, Reason};
 use crate::rewriter::Rewriter;
+use crate::writing::write_again;
 use pcl_base::Dpi;
-use pcl_cert::Format;
-use pcl_files::{
-    Failure, JobFiles, MEMORY_STATUS, fault_line, read_file, resolve, status_of, write_file,
-};
+use pcl_files::{FileKind, JobFiles, read_file, resolve};
 use pcl_page::page_count;
-use pcl_report::{Entry, FileSum, Outcome, Paths, sums_text};
-use pcl_request::{Batch, Resolution, Rewriting, Run, Source, Target, Task};
-use pcl_streams::Fault;
+use pcl_report::{Entry, FileSum, Outcome, Paths, Sums, file_name, sums_text};
+use pcl_request::{Batch, Destination, Rewriting};
 use std::alloc::{AllocError, Global};
 
-/// Writes the job of a file again, unless an earlier batch did, and says what came of it. It fails where there is no memory to say
-/// so.
-pub fn write_job<'w, F: JobFiles, R: Rewriter<F>>(
+/// Writes the job of a file again to these paths, unless an earlier batch did, and says what came of it. It fails where there is no
+/// memory to say so.
+pub(crate) fn write_job<'w, F: JobFiles, R: Rewriter>(
     files: &mut F,
     alloc: Global,
     batch: Batch<'_>,
     file: &'w str,
+    paths: &Paths,
     rewriter: R,
 ) -> Result<Entry<'w>, AllocError> {
-    match see(files, alloc, batch, file)? {
-        Seen::Ended(entry) => Ok(entry),
-        Seen::Waits(job) => rewrite(files, alloc, batch, job, rewriter),
+    if let Some(obstacle) = obstacle_of(files, batch.place, file, paths) {
+        return Ok(unseen(file, Reason::of(alloc, obstacle)?));
+    }
+    match read_file(files, alloc, file) {
+        Ok(bytes) => write_bytes(files, alloc, batch, file, paths, &bytes, rewriter),
+        Err(fault) => Ok(unseen(file, Reason::of_fault(alloc, &fault)?)),
     }
 }
 
-/// What is known of a job before it is written.
-#[derive(Drop)]
-struct Job<'w> {
-    /// The path of its file.
-    file: &'w str,
-    paths: Paths,
-    dpi: Dpi,
-    /// None where it is refused.
-    pages: Option<usize>,
-    input: FileSum,
+/// Why the job of a file isn't read: it is none, or what is written would take its place.
+fn obstacle_of<F: JobFiles>(
+    files: &F,
+    place: Destination<'_>,
+    file: &str,
+    paths: &Paths,
+) -> Option<Obstacle> {
+    if matches!(
+        files.kind_of(file),
+        Some(FileKind::Folder | FileKind::Special)
+    ) {
+        return Some(Obstacle::NoFile);
+    }
+    let is_written = [&paths.job, &paths.certificate, &paths.sums]
+        .iter()
+        .any(|path| files.are_one(file, path.as_str()));
+    match place {
+        Destination::Folder(_) | Destination::Below(_) if is_written => Some(Obstacle::Itself),
+        _ => None,
+    }
 }
 
-/// What is to be done with a job.
-#[derive(Drop)]
-enum Seen<'w> {
-    /// Nothing: it can't be read, or an earlier batch has written it.
-    Ended(Entry<'w>),
-    /// It is to be written.
-    Waits(Job<'w>),
+/// What is reported of a job of which nothing is known.
+fn unseen<'w>(file: &'w str, reason: Reason) -> Entry<'w> {
+    Entry::failed(file, reason.status, reason.said)
+}
+
+/// Writes a job of these bytes again, unless an earlier batch did.
+fn write_bytes<'w, F: JobFiles, R: Rewriter>(
+    files: &mut F,
+    alloc: Global,
+    batch: Batch<'_>,
+    file: &'w str,
+    paths: &Paths,
+    bytes: &[u8],
+    rewriter: R,
+) -> Result<Entry<'w>, AllocError> {
+    let dpi = resolve(alloc, batch.resolution, bytes)?;
+    let pages = page_count(alloc, bytes, dpi).ok();
+    let input = FileSum::of(alloc, bytes)?;
+    let came = write_digested(files, alloc, batch, paths, bytes, dpi, &input, rewriter)?;
+    let dpi = Some(dpi.dots());
+    Ok(came.entry(file, dpi, pages, input))
+}
+
+/// The same with the digest of these bytes.
+fn write_digested<F: JobFiles, R: Rewriter>(
+    files: &mut F,
+    alloc: Global,
+    batch: Batch<'_>,
+    paths: &Paths,
+    bytes: &[u8],
+    dpi: Dpi,
+    input: &FileSum,
+    rewriter: R,
+) -> Result<Came, AllocError> {
+    let how = how_of(alloc, batch, dpi)?;
+    let job = Job {
+        is_itself: matches!(batch.place, Destination::Itself),
+        rewriting: batch.rewriting,
+        paths,
+        bytes,
+        dpi,
+        how: how.as_str(),
+        input: input.sha256.as_str(),
+    };
+    write_seen(files, alloc, job, rewriter)
+}
+
+/// A job that was read.
+#[derive(Clone, Copy)]
+pub(crate) struct Job<'w> {
+    /// Whether it is written over its own file.
+    is_itself: bool,
+    pub(crate) rewriting: Rewriting,
+    pub(crate) paths: &'w Paths,
+    pub(crate) bytes: &'w [u8],
+    pub(crate) dpi: Dpi,
+    /// The version, the command and the resolution, as digests name them.
+    pub(crate) how: &'w str,
+    /// The digest of the bytes.
+    pub(crate) input: &'w str,
 }
 
 impl<'w> Job<'w> {
-    /// The job of a file that has these bytes.
-    fn new(
-        alloc: Global,
-        batch: Batch<'_>,
-        file: &'w str,
-        bytes: &[u8],
-    ) -> Result<Job<'w>, AllocError> {
-        let dpi = resolve(alloc, batch.resolution, bytes)?;
-        let input = FileSum::of(alloc, bytes)?;
-        Ok(Job {
-            file,
-            paths: Paths::new(alloc, batch.folder, file)?,
-            dpi,
-            pages: page_count(alloc, bytes, dpi).ok(),
-            input,
-        })
-    }
-
-    /// What is reported of it where its file in the folder is this.
-    fn written(self, outcome: Outcome, output: FileSum) -> Entry<'w> {
-        Entry {
-            file: self.file,
-            outcome,
-            status: 0,
-            dpi: Some(self.dpi.dots()),
-            pages: self.pages,
-            input: Some(self.input),
-            output: Some(output),
-            said: None,
-        }
-    }
-
-    /// What is reported of it where it isn't written.
-    fn failed(self, status: u8, said: String) -> Entry<'w> {
-        Entry {
-            file: self.file,
-            outcome: Outcome::Failed,
-            status,
-            dpi: Some(self.dpi.dots()),
-            pages: self.pages,
-            input: Some(self.input),
-            output: None,
-            said: Some(said),
-        }
+    /// The name of its file.
+    pub(crate) fn name(self) -> &'w str {
+        file_name(self.paths.job.as_str())
     }
 }
 
-/// Reads a job, and what an earlier batch wrote of it.
-fn see<'w, F: JobFiles>(
-    files: &F,
-    alloc: Global,
-    batch: Batch<'_>,
-    file: &'w str,
-) -> Result<Seen<'w>, AllocError> {
-    let bytes = match read_file(files, alloc, file) {
-        Ok(bytes) => bytes,
-        Err(fault) => return Ok(Seen::Ended(unread(alloc, file, &fault)?)),
-    };
-    let job = Job::new(alloc, batch, file, &bytes)?;
-    match kept_output(files, alloc, batch, &job)? {
-        Some(output) => Ok(Seen::Ended(job.written(Outcome::Kept, output))),
-        None => Ok(Seen::Waits(job)),
-    }
-}
-
-/// What an earlier batch wrote of a job, where its sums say that it did so from these bytes in this way, and what it wrote is still
-/// there.
-fn kept_output<F: JobFiles>(
-    files: &F,
-    alloc: Global,
-    batch: Batch<'_>,
-    job: &Job<'_>,
-) -> Result<Option<FileSum>, AllocError> {
-    let Ok(sums) = read_file(files, alloc, job.paths.sums.as_str()) else {
-        return Ok(None);
-    };
-    let Ok(written) = read_file(files, alloc, job.paths.job.as_str()) else {
-        return Ok(None);
-    };
-    let output = FileSum::of(alloc, &written)?;
-    let wanted = sums_text(alloc, job.file, batch, job.dpi, &job.input, &output)?;
-    Ok((sums.as_slice() == wanted.as_bytes()).then_some(output))
-}
-
-/// Writes a job again by a run of its own, and then its sums.
-fn rewrite<'w, F: JobFiles, R: Rewriter<F>>(
-    files: &mut F,
-    alloc: Global,
-    batch: Batch<'_>,
-    job: Job<'w>,
-    rewriter: R,
-) -> Result<Entry<'w>, AllocError> {
-    let done = rewriter.carry_out(files, alloc, run_for(batch, &job));
-    finish(files, alloc, batch, job, &done)
-}
-
-/// The run that writes a job again.
-fn run_for<'a>(batch: Batch<'_>, job: &'a Job<'_>) -> Run<'a> {
-    let task = match batch.rewriting {
-        Rewriting::Shrink => Task::Shrink { report: false },
-        Rewriting::Certify => Task::Certify {
-            file: job.paths.certificate.as_str(),
-            format: Format::One,
-        },
-    };
-    Run {
-        task,
-        source: Source::File(job.file),
-        target: Target::File(job.paths.job.as_str()),
-        resolution: Resolution::Given(job.dpi),
-        quiet: true,
-    }
-}
-
-/// Writes the sums of a job where its run is done, and says what came of it.
-fn finish<'w, F: JobFiles>(
-    files: &mut F,
-    alloc: Global,
-    batch: Batch<'_>,
-    job: Job<'w>,
-    done: &Result<(), Failure>,
-) -> Result<Entry<'w>, AllocError> {
-    match done {
-        Ok(()) => finish_written(files, alloc, batch, job),
-        Err(Failure::Said { line, status }) => Ok(job.failed(*status, said_in(alloc, line)?)),
-        Err(Failure::NoMemory) => {
-            let said = String::from_str(alloc, "out of memory")?;
-            Ok(job.failed(MEMORY_STATUS, said))
-        }
-    }
-}
-
-/// Writes the sums of a job that was written again.
-fn finish_written<'w, F: JobFiles>(
-    files: &mut F,
-    alloc: Global,
-    batch: Batch<'_>,
-    job: Job<'w>,
-) -> Result<Entry<'w>, AllocError> {
-    match sums_of(files, alloc, batch, &job)? {
-        Ok(sums) => {
-            let placed = write_file(files, job.paths.sums.as_str(), sums.text.as_bytes());
-            placed_entry(alloc, job, sums.output, placed)
-        }
-        Err(fault) => failed_entry(alloc, job, &fault),
-    }
-}
-
-/// The sums of a job, and the file that they are of.
+/// What came of a job that was read.
 #[derive(Drop)]
-struct Sums {
-    text: String,
-    output: FileSum,
+pub(crate) enum Came {
+    /// It lies there as a file of this digest.
+    Done { outcome: Outcome, output: FileSum },
+    /// It isn't written, for this reason.
+    Failed(Reason),
 }
 
-/// The sums of a job that was written again, or why that can't be read.
-fn sums_of<F: JobFiles>(
-    files: &F,
-    alloc: Global,
-    batch: Batch<'_>,
-    job: &Job<'_>,
-) -> Result<Result<Sums, Fault>, AllocError> {
-    let written = match read_file(files, alloc, job.paths.job.as_str()) {
-        Ok(written) => written,
-        Err(fault) => return Ok(Err(fault)),
-    };
-    let output = FileSum::of(alloc, &written)?;
-    let text = sums_text(alloc, job.file, batch, job.dpi, &job.input, &output)?;
-    Ok(Ok(Sums { text, output }))
-}
-
-/// What is reported of a job whose sums were written, or weren't.
-fn placed_entry<'w>(
-    alloc: Global,
-    job: Job<'w>,
-    output: FileSum,
-    placed: Result<(), Fault>,
-) -> Result<Entry<'w>, AllocError> {
-    match placed {
-        Ok(()) => Ok(job.written(Outcome::Written, output)),
-        Err(fault) => failed_entry(alloc, job, &fault),
+impl Came {
+    /// What is reported of it.
+    fn entry<'w>(
+        self,
+        file: &'w str,
+        dpi: Option<u32>,
+        pages: Option<usize>,
+        input: FileSum,
+    ) -> Entry<'w> {
+        let (outcome, status, output, said) = match self {
+            Came::Done { outcome, output } => (outcome, 0, Some(output), None),
+            Came::Failed(Reason { status, said }) => (Outcome::Failed, status, None, Some(said)),
+        };
+        Entry {
+            file,
+            outcome,
+            status,
+            dpi,
+            pages,
+            input: Some(input),
+            output,
+            said,
+        }
     }
 }
 
-/// What is reported of a job that fails.
-fn failed_entry<'w>(alloc: Global, job: Job<'w>, fault: &Fault) -> Result<Entry<'w>, AllocError> {
-    let said = said_of(alloc, fault)?;
-    Ok(job.failed(status_of(fault), said))
-}
-
-/// What is reported of a job that can't be read.
-fn unread<'w>(alloc: Global, file: &'w str, fault: &Fault) -> Result<Entry<'w>, AllocError> {
-    let said = said_of(alloc, fault)?;
-    Ok(Entry::failed(file, status_of(fault), said))
-}
-
-/// What the program says of a fault, without its name and the line feed.
-fn said_of(alloc: Global, fault: &Fault) -> Result<String, AllocError> {
-    let line = fault_line(alloc, fault, 0)?;
-    said_in(alloc, &line)
-}
-
-/// What a line says, without the program's name and the line feed.
-fn said_in(alloc: Global, line: &[u8]) -> Result<String, AllocError> {
-    let said = match std::str::from_utf8(line) {
-        Ok(text) => text,
-        Err(_) => "",
+/// The version, the command and the resolution, as digests name them.
+fn how_of(alloc: Global, batch: Batch<'_>, dpi: Dpi) -> Result<String, AllocError> {
+    let version = batch.version;
+    let command = match batch.rewriting {
+        Rewriting::Shrink => "shrink",
+        Rewriting::Certify => "min --cert",
     };
-    let said = said.strip_prefix("pclmin: ").unwrap_or(said);
-    String::from_str(alloc, said.trim_end())
+    let dots = dpi.dots();
+    format!(in alloc; "pclmin {version} {command} --dpi {dots}")
+}
+
+/// Writes a job that was read, unless an earlier batch did.
+fn write_seen<F: JobFiles, R: Rewriter>(
+    files: &mut F,
+    alloc: Global,
+    job: Job<'_>,
+    rewriter: R,
+) -> Result<Came, AllocError> {
+    match find(files, alloc, job)? {
+        Found::Nothing => write_again(files, alloc, job, rewriter, false),
+        Found::Earlier => write_again(files, alloc, job, rewriter, true),
+        Found::Done(output) => Ok(Came::Done {
+            outcome: Outcome::Kept,
+            output,
+        }),
+        Found::Obstacle(obstacle) => Ok(Came::Failed(Reason::of(alloc, obstacle)?)),
+    }
+}
+
+/// What lies in the place of a job.
+#[derive(Drop)]
+pub(crate) enum Found {
+    Nothing,
+    /// What an earlier batch wrote of it, or began to, in another way.
+    Earlier,
+    /// What an earlier batch wrote of it in this way, with this digest.
+    Done(FileSum),
+    Obstacle(Obstacle),
+}
+
+/// What lies in the place of a job, by its digests and by what is there.
+pub(crate) fn find<F: JobFiles>(
+    files: &F,
+    alloc: Global,
+    job: Job<'_>,
+) -> Result<Found, AllocError> {
+    if files.kind_of(job.paths.sums.as_str()).is_none() {
+        return Ok(found_alone(files, job));
+    }
+    match read_file(files, alloc, job.paths.sums.as_str()) {
+        Ok(bytes) => found_beside(files, alloc, job, &bytes),
+        Err(_) => Ok(Found::Obstacle(Obstacle::ForeignSums)),
+    }
+}
+
+/// What lies there where no digests do.
+fn found_alone<F: JobFiles>(files: &F, job: Job<'_>) -> Found {
+    if !job.is_itself && files.kind_of(job.paths.job.as_str()).is_some() {
+        Found::Obstacle(Obstacle::Foreign)
+    } else if has_foreign_certificate(files, job, false) {
+        Found::Obstacle(Obstacle::ForeignCertificate)
+    } else {
+        Found::Nothing
+    }
+}
+
+/// What lies there beside the bytes of a file of digests.
+fn found_beside<F: JobFiles>(
+    files: &F,
+    alloc: Global,
+    job: Job<'_>,
+    bytes: &[u8],
+) -> Result<Found, AllocError> {
+    match Sums::parse(bytes) {
+        Some(sums) if !is_of(job, sums) => Ok(Found::Obstacle(Obstacle::ForeignSums)),
+        Some(sums) if has_foreign_certificate(files, job, sums.has_certificate) => {
+            Ok(Found::Obstacle(Obstacle::ForeignCertificate))
+        }
+        Some(sums) => found_earlier(files, alloc, job, sums, bytes),
+        None => Ok(Found::Obstacle(Obstacle::ForeignSums)),
+    }
+}
+
+/// Whether digests are of a job: those that lie beside a job that is replaced are, whatever it was before.
+fn is_of(job: Job<'_>, sums: Sums<'_>) -> bool {
+    job.is_itself || sums.input == job.input
+}
+
+/// Whether a certificate would be written where another file is, or be left beside a job that it isn't of. Digests may name one.
+fn has_foreign_certificate<F: JobFiles>(files: &F, job: Job<'_>, is_named: bool) -> bool {
+    let is_there = files.kind_of(job.paths.certificate.as_str()).is_some();
+    match job.rewriting {
+        Rewriting::Shrink => is_there && is_named,
+        Rewriting::Certify => is_there && !is_named,
+    }
+}
+
+/// What an earlier batch wrote of a job: what its digests say, or something else.
+fn found_earlier<F: JobFiles>(
+    files: &F,
+    alloc: Global,
+    job: Job<'_>,
+    sums: Sums<'_>,
+    bytes: &[u8],
+) -> Result<Found, AllocError> {
+    let Some(output) = sum_of(files, alloc, job.paths.job.as_str())? else {
+        return Ok(Found::Earlier);
+    };
+    let certificate = match job.rewriting {
+        Rewriting::Shrink => None,
+        Rewriting::Certify => sum_of(files, alloc, job.paths.certificate.as_str())?,
+    };
+    let certificate = certificate.as_ref();
+    let wanted = sums_text(alloc, job.how, sums.input, job.name(), &output, certificate)?;
+    if wanted.as_bytes() == bytes {
+        Ok(Found::Done(output))
+    } else {
+        Ok(Found::Earlier)
+    }
+}
+
+/// The digest of a file; none where it can't be read.
+fn sum_of<F: JobFiles>(
+    files: &F,
+    alloc: Global,
+    name: &str,
+) -> Result<Option<FileSum>, AllocError> {
+    match read_file(files, alloc, name) {
+        Ok(bytes) => Ok(Some(FileSum::of(alloc, &bytes)?)),
+        Err(_) => Ok(None),
+    }
 }

@@ -5,7 +5,9 @@
 mod batch;
 mod job;
 mod names;
+mod reasons;
 mod rewriter;
+mod writing;
 
 pub use names::run_named;
-pub use rewriter::Rewriter;
+pub use rewriter::{Rewriter, Rewritten};

@@ -3,7 +3,7 @@
 use crate::batch::run_batch;
 use crate::rewriter::Rewriter;
 use pcl_base::INPUT_LIMIT;
-use pcl_files::{Failure, JobFiles};
+use pcl_files::{Failure, JobFiles, Reporter};
 use pcl_request::Batch;
 use pcl_streams::read_all;
 use std::alloc::{AllocError, Global};
@@ -13,7 +13,7 @@ use std::io::{Read, Write};
 const NO_TEXT: &[u8] = b"pclmin: the names of the jobs aren't text\n";
 
 /// Runs a batch with the jobs of these files, or where none is named of those that a reader names, one on each line.
-pub fn run_named<F: JobFiles, I: Read, W: Write, R: Rewriter<F>>(
+pub fn run_named<F: JobFiles, I: Read, W: Write, R: Rewriter, P: Reporter>(
     files: &mut F,
     alloc: Global,
     batch: Batch<'_>,
@@ -21,28 +21,30 @@ pub fn run_named<F: JobFiles, I: Read, W: Write, R: Rewriter<F>>(
     reader: &mut I,
     out: &mut W,
     rewriter: R,
+    reporter: P,
 ) -> Result<(), Failure> {
     if !paths.is_empty() {
-        return run_batch(files, alloc, batch, paths, out, rewriter);
+        return run_batch(files, alloc, batch, paths, out, rewriter, reporter);
     }
     match read_all(alloc, reader, INPUT_LIMIT) {
-        Ok(text) => run_listed(files, alloc, batch, &text, out, rewriter),
+        Ok(text) => run_listed(files, alloc, batch, &text, out, rewriter, reporter),
         Err(fault) => Err(Failure::of(alloc, &fault, 0)),
     }
 }
 
 /// Runs a batch with the jobs that a text names, one on each line.
-fn run_listed<F: JobFiles, W: Write, R: Rewriter<F>>(
+fn run_listed<F: JobFiles, W: Write, R: Rewriter, P: Reporter>(
     files: &mut F,
     alloc: Global,
     batch: Batch<'_>,
     text: &[u8],
     out: &mut W,
     rewriter: R,
+    reporter: P,
 ) -> Result<(), Failure> {
     match std::str::from_utf8(text) {
         Ok(text) => match lines(alloc, text) {
-            Ok(paths) => run_batch(files, alloc, batch, &paths, out, rewriter),
+            Ok(paths) => run_batch(files, alloc, batch, &paths, out, rewriter, reporter),
             Err(_) => Err(Failure::NoMemory),
         },
         Err(_) => Err(Failure::usage(alloc, NO_TEXT)),

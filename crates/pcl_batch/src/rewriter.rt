@@ -1,11 +1,26 @@
-//! Who carries out the runs of a batch.
+//! Who writes the jobs of a batch again.
 
+use pcl_base::Dpi;
 use pcl_files::Failure;
-use pcl_request::Run;
+use pcl_request::Rewriting;
 use std::alloc::Global;
 
-/// Carries out runs over files. A batch works over whatever does so.
-pub trait Rewriter<F>: Copy {
-    /// Carries out a run from a file to another one, by no other reader or writer.
-    fn carry_out(self, files: &mut F, alloc: Global, run: Run<'_>) -> Result<(), Failure>;
+/// A job that was written again.
+#[derive(Drop)]
+pub struct Rewritten {
+    pub job: Vec<u8>,
+    /// Where one is asked for.
+    pub certificate: Option<Vec<u8>>,
+}
+
+/// Writes jobs again. A batch works over whatever does so.
+pub trait Rewriter: Copy {
+    /// Writes a job again, as it is seen at a resolution.
+    fn rewrite(
+        self,
+        alloc: Global,
+        job: &[u8],
+        dpi: Dpi,
+        rewriting: Rewriting,
+    ) -> Result<Rewritten, Failure>;
 }

@@ -1,7 +1,11 @@
 //! What `pclmin` is asked for, done over any files, reader and writer.
 #![tactic(auto)]
 
+mod certifying;
+mod clashes;
 mod reporting;
+mod rewriting;
 mod running;
 
+pub use rewriting::{Again, rewrite};
 pub use running::carry_out;

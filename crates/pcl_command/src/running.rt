@@ -4,25 +4,26 @@ ghost use Rattle.std.specs.Prelude.{◌≡◌, if◌then◌else◌, None, Some};
 ghost use Rattle.pcl_page.specs.Delivering.{IsRefusal};
 ghost use Rattle.pcl_explain.specs.Findings.{Explains};
 ghost use Rattle.pcl_shrink.specs.Shrinking.{IsSmallerJob};
-ghost use Rattle.pcl_command.specs.Runs.{HasDone, HasDoneSeen, HasDoneTask, HasEnded, HasWritten, IsCertifyRun, IsKindExplained, IsPreviewRun, IsTextRun, NeverRefuses, TellsOfPages};
+ghost use Rattle.pcl_command.specs.Runs.{HasCarriedOut, HasDone, HasDoneSeen, HasDoneTask, HasEnded, HasWritten, HasWrittenTo, IsKindExplained, IsPreviewRun, IsTextRun, NeverRefuses, TellsOfPages};
 
+use crate::certifying::certify;
+use crate::clashes::{clashes, refuse_clash};
 use crate::reporting::{report_no_page, report_shrunk};
 use pcl_answers::{Ending, check, compare, not_compared};
 use pcl_base::{Dpi, Kind};
-use pcl_cert::Format;
 use pcl_explain::{explanation, kind_explanation};
-use pcl_files::{Failure, JobFiles, Reporter, settle};
+use pcl_files::{Failure, JobFiles, Reporter, outcome, settle};
 use pcl_page::first_accepted;
 use pcl_pages::describe_pages;
-use pcl_request::{Layout, Request, Resolution, Run, Source, Target, Task};
+use pcl_request::{Layout, Request, Resolution, Run, Source, Target, Task, Work};
 use pcl_shrink::shrink;
-use pcl_streams::{Fault, PageChoice, Watcher, preview_pages, read_all, write_all};
-use pcl_tool::{INPUT_LIMIT, filter_cert_watched, filter_watched};
+use pcl_streams::{Fault, PageChoice, preview_pages, read_all, write_all};
+use pcl_tool::{INPUT_LIMIT, filter_watched};
 use std::alloc::Global;
 use std::io::{Read, Write};
 
 /// Does what is asked for, a run with the job that a reader gives. The watcher is called for each page that is done, unless the
-/// request is a quiet one.
+/// request is a quiet one. Where a certificate or an image would take the place of a job's file, nothing is opened.
 pub fn carry_out<F: JobFiles, R: Read, W: Write, P: Reporter>(
     files: &mut F,
     alloc: Global,
@@ -34,12 +35,30 @@ pub fn carry_out<F: JobFiles, R: Read, W: Write, P: Reporter>(
     ensures { HasEnded F.acts request.entry files.old files.new (R.remaining reader.old) (R.remaining reader.new)
         (W.contents out.old) (W.contents out.new) result }
 {
+    if clashes(files, request) {
+        return Ending::Failed(refuse_clash(alloc, request));
+    }
+    do_request(files, alloc, request, reader, out, watcher)
+}
+
+/// Does what is asked for, where its files are apart.
+fn do_request<F: JobFiles, R: Read, W: Write, P: Reporter>(
+    files: &mut F,
+    alloc: Global,
+    request: Request<'_>,
+    reader: &mut R,
+    out: &mut W,
+    watcher: P,
+) -> Ending
+    ensures { HasCarriedOut F.acts request.entry files.old files.new (R.remaining reader.old) (R.remaining reader.new)
+        (W.contents out.old) (W.contents out.new) result }
+{
     match request {
         Request::Run(run) => {
             let told = told_of(run.quiet, watcher);
             match do_run(files, alloc, run, reader, out, told) {
                 Ok(()) => Ending::Done,
-                Err(fault) => Ending::Failed(Failure::of(alloc, &fault, run.page())),
+                Err(failure) => Ending::Failed(failure),
             }
         }
         Request::Check(asked) => {
@@ -63,7 +82,7 @@ fn told_of<P: Reporter>(quiet: bool, watcher: P) -> Option<P>
     if quiet { None } else { Some(watcher) }
 }
 
-/// Does the task of a run with the job of its source. ReadFault comes too where that is a file that can't be opened.
+/// Does a run with the job of its source. The fault of a file that can't be opened comes too.
 fn do_run<F: JobFiles, R: Read, W: Write, P: Reporter>(
     files: &mut F,
     alloc: Global,
@@ -71,23 +90,20 @@ fn do_run<F: JobFiles, R: Read, W: Write, P: Reporter>(
     reader: &mut R,
     out: &mut W,
     watcher: P,
-) -> Result<(), Fault>
+) -> Result<(), Failure>
     ensures { HasDone F.acts run.entry files.old files.new (R.remaining reader.old) (R.remaining reader.new)
         (W.contents out.old) (W.contents out.new) result }
 {
     match run.source {
         Source::StandardInput => write_result(files, alloc, run, reader, out, watcher),
-        Source::File(name) => {
-            let Ok(mut file) = files.open(name) else {
-                return Err(Fault::ReadFault);
-            };
-            write_result(files, alloc, run, &mut file, out, watcher)
-        }
+        Source::File(name) => match files.open(name) {
+            Ok(mut file) => write_result(files, alloc, run, &mut file, out, watcher),
+            Err(_) => Err(Failure::of(alloc, &Fault::ReadFault, 0)),
+        },
     }
 }
 
-/// Does the task of a run with the job that a reader gives, and writes to the run's target. The fault of a file that
-/// can't be begun or placed comes too.
+/// Does a run with the job that a reader gives.
 fn write_result<F: JobFiles, R: Read, W: Write, P: Reporter>(
     files: &mut F,
     alloc: Global,
@@ -95,91 +111,104 @@ fn write_result<F: JobFiles, R: Read, W: Write, P: Reporter>(
     reader: &mut R,
     out: &mut W,
     watcher: P,
-) -> Result<(), Fault>
-    ensures { HasWritten F.acts run.entry run.entry.target files.old files.new (R.remaining reader.old) (R.remaining reader.new)
+) -> Result<(), Failure>
+    ensures { HasWritten F.acts run.entry files.old files.new (R.remaining reader.old) (R.remaining reader.new)
         (W.contents out.old) (W.contents out.new) result }
 {
-    match run.target {
-        Target::StandardOutput => do_seen(files, alloc, run, reader, out, watcher),
+    match run.work {
+        Work::Task(task) => {
+            let seen = run.resolution;
+            write_to(files, alloc, task, seen, run.target, reader, out, watcher)
+        }
+        Work::Certify(certificate) => {
+            let seen = run.resolution;
+            certify(
+                files,
+                alloc,
+                certificate,
+                seen,
+                run.target,
+                reader,
+                out,
+                watcher,
+            )
+        }
+    }
+}
+
+/// Does a task with the job that a reader gives, and writes to a target. The fault of a file that can't be begun or placed comes
+/// too.
+fn write_to<F: JobFiles, R: Read, W: Write, P: Reporter>(
+    files: &mut F,
+    alloc: Global,
+    task: Task,
+    resolution: Resolution,
+    target: Target<'_>,
+    reader: &mut R,
+    out: &mut W,
+    watcher: P,
+) -> Result<(), Failure>
+    ensures { HasWrittenTo F.acts task resolution target.entry files.old files.new (R.remaining reader.old) (R.remaining reader.new)
+        (W.contents out.old) (W.contents out.new) result }
+{
+    match target {
+        Target::StandardOutput => {
+            let done = do_seen(alloc, task, resolution, reader, out, watcher);
+            outcome(alloc, done, task.page())
+        }
         Target::File(name) => match files.begin(name) {
             Ok(mut file) => {
-                let done = do_seen(files, alloc, run, reader, &mut file, watcher);
-                settle(files, name, file, done)
+                let done = do_seen(alloc, task, resolution, reader, &mut file, watcher);
+                let settled = settle(files, name, file, done);
+                outcome(alloc, settled, task.page())
             }
-            Err(why) => Err(Fault::from(why)),
+            Err(why) => Err(Failure::of_file(alloc, why)),
         },
     }
 }
 
-/// Does the task of a run with the job that a reader gives, at the run's resolution: where that depends on the job, it is read
-/// first.
-fn do_seen<F: JobFiles, R: Read, W: Write, P: Reporter>(
-    files: &mut F,
+/// Does a task with the job that a reader gives, at a resolution: where that depends on the job, it is read first.
+fn do_seen<R: Read, W: Write, P: Reporter>(
     alloc: Global,
-    run: Run<'_>,
+    task: Task,
+    resolution: Resolution,
     reader: &mut R,
     out: &mut W,
     watcher: P,
 ) -> Result<(), Fault>
-    ensures { HasDoneSeen F.acts run.entry.task run.entry.resolution files.old files.new (R.remaining reader.old)
-        (R.remaining reader.new) (W.contents out.old) (W.contents out.new) result }
+    ensures { HasDoneSeen task resolution (R.remaining reader.old) (R.remaining reader.new) (W.contents out.old)
+        (W.contents out.new) result }
 {
-    match run.resolution {
-        Resolution::Given(dpi) => do_task(files, alloc, run.task, dpi, reader, out, watcher),
+    match resolution {
+        Resolution::Given(dpi) => do_task(alloc, task, dpi, reader, out, watcher),
         Resolution::FirstAccepted => {
             let job = read_all(alloc, reader, INPUT_LIMIT)?;
             let dpi = first_accepted(alloc, &job)?;
             let mut bytes: &[u8] = &job;
-            do_task(files, alloc, run.task, dpi, &mut bytes, out, watcher)
+            do_task(alloc, task, dpi, &mut bytes, out, watcher)
         }
     }
 }
 
 /// Does a task with the job that a reader gives, at a resolution.
-fn do_task<F: JobFiles, R: Read, W: Write, P: Reporter>(
-    files: &mut F,
+fn do_task<R: Read, W: Write, P: Reporter>(
     alloc: Global,
-    task: Task<'_>,
+    task: Task,
     dpi: Dpi,
     reader: &mut R,
     out: &mut W,
     watcher: P,
 ) -> Result<(), Fault>
-    ensures { HasDoneTask F.acts task.entry dpi files.old files.new (R.remaining reader.old) (R.remaining reader.new)
-        (W.contents out.old) (W.contents out.new) result }
+    ensures { HasDoneTask task dpi (R.remaining reader.old) (R.remaining reader.new) (W.contents out.old) (W.contents out.new) result }
 {
     match task {
         Task::Minimize => filter_watched(alloc, reader, dpi, out, watcher),
-        Task::Certify { file, format } => {
-            certify(files, alloc, file, format, dpi, reader, out, watcher)
-        }
         Task::Preview { choice } => show(alloc, choice, dpi, reader, out),
         Task::Explain => explain(alloc, dpi, reader, out, watcher),
         Task::ExplainKind { kind } => explain_kind(alloc, kind, out),
         Task::DescribePages { layout } => describe(alloc, layout, dpi, reader, out, watcher),
         Task::Shrink { report } => write_smaller(alloc, report, dpi, reader, out, watcher),
     }
-}
-
-/// Writes the job that a reader gives again, and its certificate to the file of this name, which is made before anything is read,
-/// and closed at the end. The fault of a file that can't be made comes too.
-fn certify<F: JobFiles, R: Read, W: Write, P: Watcher>(
-    files: &mut F,
-    alloc: Global,
-    name: &str,
-    format: Format,
-    dpi: Dpi,
-    reader: &mut R,
-    out: &mut W,
-    watcher: P,
-) -> Result<(), Fault>
-    ensures { IsCertifyRun F.acts name.now dpi format files.old files.new (R.remaining reader.old) (R.remaining reader.new)
-        (W.contents out.old) (W.contents out.new) result }
-{
-    let mut file = files.make(name)?;
-    let written = filter_cert_watched(alloc, reader, dpi, format, out, &mut file, watcher);
-    files.close(name, file);
-    written
 }
 
 /// Writes the images of the pages of the job that a reader gives that are asked for.

@@ -1,5 +1,9 @@
 -- What is to be said of a run that failed, and its status.
-use Rattle.std.specs.Prelude.{◌≡◌, ℕ, List, codes}
+use Rattle.std.specs.Prelude.{◌≡◌, ℕ, List, Result, Ok, Err, codes}
+use Rattle.pcl_streams.specs.declared.fault.Fault.{Fault}
+use Rattle.pcl_files.specs.Messages.{line_of, status_for}
+use Rattle.pcl_files.specs.declared.files.FileFault.{FileFault}
+use Rattle.pcl_files.specs.declared.files.FileFault.TheVariants.{Memory, Folder, Owner, System}
 use Rattle.pcl_files.specs.declared.failures.Failure.{Failure}
 use Rattle.pcl_files.specs.declared.failures.Failure.TheVariants.{Said, NoMemory}
 
@@ -7,6 +11,20 @@ use Rattle.pcl_files.specs.declared.failures.Failure.TheVariants.{Said, NoMemory
 abbrev pub HasFailed : List ℕ → ℕ → Failure → Type 0
 HasFailed said code (Said line status) = (line.items ≡ said) × (status ≡ code)
 HasFailed said code NoMemory = Unit {0}
+
+-- of a file that can't be begun
+abbrev pub HasFailedFile : FileFault → Failure → Type 0
+HasFailedFile Memory failure = failure ≡ NoMemory
+HasFailedFile Folder failure =
+    HasFailed (codes "pclmin: cannot write: the file's folder takes no new file, which would be put in its place\n") 3 failure
+HasFailedFile Owner failure = HasFailed (codes "pclmin: cannot write: the file is another user's, and would become this one's\n") 3 failure
+HasFailedFile System failure = HasFailed (codes "pclmin: cannot write\n") 3 failure
+
+-- how a run ended that was asked for a page, by what became of it
+abbrev pub IsOutcome : (page : ℕ) → Result (Unit {0}) Fault → Result (Unit {0}) Failure → Type 0
+IsOutcome page (Ok unit) (Ok ended) = Unit {0}
+IsOutcome page (Err fault) (Err failure) = HasFailed (line_of fault page) (status_for fault) failure
+IsOutcome page done ended = ⊥
 
 -- what is said where a job or an image would be written to a terminal
 abbrev pub terminal_line : List ℕ

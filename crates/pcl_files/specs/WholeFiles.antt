@@ -3,9 +3,9 @@ use Rattle.std.specs.Prelude.{◌≡◌, ℕ, List, ◌⊎◌, Option, Result, O
 use Rattle.std.specs.Global.{Vec}
 use Rattle.pcl_base.specs.Limits.{input_limit}
 use Rattle.pcl_streams.specs.declared.fault.Fault.{Fault}
-use Rattle.pcl_streams.specs.declared.fault.Fault.TheVariants.{ReadFault}
+use Rattle.pcl_streams.specs.declared.fault.Fault.TheVariants.{Refused, ReadFault}
 use Rattle.pcl_streams.specs.Transfer.{IsReadAll, IsWritten}
-use Rattle.pcl_files.specs.Files.{FileAct, Opened, Unopened, Unmade, Begun, Placed, Unplaced, Dropped, write_fault_of}
+use Rattle.pcl_files.specs.Files.{FileAct, Opened, Unopened, Begun, Unbegun, Placed, BothPlaced, Unplaced, Dropped, write_fault_of}
 use Rattle.pcl_files.specs.declared.files.FileFault.{FileFault}
 
 -- a file of this name was opened, and read to its end or up to a fault; or it can't be opened, which is a fault of reading
@@ -22,10 +22,32 @@ IsSettled acts name holds (Ok unit) files kept done =
     ⊎ ((why : FileFault) × acts files (Unplaced name why) kept × (done ≡ Err (write_fault_of why)))
 IsSettled acts name holds (Err fault) files kept done = acts files (Dropped name) kept × (done ≡ Err fault)
 
+-- a file that was begun is placed, or can't be
+abbrev pub IsPlacedOrNot : {F : Type 0} → (F → FileAct → F → Type 0) → List ℕ → (holds : Option (List ℕ)) → (files kept : F) → Type 0
+IsPlacedOrNot acts name holds files kept =
+    acts files (Placed name holds) kept ⊎ ((why : FileFault) × acts files (Unplaced name why) kept)
+
+-- The file of a certificate is settled as another one, but where the job is refused: then it is placed as it is.
+abbrev pub IsSettledAside : {F : Type 0} → (F → FileAct → F → Type 0) → List ℕ → (holds : Option (List ℕ)) → Result (Unit {0}) Fault
+    → (files kept : F) → Result (Unit {0}) Fault → Type 0
+IsSettledAside acts name holds (Err (Refused refusal)) files kept done =
+    IsPlacedOrNot acts name holds files kept × (done ≡ Err (Refused refusal))
+IsSettledAside acts name holds outcome files kept done = IsSettled acts name holds outcome files kept done
+
+-- A job and its certificate are placed where the task was done, both or neither. Where it failed the job is dropped, and then the
+-- certificate is settled.
+abbrev pub AreSettled : {F : Type 0} → (F → FileAct → F → Type 0) → (name : List ℕ) → (holds : Option (List ℕ)) → (aside : List ℕ)
+    → (aside_holds : Option (List ℕ)) → Result (Unit {0}) Fault → (files kept : F) → Result (Unit {0}) Fault → Type 0
+AreSettled acts name holds aside aside_holds (Ok unit) files kept done =
+    (acts files (BothPlaced aside aside_holds name holds) kept × (done ≡ Ok tt))
+    ⊎ ((why : FileFault) × acts files (Unplaced aside why) kept × (done ≡ Err (write_fault_of why)))
+AreSettled {F} acts name holds aside aside_holds (Err fault) files kept done =
+    (left : F) × acts files (Dropped name) left × IsSettledAside acts aside aside_holds (Err fault) left kept done
+
 -- a file was begun for this name, got these bytes and was settled; or it can't be begun
 abbrev pub IsFileWritten : {F : Type 0} → (F → FileAct → F → Type 0) → (name bytes : List ℕ) → (files kept : F)
     → Result (Unit {0}) Fault → Type 0
 IsFileWritten {F} acts name bytes files kept done =
-    ((why : FileFault) × acts files (Unmade name why) kept × (done ≡ Err (write_fault_of why)))
+    ((why : FileFault) × acts files (Unbegun name why) kept × (done ≡ Err (write_fault_of why)))
     ⊎ ((begun : F) × (held holds : Option (List ℕ)) × (written : Result (Unit {0}) Fault) × acts files (Begun name held) begun
     × IsWritten held holds bytes written × IsSettled acts name holds written begun kept done)

@@ -1,9 +1,10 @@
 //! What is to be said of a run that failed.
 
-ghost use Rattle.pcl_files.specs.Failures.{HasFailed, IsFailureStatus, terminal_line};
+ghost use Rattle.pcl_files.specs.Failures.{HasFailed, HasFailedFile, IsFailureStatus, IsOutcome, terminal_line};
 ghost use Rattle.pcl_files.specs.Messages.{line_of, status_for};
 
-use crate::messages::{MEMORY_STATUS, USAGE_STATUS, fault_line, status_of};
+use crate::files::FileFault;
+use crate::messages::{FILE_STATUS, MEMORY_STATUS, USAGE_STATUS, fault_line, status_of};
 use pcl_streams::Fault;
 use std::alloc::Global;
 
@@ -30,15 +31,39 @@ impl Failure {
         }
     }
 
+    /// Of a file that can't be begun.
+    pub fn of_file(alloc: Global, why: FileFault) -> Failure
+        ensures { HasFailedFile why result }
+    {
+        match why {
+            FileFault::Memory => Failure::NoMemory,
+            FileFault::Folder => Failure::said(
+                alloc,
+                b"pclmin: cannot write: the file's folder takes no new file, which would be put in its place\n",
+                FILE_STATUS,
+            ),
+            FileFault::Owner => Failure::said(
+                alloc,
+                b"pclmin: cannot write: the file is another user's, and would become this one's\n",
+                FILE_STATUS,
+            ),
+            FileFault::System => Failure::said(alloc, b"pclmin: cannot write\n", FILE_STATUS),
+        }
+    }
+
     /// Of a usage fault, with the line that is said of it.
     pub fn usage(alloc: Global, said: &[u8]) -> Failure
         ensures { HasFailed said.now 2 result }
     {
+        Failure::said(alloc, said, USAGE_STATUS)
+    }
+
+    /// With this line and this status.
+    fn said(alloc: Global, said: &[u8], status: u8) -> Failure
+        ensures { HasFailed said.now status result }
+    {
         match Vec::from_slice(alloc, said) {
-            Ok(line) => Failure::Said {
-                line,
-                status: USAGE_STATUS,
-            },
+            Ok(line) => Failure::Said { line, status },
             Err(_) => Failure::NoMemory,
         }
     }
@@ -51,6 +76,16 @@ impl Failure {
             Failure::Said { status, .. } => *status,
             Failure::NoMemory => MEMORY_STATUS,
         }
+    }
+}
+
+/// How a run ended that was asked for a page, by what became of it.
+pub fn outcome(alloc: Global, done: Result<(), Fault>, page: usize) -> Result<(), Failure>
+    ensures { IsOutcome page done result }
+{
+    match done {
+        Ok(()) => Ok(()),
+        Err(fault) => Err(Failure::of(alloc, &fault, page)),
     }
 }
 

@@ -7,11 +7,15 @@ use pcl_streams::Fault;
 use std::alloc::AllocError;
 use std::io::{self, ErrorKind, Read, Write};
 
-/// Why a file can't be made, begun or put in its place.
+/// Why a file can't be begun or put in its place.
 #[derive(Clone, Copy)]
 pub enum FileFault {
     /// Memory ran out.
     Memory,
+    /// The file could be written, but none can be made in its folder.
+    Folder,
+    /// The file is another user's, and the one in its place would not be.
+    Owner,
     /// The system doesn't do it.
     System,
 }
@@ -37,21 +41,32 @@ impl From<FileFault> for Fault {
     fn from(why: FileFault) -> Fault {
         match why {
             FileFault::Memory => Fault::Memory,
-            FileFault::System => Fault::WriteFault,
+            FileFault::Folder | FileFault::Owner | FileFault::System => Fault::WriteFault,
         }
     }
 }
 
-/// Files that can be opened and made by their names. A run is proved once for all of them, so it does with them what its contract
+/// What a name leads to.
+#[derive(Clone, Copy, PartialEq, Eq)]
+pub enum FileKind {
+    File,
+    Folder,
+    /// What is neither, as a device or a pipe: a read of it may wait for ever.
+    Special,
+}
+
+/// Files that can be opened and written by their names. A run is proved once for all of them, so it does with them what its contract
 /// says and nothing else.
+///
+/// What is written is begun beside what its name has, and put in its place at the end. So a name keeps what it has until all is done.
 pub trait JobFiles {
-    ghost use Rattle.std.specs.Prelude.{IfOk, IfErr, OnOk, OnErr};
-    ghost use Rattle.pcl_files.specs.Files.{FileAct, Opened, Unopened, Made, Unmade, Closed, Begun, Placed, Unplaced, Dropped};
+    ghost use Rattle.std.specs.Prelude.{MatchBool, IfOk, IfErr, OnOk, OnErr};
+    ghost use Rattle.pcl_files.specs.Files.{FileAct, Opened, Unopened, OneFile, TwoFiles, FolderMade, Begun, Unbegun, Placed, BothPlaced, Unplaced, Dropped};
 
     /// A file that was opened.
     type Reader: Read + Drop;
 
-    /// A file that was made.
+    /// A file that was begun.
     type Writer: Write + Drop;
 
     /// What an act does to the files.
@@ -62,24 +77,48 @@ pub trait JobFiles {
         ensures opened { IfOk result (λ file. acts self.now (Opened name.now (Self.Reader.remaining file)) self.now) }
         ensures unopened { OnErr result (acts self.now (Unopened name.now) self.now) };
 
-    /// Makes the file of a name, or empties it. After an error no file was made or emptied.
-    fn make(&mut self, name: &str) -> Result<Self::Writer, FileFault>
-        ensures made { IfOk result (λ file. acts self.old (Made name.now (Self.Writer.contents file)) self.new) }
-        ensures unmade { IfErr result (λ why. acts self.old (Unmade name.now why) self.new) };
+    /// Whether two names are those of one file, by what the files themselves say of it and not by how the names are written. A
+    /// name may have no file yet.
+    fn are_one(&self, name: &str, other: &str) -> bool
+        ensures { MatchBool result (acts self.now (OneFile name.now other.now) self.now)
+            (acts self.now (TwoFiles name.now other.now) self.now) };
 
-    /// Closes a file that was made by this name.
-    fn close(&mut self, name: &str, file: Self::Writer)
-        ensures { acts self.old (Closed name.now (Self.Writer.contents file)) self.new };
+    /// What a name leads to; none where nothing is there, or the system doesn't say.
+    fn kind_of(&self, name: &str) -> Option<FileKind>;
+
+    /// Makes the folder of a name, and those above it that are missing. It is no error that it is there.
+    fn make_folder(&mut self, name: &str) -> Result<(), FileFault>
+        ensures made { OnOk result (acts self.old (FolderMade name.now) self.new) }
+        ensures unmade { IfErr result (λ why. acts self.old (Unbegun name.now why) self.new) };
 
     /// Begins a file that is to take the place of what this name has now, which stays until then. After an error nothing was
     /// begun.
     fn begin(&mut self, name: &str) -> Result<Self::Writer, FileFault>
         ensures begun { IfOk result (λ file. acts self.old (Begun name.now (Self.Writer.contents file)) self.new) }
-        ensures unmade { IfErr result (λ why. acts self.old (Unmade name.now why) self.new) };
+        ensures unbegun { IfErr result (λ why. acts self.old (Unbegun name.now why) self.new) };
+
+    /// The same for a file beside a job. It is an error too where the name is that of what standard input reads or standard output
+    /// writes.
+    fn begin_aside(&mut self, name: &str) -> Result<Self::Writer, FileFault>
+        ensures begun { IfOk result (λ file. acts self.old (Begun name.now (Self.Writer.contents file)) self.new) }
+        ensures unbegun { IfErr result (λ why. acts self.old (Unbegun name.now why) self.new) };
 
     /// Puts a file that was begun for this name in its place. After an error the file is dropped, and what the name had stays.
     fn place(&mut self, name: &str, file: Self::Writer) -> Result<(), FileFault>
         ensures placed { OnOk result (acts self.old (Placed name.now (Self.Writer.contents file)) self.new) }
+        ensures unplaced { IfErr result (λ why. acts self.old (Unplaced name.now why) self.new) };
+
+    /// Puts two files that were begun for these names in their places. After an error both are dropped, and what the names had
+    /// stays.
+    fn place_both(
+        &mut self,
+        name: &str,
+        file: Self::Writer,
+        other: &str,
+        other_file: Self::Writer,
+    ) -> Result<(), FileFault>
+        ensures placed { OnOk result (acts self.old
+            (BothPlaced name.now (Self.Writer.contents file) other.now (Self.Writer.contents other_file)) self.new) }
         ensures unplaced { IfErr result (λ why. acts self.old (Unplaced name.now why) self.new) };
 
     /// Drops a file that was begun for this name: what the name had stays.

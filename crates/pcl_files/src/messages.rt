@@ -10,6 +10,9 @@ use std::alloc::{AllocError, Global};
 /// The status where memory runs out.
 pub const MEMORY_STATUS: u8 = 3;
 
+/// The status where a file can't be read or written.
+pub const FILE_STATUS: u8 = 3;
+
 /// The status of a usage fault.
 pub const USAGE_STATUS: u8 = 2;
 
@@ -42,7 +45,7 @@ pub fn status_of(fault: &Fault) -> u8
 {
     match fault {
         Fault::Refused(_) | Fault::NoSuchPage => 1,
-        Fault::ReadFault | Fault::TooLong | Fault::WriteFault => 3,
+        Fault::ReadFault | Fault::TooLong | Fault::WriteFault => FILE_STATUS,
         Fault::Memory => MEMORY_STATUS,
     }
 }

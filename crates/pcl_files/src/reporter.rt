@@ -7,6 +7,9 @@ use pcl_streams::Watcher;
 pub trait Reporter: Watcher {
     /// A line, with its line feed.
     fn report(&self, line: &[u8]);
+
+    /// As many jobs are done, of as many.
+    fn jobs_done(&self, done: usize, jobs: usize);
 }
 
 /// Where there is no reporter, nobody is told.
@@ -14,6 +17,12 @@ impl<P: Reporter> Reporter for Option<P> {
     fn report(&self, line: &[u8]) {
         if let Some(reporter) = self {
             reporter.report(line);
+        }
+    }
+
+    fn jobs_done(&self, done: usize, jobs: usize) {
+        if let Some(reporter) = self {
+            reporter.jobs_done(done, jobs);
         }
     }
 }

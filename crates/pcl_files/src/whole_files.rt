@@ -1,6 +1,6 @@
 //! Files that are read whole, and files that are written whole or not at all.
 
-ghost use Rattle.pcl_files.specs.WholeFiles.{IsFileRead, IsFileWritten, IsSettled};
+ghost use Rattle.pcl_files.specs.WholeFiles.{AreSettled, IsFileRead, IsFileWritten, IsSettled, IsSettledAside};
 
 use crate::files::JobFiles;
 use pcl_base::INPUT_LIMIT;
@@ -34,6 +34,48 @@ pub fn settle<F: JobFiles>(
         Err(fault) => {
             files.discard(name, file);
             Err(fault)
+        }
+    }
+}
+
+/// Settles the file of a certificate. Where the job is refused nothing was written to it, and it takes its place so, without a byte.
+pub fn settle_aside<F: JobFiles>(
+    files: &mut F,
+    name: &str,
+    file: F::Writer,
+    done: Result<(), Fault>,
+) -> Result<(), Fault>
+    ensures { IsSettledAside F.acts name.now (F.Writer.contents file) done files.old files.new result }
+{
+    match done {
+        Err(Fault::Refused(_)) => {
+            let _ = files.place(name, file);
+            done
+        }
+        _ => settle(files, name, file, done),
+    }
+}
+
+/// Settles the files of a job and its certificate: both take their places where the task that wrote them is done, or neither does.
+/// Where the job is refused its file is dropped, and the other one settled without a byte.
+pub fn settle_both<F: JobFiles>(
+    files: &mut F,
+    name: &str,
+    file: F::Writer,
+    aside: &str,
+    aside_file: F::Writer,
+    done: Result<(), Fault>,
+) -> Result<(), Fault>
+    ensures { AreSettled F.acts name.now (F.Writer.contents file) aside.now (F.Writer.contents aside_file) done files.old files.new result }
+{
+    match done {
+        Ok(()) => match files.place_both(aside, aside_file, name, file) {
+            Ok(()) => Ok(()),
+            Err(why) => Err(Fault::from(why)),
+        },
+        Err(_) => {
+            files.discard(name, file);
+            settle_aside(files, aside, aside_file, done)
         }
     }
 }

@@ -1,33 +1,30 @@
-//! The runs of a batch.
+//! The jobs of a batch.
 
-use pcl_answers::Ending;
-use pcl_batch::Rewriter;
-use pcl_command::carry_out;
-use pcl_files::{Failure, JobFiles, Reporter};
-use pcl_request::{Request, Run};
+use pcl_base::Dpi;
+use pcl_batch::{Rewriter, Rewritten};
+use pcl_command::rewrite;
+use pcl_files::Failure;
+use pcl_request::Rewriting;
 use std::alloc::Global;
 
-/// Carries out each run of a batch as the program does, and tells a reporter of it.
+/// Writes each job of a batch again as the program does.
 #[derive(Clone, Copy)]
-pub(crate) struct Filter<P> {
-    pub(crate) reporter: P,
-}
+pub(crate) struct Filter;
 
-impl<F: JobFiles, P: Reporter + Copy> Rewriter<F> for Filter<P> {
-    fn carry_out(self, files: &mut F, alloc: Global, run: Run<'_>) -> Result<(), Failure> {
-        let mut no_bytes: &[u8] = b"";
-        let mut nothing: Vec<u8> = Vec::new(alloc);
-        let request = Request::Run(run);
-        match carry_out(
-            files,
-            alloc,
-            request,
-            &mut no_bytes,
-            &mut nothing,
-            self.reporter,
-        ) {
-            Ending::Failed(failure) => Err(failure),
-            Ending::Done | Ending::Checked(_) | Ending::Compared(_) => Ok(()),
+impl Rewriter for Filter {
+    fn rewrite(
+        self,
+        alloc: Global,
+        job: &[u8],
+        dpi: Dpi,
+        rewriting: Rewriting,
+    ) -> Result<Rewritten, Failure> {
+        match rewrite(alloc, job, dpi, rewriting) {
+            Ok(again) => Ok(Rewritten {
+                job: again.job,
+                certificate: again.certificate,
+            }),
+            Err(failure) => Err(failure),
         }
     }
 }

@@ -31,7 +31,8 @@ pub fn run<F: JobFiles, S: AsStr, R: Read, W: Write, P: Reporter + Copy>(
         (R.remaining reader.old) (R.remaining reader.new) (W.contents out.old) (W.contents out.new) result }
 {
     if ask_for_batch(words) {
-        return run_batch_words(files, alloc, words, reader, out, reporter);
+        let told = if is_terminal { None } else { Some(reporter) };
+        return run_batch_words(files, alloc, words, reader, out, told);
     }
     let request = parse_request(alloc, words);
     run_request(files, alloc, request, reader, out, is_terminal, reporter)
@@ -48,7 +49,7 @@ fn ask_for_batch<S: AsStr>(words: &[S]) -> bool
 }
 
 /// Runs the batch that words ask for.
-fn run_batch_words<F: JobFiles, S: AsStr, R: Read, W: Write, P: Reporter + Copy>(
+fn run_batch_words<F: JobFiles, S: AsStr, R: Read, W: Write, P: Reporter>(
     files: &mut F,
     alloc: Global,
     words: &[S],
@@ -61,8 +62,16 @@ fn run_batch_words<F: JobFiles, S: AsStr, R: Read, W: Write, P: Reporter + Copy>
         Err(error) => return shown(error),
     };
     let paths = &asked.paths;
-    let filter = Filter { reporter };
-    match run_named(files, alloc, asked.batch, paths, reader, out, filter) {
+    match run_named(
+        files,
+        alloc,
+        asked.batch,
+        paths,
+        reader,
+        out,
+        Filter,
+        reporter,
+    ) {
         Ok(()) => Ok(Ending::Done),
         Err(failure) => Ok(Ending::Failed(failure)),
     }

@@ -7,7 +7,7 @@ use std::alloc::{AllocError, Global};
 use std::fmt::Display;
 
 /// What came of a job.
-#[derive(Clone, Copy, Debug, Serialize)]
+#[derive(Clone, Copy, Debug, PartialEq, Eq, Serialize)]
 #[serde(rename_all = "snake_case")]
 pub enum Outcome {
     /// It was written again.
@@ -69,20 +69,22 @@ impl<'w> Entry<'w> {
                 let row = self.row(alloc)?;
                 Vec::from_slice(alloc, row.as_bytes())
             }
-            ReportForm::Json => {
-                let mut line = match serde_json::to_vec(alloc, self) {
-                    Ok(line) => line,
-                    Err(_) => return Err(AllocError),
-                };
-                line.push(b'\n')?;
-                Ok(line)
-            }
+            ReportForm::Json => json_line(alloc, self),
         }
     }
 
-    /// The columns of a table.
+    /// As many bytes as a file has, unless the job failed.
+    fn bytes_where_done(&self, sum: &Option<FileSum>) -> u64 {
+        match (self.outcome, sum) {
+            (Outcome::Written | Outcome::Kept, Some(sum)) => sum.bytes as u64,
+            _ => 0,
+        }
+    }
+
+    /// The columns of a table. In a name a tab, a line feed and a backslash stand as `\t`, `\n` and `\\`.
     fn row(&self, alloc: Global) -> Result<String, AllocError> {
-        let file = self.file;
+        let file = escaped(alloc, self.file)?;
+        let file = file.as_str();
         let outcome = self.outcome.name();
         let status = self.status;
         let seen = self.seen_columns(alloc)?;
@@ -116,6 +118,90 @@ pub fn header(form: ReportForm) -> &'static str {
             "file\toutcome\tstatus\tdpi\tpages\tbytes_in\tsha256_in\tbytes_out\tsha256_out\tsaid\n",
         ReportForm::Json => "",
     }
+}
+
+/// A name as it stands in a column.
+fn escaped(alloc: Global, name: &str) -> Result<String, AllocError> {
+    let name = name.replace(alloc, "\\", "\\\\")?;
+    let name = name.as_str().replace(alloc, "\t", "\\t")?;
+    name.as_str().replace(alloc, "\n", "\\n")
+}
+
+/// What came of all jobs.
+#[derive(Clone, Copy, Serialize)]
+pub struct Totals {
+    pub jobs: usize,
+    pub written: usize,
+    pub kept: usize,
+    pub failed: usize,
+    /// Of the jobs that didn't fail, as they came and as they are written.
+    pub bytes_in: u64,
+    pub bytes_out: u64,
+}
+
+impl Totals {
+    /// Of no job.
+    pub const NONE: Totals = Totals {
+        jobs: 0,
+        written: 0,
+        kept: 0,
+        failed: 0,
+        bytes_in: 0,
+        bytes_out: 0,
+    };
+
+    /// With one job more.
+    pub fn with(self, entry: &Entry<'_>) -> Totals {
+        let one = |outcome: Outcome| usize::from(entry.outcome == outcome);
+        Totals {
+            jobs: self.jobs.saturating_add(1),
+            written: self.written.saturating_add(one(Outcome::Written)),
+            kept: self.kept.saturating_add(one(Outcome::Kept)),
+            failed: self.failed.saturating_add(one(Outcome::Failed)),
+            bytes_in: self
+                .bytes_in
+                .saturating_add(entry.bytes_where_done(&entry.input)),
+            bytes_out: self
+                .bytes_out
+                .saturating_add(entry.bytes_where_done(&entry.output)),
+        }
+    }
+
+    /// The last line of a report, with its line feed.
+    pub fn line(&self, alloc: Global, form: ReportForm) -> Result<Vec<u8>, AllocError> {
+        match form {
+            ReportForm::Table => {
+                let text = self.text(alloc)?;
+                Vec::from_slice(alloc, text.as_bytes())
+            }
+            ReportForm::Json => json_line(alloc, self),
+        }
+    }
+
+    /// The same in words, behind a sign that no name of a column has.
+    fn text(&self, alloc: Global) -> Result<String, AllocError> {
+        let Totals {
+            jobs,
+            written,
+            kept,
+            failed,
+            bytes_in,
+            bytes_out,
+        } = self;
+        format!(in alloc;
+            "# jobs {jobs}: written {written}, kept {kept}, failed {failed}; bytes in {bytes_in}, out {bytes_out}\n"
+        )
+    }
+}
+
+/// One object of JSON, with its line feed.
+fn json_line<T: Serialize>(alloc: Global, value: &T) -> Result<Vec<u8>, AllocError> {
+    let mut line = match serde_json::to_vec(alloc, value) {
+        Ok(line) => line,
+        Err(_) => return Err(AllocError),
+    };
+    line.push(b'\n')?;
+    Ok(line)
 }
 
 /// A number, or a dash.

@@ -1,9 +1,6 @@
-//! The digests of a job as it came and as it is written.
+//! The digests of a job as it came and of what is written of it.
 
-use crate::paths::file_name;
 use hex::encode;
-use pcl_base::Dpi;
-use pcl_request::{Batch, Rewriting};
 use serde::Serialize;
 use sha2::{Digest, Sha256};
 use std::alloc::{AllocError, Global};
@@ -24,25 +21,63 @@ impl FileSum {
             sha256: encode(alloc, &digest[..])?,
         })
     }
+
+    /// The line of a file of this name, as `sha256sum -c` reads it, with its line feed. A name with a backslash or a line feed begins
+    /// with a backslash, and has `\\` and `\n` for them.
+    fn line(&self, alloc: Global, name: &str) -> Result<String, AllocError> {
+        let sha256 = self.sha256.as_str();
+        let is_plain = !name.contains('\\') && !name.contains('\n');
+        if is_plain {
+            return format!(in alloc; "{sha256}  {name}\n");
+        }
+        let name = name.replace(alloc, "\\", "\\\\")?;
+        let name = name.as_str().replace(alloc, "\n", "\\n")?;
+        format!(in alloc; "\\{sha256}  {name}\n")
+    }
 }
 
-/// The text of the file of sums: in a comment what was written again and how, and then a line that `sha256sum -c` reads. A later
-/// batch finds by it that a job is done.
+/// The text of a file of digests: in a comment the program's version, its command and resolution, and the digest of the job as it came;
+/// then lines that `sha256sum -c` reads, of the job that was written, whose file has this name, and of a certificate beside it.
 pub fn sums_text(
     alloc: Global,
-    path: &str,
-    batch: Batch<'_>,
-    dpi: Dpi,
-    input: &FileSum,
-    output: &FileSum,
+    how: &str,
+    input: &str,
+    name: &str,
+    job: &FileSum,
+    certificate: Option<&FileSum>,
 ) -> Result<String, AllocError> {
-    let how = match batch.rewriting {
-        Rewriting::Shrink => "shrink",
-        Rewriting::Certify => "min",
-    };
-    let dots = dpi.dots();
-    let name = file_name(path);
-    let before = input.sha256.as_str();
-    let after = output.sha256.as_str();
-    format!(in alloc; "# {how} --dpi {dots} of {before}\n{after}  {name}\n")
+    let mut text = format!(in alloc; "# {how} of {input}\n")?;
+    text.push_str(job.line(alloc, name)?.as_str())?;
+    if let Some(sum) = certificate {
+        let name = format!(in alloc; "{name}.cert")?;
+        text.push_str(sum.line(alloc, name.as_str())?.as_str())?;
+    }
+    Ok(text)
+}
+
+/// What a file of digests says.
+#[derive(Clone, Copy)]
+pub struct Sums<'w> {
+    /// The program's version, its command and the resolution.
+    pub how: &'w str,
+    /// The digest of the job as it came.
+    pub input: &'w str,
+    /// Whether a certificate is among what was written.
+    pub has_certificate: bool,
+}
+
+impl<'w> Sums<'w> {
+    /// Of the bytes of a file; none where they are no digests of a batch.
+    pub fn parse(bytes: &'w [u8]) -> Option<Sums<'w>> {
+        let text = std::str::from_utf8(bytes).ok()?;
+        let mut lines = text.lines();
+        let head = lines.next()?.strip_prefix("# ")?;
+        let (how, input) = head.rsplit_once(" of ")?;
+        lines.next()?;
+        Some(Sums {
+            how,
+            input,
+            has_certificate: lines.next().is_some(),
+        })
+    }
 }

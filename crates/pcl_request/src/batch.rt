@@ -11,12 +11,24 @@ pub enum Rewriting {
     Certify,
 }
 
+/// Where what is written of a job goes. Of a job whose file is called `NAME` that is a file `NAME`, its digests `NAME.sha256`, and
+/// where it is asked for its certificate `NAME.cert`.
+#[derive(Clone, Copy)]
+pub enum Destination<'w> {
+    /// Into this folder.
+    Folder(&'w str),
+    /// Below this folder, under the path that the file has.
+    Below(&'w str),
+    /// Where the file is, which is replaced.
+    Itself,
+}
+
 /// What is done with each job, and where it goes.
 #[derive(Clone, Copy)]
 pub struct Batch<'w> {
-    /// The folder that gets what is written: for the job `NAME` a file `NAME`, its digests `NAME.sha256`, and where it is asked for
-    /// its certificate `NAME.cert`. It has to be there.
-    pub folder: &'w str,
+    /// The program's version, which the digests name.
+    pub version: &'static str,
+    pub place: Destination<'w>,
     pub rewriting: Rewriting,
     pub resolution: Resolution,
     /// How the report is laid out.

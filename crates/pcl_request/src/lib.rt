@@ -4,8 +4,8 @@
 mod batch;
 mod request;
 
-pub use batch::{Batch, ReportForm, Rewriting};
+pub use batch::{Batch, Destination, ReportForm, Rewriting};
 pub use request::{
-    Beside, CheckedFiles, ComparedFiles, Layout, Request, Resolution, Run, Source, Target, Task,
-    resolution_named,
+    Beside, Certificate, CheckedFiles, ComparedFiles, Layout, Request, Resolution, Run, Source,
+    Target, Task, Work, resolution_named,
 };

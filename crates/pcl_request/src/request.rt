@@ -1,30 +1,45 @@
 //! What the program is asked for.
 
 ghost use Rattle.std.specs.Prelude.{◌≡◌, ◌&&◌, MatchOption};
-ghost use Rattle.pcl_request.specs.Requests.{IsWordFor, is_standard_output, makes_raw, page_of, performed, writes_raw};
+ghost use Rattle.pcl_request.specs.Requests.{IsWordFor, aside_of, certificate_file, first_job, has_raw, is_standard_output, makes_raw, page_of, performed, second_job, source_file, target_file, task_page, writes_raw};
 ghost use Rattle.pcl_request.specs.declared.request.Resolution.{Resolution};
 
 use pcl_base::{Dpi, Kind};
 use pcl_cert::Format;
 use pcl_streams::PageChoice;
 
-/// What a run is asked to do with its job.
+/// What a run makes of its job.
 #[derive(Clone, Copy)]
-pub enum Task<'w> {
-    /// Write it again as a raster job.
+pub enum Task {
+    /// A raster job.
     Minimize,
-    /// The same, and write a certificate of a format to the file of this name.
-    Certify { file: &'w str, format: Format },
-    /// Write the images of the pages that are asked for.
+    /// The images of the pages that are asked for.
     Preview { choice: PageChoice },
-    /// Write what the rules refuse in it, and what can be done.
+    /// What the rules refuse in it, and what can be done.
     Explain,
-    /// Write what a kind of refusal means, and what can be done. No job is read.
+    /// What a kind of refusal means, and what can be done. No job is read.
     ExplainKind { kind: Kind },
-    /// Write what its pages are, in a layout.
+    /// What its pages are, in a layout.
     DescribePages { layout: Layout },
-    /// Write the smallest job that is found with its pages, which asks for the same, and report its bytes if that is asked for.
+    /// The smallest job that is found with its pages, which asks for the same; and a report of its bytes if that is asked for.
     Shrink { report: bool },
+}
+
+/// A certificate that is asked for.
+#[derive(Clone, Copy)]
+pub struct Certificate<'w> {
+    /// The name of its file.
+    pub file: &'w str,
+    pub format: Format,
+}
+
+/// What a run is asked to write.
+#[derive(Clone, Copy)]
+pub enum Work<'w> {
+    /// What a task makes.
+    Task(Task),
+    /// A raster job, and its certificate to a file of its own.
+    Certify(Certificate<'w>),
 }
 
 /// How the description of pages is laid out.
@@ -61,11 +76,11 @@ pub enum Resolution {
     FirstAccepted,
 }
 
-/// A run: its task, where its job comes from and what it makes goes, and the resolution at which it sees the job.
+/// A run: what it writes, where its job comes from and what it writes goes, and the resolution at which it sees the job.
 #[derive(Clone, Copy)]
 pub struct Run<'w> {
     /// What is asked for.
-    pub task: Task<'w>,
+    pub work: Work<'w>,
     /// Where the job comes from.
     pub source: Source<'w>,
     /// Where what is made goes.
@@ -76,14 +91,13 @@ pub struct Run<'w> {
     pub quiet: bool,
 }
 
-impl Run<'_> {
+impl Task {
     /// The number of the last page that is asked for, 0 where none is by its number.
     pub fn page(self) -> usize
-        ensures { result ≡ page_of self.entry.task }
+        ensures { result ≡ task_page self }
     {
-        match self.task {
+        match self {
             Task::Minimize
-            | Task::Certify { .. }
             | Task::Explain
             | Task::ExplainKind { .. }
             | Task::DescribePages { .. }
@@ -91,37 +105,88 @@ impl Run<'_> {
             Task::Preview { choice } => choice.last(),
         }
     }
-}
 
-impl Run<'_> {
-    /// Whether a job or an image is written to standard output, and not text.
-    fn writes_raw(self) -> bool
-        ensures { result ≡ (makes_raw self.entry.task && is_standard_output self.entry.target) }
-    {
-        self.task.makes_raw() && self.target.is_standard_output()
-    }
-}
-
-impl Task<'_> {
     /// Whether a job or an image is made, and not text.
     fn makes_raw(self) -> bool
-        ensures { result ≡ makes_raw self.entry }
+        ensures { result ≡ makes_raw self }
     {
         match self {
-            Task::Minimize | Task::Certify { .. } | Task::Preview { .. } | Task::Shrink { .. } =>
-                true,
+            Task::Minimize | Task::Preview { .. } | Task::Shrink { .. } => true,
             Task::Explain | Task::ExplainKind { .. } | Task::DescribePages { .. } => false,
         }
     }
 }
 
-impl Target<'_> {
+impl<'w> Work<'w> {
+    /// The number of the last page that is asked for, 0 where none is by its number.
+    pub fn page(self) -> usize
+        ensures { result ≡ page_of self.entry }
+    {
+        match self {
+            Work::Task(task) => task.page(),
+            Work::Certify(_) => 0,
+        }
+    }
+
+    /// Whether a job or an image is written, and not text.
+    fn has_raw(self) -> bool
+        ensures { result ≡ has_raw self.entry }
+    {
+        match self {
+            Work::Task(task) => task.makes_raw(),
+            Work::Certify(_) => true,
+        }
+    }
+
+    /// The file of its certificate.
+    fn aside(self) -> Option<&'w str>
+        ensures { result ≡ certificate_file self.entry }
+    {
+        match self {
+            Work::Task(_) => None,
+            Work::Certify(certificate) => Some(certificate.file),
+        }
+    }
+}
+
+impl<'w> Source<'w> {
+    /// The name of its file.
+    fn file(self) -> Option<&'w str>
+        ensures { result ≡ source_file self.entry }
+    {
+        match self {
+            Source::StandardInput => None,
+            Source::File(name) => Some(name),
+        }
+    }
+}
+
+impl Run<'_> {
+    /// Whether a job or an image is written to standard output, and not text.
+    fn writes_raw(self) -> bool
+        ensures { result ≡ (has_raw self.entry.work && is_standard_output self.entry.target) }
+    {
+        self.work.has_raw() && self.target.is_standard_output()
+    }
+}
+
+impl<'w> Target<'w> {
     fn is_standard_output(self) -> bool
         ensures { result ≡ is_standard_output self.entry }
     {
         match self {
             Target::StandardOutput => true,
             Target::File(_) => false,
+        }
+    }
+
+    /// The name of its file.
+    fn file(self) -> Option<&'w str>
+        ensures { result ≡ target_file self.entry }
+    {
+        match self {
+            Target::StandardOutput => None,
+            Target::File(name) => Some(name),
         }
     }
 }
@@ -190,7 +255,7 @@ pub enum Request<'w> {
     Compare(ComparedFiles<'w>),
 }
 
-impl Request<'_> {
+impl<'w> Request<'w> {
     /// Whether a job or an image is written to standard output, and not text.
     pub fn writes_raw(self) -> bool
         ensures { result ≡ writes_raw self.entry }
@@ -198,6 +263,39 @@ impl Request<'_> {
         match self {
             Request::Run(run) => run.writes_raw(),
             Request::Check(_) | Request::Compare(_) => false,
+        }
+    }
+
+    /// The file that is written beside the jobs, and may be none of theirs: that of a certificate or of an image.
+    pub fn aside(self) -> Option<&'w str>
+        ensures { result ≡ aside_of self.entry }
+    {
+        match self {
+            Request::Run(run) => run.work.aside(),
+            Request::Check(_) => None,
+            Request::Compare(asked) => asked.image,
+        }
+    }
+
+    /// The file of the job that is read, or of the first that is compared.
+    pub fn first_job(self) -> Option<&'w str>
+        ensures { result ≡ first_job self.entry }
+    {
+        match self {
+            Request::Run(run) => run.source.file(),
+            Request::Check(asked) => Some(asked.input),
+            Request::Compare(asked) => Some(asked.first),
+        }
+    }
+
+    /// The file of the job that is written, or of the second that is compared.
+    pub fn second_job(self) -> Option<&'w str>
+        ensures { result ≡ second_job self.entry }
+    {
+        match self {
+            Request::Run(run) => run.target.file(),
+            Request::Check(asked) => Some(asked.output),
+            Request::Compare(asked) => Some(asked.second),
         }
     }
 }

@@ -1,35 +1,21 @@
 //! The files of the system.
 
-use pcl_files::{FileFault, JobFiles};
+use crate::parts::{NewFile, place_both};
+use crate::places::{are_one, is_special, is_standard, place_of};
+use pcl_files::{FileFault, FileKind, JobFiles};
 use std::fs::{self, File};
-use std::io::{self, ErrorKind};
+use std::io;
 use std::os::fd::AsFd;
-use std::os::unix::fs::{FileTypeExt, MetadataExt};
-
-/// The system's names for the files of standard input and standard output.
-const STANDARD_FILES: [&str; 2] = ["/dev/stdin", "/dev/stdout"];
-
-/// How many names are tried for a file that is begun beside another.
-const PART_NAMES: u32 = 100;
 
 /// The files of the system, by their paths.
-#[derive(Drop)]
+#[derive(Clone, Copy)]
 pub struct SystemFiles<'a> {
     rt: &'a HostRuntime,
-    /// Where the file that was begun last is put, and where it is until then; none where it is written in place.
-    begun: Option<Begun>,
-}
-
-/// The paths of a file that was begun beside the one whose place it takes.
-#[derive(Drop)]
-struct Begun {
-    part: String,
-    path: String,
 }
 
 impl<'a> SystemFiles<'a> {
     pub fn new(rt: &'a HostRuntime) -> SystemFiles<'a> {
-        SystemFiles { rt, begun: None }
+        SystemFiles { rt }
     }
 
     /// An error where standard input, output or error is closed: the next file that is opened would take its place.
@@ -41,74 +27,12 @@ impl<'a> SystemFiles<'a> {
         require_open(&output)?;
         require_open(&errors)
     }
-
-    /// Whether a path leads to the file of standard input or output, which would be emptied. A device may be all of these, as
-    /// a terminal is.
-    fn is_standard(&self, path: &str) -> bool {
-        STANDARD_FILES
-            .iter()
-            .any(|standard| self.is_same_file(path, standard))
-    }
-
-    /// Whether two paths lead to one file that is no device. No where the system doesn't say.
-    fn is_same_file(&self, path: &str, other: &str) -> bool {
-        match (fs::metadata(self.rt, path), fs::metadata(self.rt, other)) {
-            (Ok(file), Ok(other)) => {
-                file.dev() == other.dev()
-                    && file.ino() == other.ino()
-                    && !file.file_type().is_char_device()
-            }
-            _ => false,
-        }
-    }
-}
-
-impl SystemFiles<'_> {
-    /// Whether a path leads to something that is no file, as a device: it is written in place.
-    fn is_special(&self, path: &str) -> bool {
-        match fs::metadata(self.rt, path) {
-            Ok(there) => !there.is_file(),
-            Err(_) => false,
-        }
-    }
-
-    /// Whether a path is that of the file that was begun, which would take the place of what is made there.
-    fn is_begun(&self, path: &str) -> io::Result<bool> {
-        match &self.begun {
-            Some(begun) => Ok(self.path_of(path)?.as_str() == begun.path.as_str()),
-            None => Ok(false),
-        }
-    }
-
-    /// The path of a file by no link, or the path itself where nothing is there.
-    fn path_of(&self, path: &str) -> io::Result<String> {
-        match fs::canonicalize(self.rt, path) {
-            Ok(real) => Ok(real.into_string()),
-            Err(error) if error.kind() == ErrorKind::NotFound => {
-                Ok(String::from_str(self.rt.alloc(), path)?)
-            }
-            Err(error) => Err(error),
-        }
-    }
-
-    /// Makes a file beside the one of a path, of a name that no other file has.
-    fn create_part(&self, path: &str) -> io::Result<(String, File)> {
-        for number in 1..=PART_NAMES {
-            let part = format!(in self.rt.alloc(); "{path}.part{number}")?;
-            match File::create_new(self.rt, &part) {
-                Ok(file) => return Ok((part, file)),
-                Err(error) if error.kind() == ErrorKind::AlreadyExists => {}
-                Err(error) => return Err(error),
-            }
-        }
-        Err(io::Error::from(ErrorKind::AlreadyExists))
-    }
 }
 
 impl JobFiles for SystemFiles<'_> {
     type Reader = File;
 
-    type Writer = File;
+    type Writer = NewFile;
 
     ghost acts = { λ _ _ _. Unit {0} };
 
@@ -117,47 +41,57 @@ impl JobFiles for SystemFiles<'_> {
         fs::open(self.rt, name)
     }
 
-    fn make(&mut self, name: &str) -> Result<File, FileFault> {
+    fn are_one(&self, name: &str, other: &str) -> bool {
+        are_one(self.rt, name, other)
+    }
+
+    fn kind_of(&self, name: &str) -> Option<FileKind> {
+        let there = fs::metadata(self.rt, name).ok()?;
+        Some(if there.is_file() {
+            FileKind::File
+        } else if there.is_dir() {
+            FileKind::Folder
+        } else {
+            FileKind::Special
+        })
+    }
+
+    fn make_folder(&mut self, name: &str) -> Result<(), FileFault> {
+        Ok(fs::create_dir_all(self.rt, name)?)
+    }
+
+    fn begin(&mut self, name: &str) -> Result<NewFile, FileFault> {
         self.require_standard_streams()?;
-        if self.is_standard(name) || self.is_begun(name)? {
+        if is_special(self.rt, name) {
+            return Ok(NewFile::in_place(fs::create(self.rt, name)?));
+        }
+        NewFile::beside(self.rt, place_of(self.rt, name)?)
+    }
+
+    fn begin_aside(&mut self, name: &str) -> Result<NewFile, FileFault> {
+        self.require_standard_streams()?;
+        if is_standard(self.rt, name) {
             return Err(FileFault::System);
         }
-        Ok(fs::create(self.rt, name)?)
+        self.begin(name)
     }
 
-    fn close(&mut self, _name: &str, _file: File) {}
-
-    fn begin(&mut self, name: &str) -> Result<File, FileFault> {
-        self.require_standard_streams()?;
-        self.begun = None;
-        if self.is_special(name) {
-            return Ok(fs::create(self.rt, name)?);
-        }
-        let path = self.path_of(name)?;
-        let (part, file) = self.create_part(&path)?;
-        self.begun = Some(Begun { part, path });
-        Ok(file)
+    fn place(&mut self, _name: &str, file: NewFile) -> Result<(), FileFault> {
+        Ok(file.place(self.rt)?)
     }
 
-    fn place(&mut self, _name: &str, file: File) -> Result<(), FileFault> {
-        let Some(Begun { part, path }) = self.begun.take() else {
-            return Ok(());
-        };
-        if let Ok(there) = fs::metadata(self.rt, &path) {
-            let _ = file.set_permissions(there.permissions());
-        }
-        drop(file);
-        let placed = fs::rename(self.rt, &part, &path);
-        if placed.is_err() {
-            let _ = fs::remove_file(self.rt, &part);
-        }
-        Ok(placed?)
+    fn place_both(
+        &mut self,
+        _name: &str,
+        file: NewFile,
+        _other: &str,
+        other_file: NewFile,
+    ) -> Result<(), FileFault> {
+        Ok(place_both(self.rt, file, other_file)?)
     }
 
-    fn discard(&mut self, _name: &str, _file: File) {
-        if let Some(begun) = self.begun.take() {
-            let _ = fs::remove_file(self.rt, &begun.part);
-        }
+    fn discard(&mut self, _name: &str, file: NewFile) {
+        file.discard(self.rt);
     }
 }
 

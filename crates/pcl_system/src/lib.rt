@@ -3,8 +3,11 @@
 
 mod files;
 mod input;
+mod parts;
+mod places;
 mod voice;
 
 pub use files::SystemFiles;
 pub use input::Input;
+pub use parts::NewFile;
 pub use voice::Voice;

@@ -64,6 +64,15 @@ impl<'a> Voice<'a> {
     }
 }
 
+impl Progress<'_> {
+    /// As many jobs of a batch are done, of as many.
+    fn jobs_done(&self, done: usize, jobs: usize) {
+        if self.is_long() {
+            let _ = eprint!(self.rt; "\rpclmin: jobs done: {done} of {jobs}");
+        }
+    }
+}
+
 impl Watcher for Voice<'_> {
     fn pages_done(&self, pages: u32) {
         self.progress.pages_done(pages);
@@ -78,6 +87,12 @@ impl Reporter for Voice<'_> {
     fn report(&self, line: &[u8]) {
         if let Ok(text) = std::str::from_utf8(line) {
             let _ = self.rt.eprint(text);
+        }
+    }
+
+    fn jobs_done(&self, done: usize, jobs: usize) {
+        if let Some(progress) = &self.progress {
+            progress.jobs_done(done, jobs);
         }
     }
 }

@@ -28,6 +28,8 @@ enum Word {
     Output,
     /// The folder of a batch.
     Folder,
+    /// That a batch has none, and writes each job in its place.
+    InPlace,
     /// The format of a certificate.
     Format,
     /// JSON where lines of columns could be asked for.
@@ -36,6 +38,9 @@ enum Word {
     /// The resolution.
     Dpi,
 }
+
+/// The program's version.
+pub const VERSION: &str = "0.1.0";
 
 /// What the program's help says first.
 const ABOUT: &str = "A print filter for HP PCL 5: reads a job, and writes or shows what it prints.";
@@ -56,7 +61,7 @@ const COMMANDS: [Words; 8] = [
             Word::Option(
                 "cert",
                 "FILE",
-                "Also write a certificate of the job to this file, which is made or emptied first",
+                "Also write a certificate of the job to this file, which gets it once all is done; a refused job empties it",
             ),
             Word::Format,
             Word::Quiet,
@@ -123,6 +128,11 @@ const COMMANDS: [Words; 8] = [
         takes: &[
             Word::Folder,
             Word::Flag(
+                "keep-folders",
+                "Keep the folders of the jobs' files below DIR, so that two jobs may have one name",
+            ),
+            Word::InPlace,
+            Word::Flag(
                 "min",
                 "Write least raster jobs as min does, each with a certificate beside it",
             ),
@@ -180,7 +190,7 @@ pub fn pclmin<'a>(alloc: Global) -> Result<Command<'a>, AllocError> {
 /// The program, without its commands.
 fn program<'a>(alloc: Global) -> Command<'a> {
     Command::new(alloc, "pclmin")
-        .version("0.1.0")
+        .version(VERSION)
         .about(ABOUT)
         .after_help(STATUSES)
 }
@@ -211,7 +221,8 @@ fn arg<'a>(alloc: Global, word: Word) -> Result<Arg<'a>, AllocError> {
         Word::Flag(name, help) => Ok(flag(alloc, name, help)),
         Word::Option(name, value, help) => Ok(option(alloc, name, value, help)),
         Word::Output => Ok(output(alloc)),
-        Word::Folder => Ok(folder(alloc)),
+        Word::Folder => folder(alloc),
+        Word::InPlace => in_place(alloc),
         Word::Format => format(alloc),
         Word::Json => json(alloc),
         Word::Quiet => Ok(quiet(alloc)),
@@ -269,15 +280,27 @@ fn output<'a>(alloc: Global) -> Arg<'a> {
 }
 
 /// The folder of a batch.
-fn folder<'a>(alloc: Global) -> Arg<'a> {
+fn folder<'a>(alloc: Global) -> Result<Arg<'a>, AllocError> {
     option(
         alloc,
         "output",
         "DIR",
-        "The folder of what is written, which has to be there",
+        "The folder of what is written, which is made where it isn't there",
     )
     .short('o')
-    .required(true)
+    .required_unless_present("in-place")
+}
+
+/// That a batch writes each job in its place.
+fn in_place<'a>(alloc: Global) -> Result<Arg<'a>, AllocError> {
+    flag(
+        alloc,
+        "in-place",
+        "Write each job over its own file, beside it first",
+    )
+    .conflicts_with("output")?
+    .conflicts_with("keep-folders")?
+    .conflicts_with("min")
 }
 
 /// The format of a certificate.

@@ -6,11 +6,11 @@ use pcl_base::{Dpi, PAGE_LIMIT};
 use pcl_cert::Format;
 use pcl_explain::kind_named;
 use pcl_request::{
-    Batch, Beside, CheckedFiles, ComparedFiles, Layout, ReportForm, Request, Resolution, Rewriting,
-    Run, Source, Target, Task, resolution_named,
+    Batch, Beside, Certificate, CheckedFiles, ComparedFiles, Destination, Layout, ReportForm,
+    Request, Resolution, Rewriting, Run, Source, Target, Task, Work, resolution_named,
 };
 use pcl_streams::PageChoice;
-use pcl_vocabulary::pclmin;
+use pcl_vocabulary::{VERSION, pclmin};
 use std::alloc::{AllocError, Global};
 use std::convert::AsStr;
 
@@ -76,7 +76,8 @@ fn batch_of<'w, 'm>(
 /// What the words after `batch` ask for.
 fn batch_with<'w>(batch: &ArgMatches<'w>) -> Result<Batch<'w>, WrongWord<'w>> {
     Ok(Batch {
-        folder: batch.get_str("output").ok_or(WrongWord::Missing)?,
+        version: VERSION,
+        place: place_of(batch)?,
         rewriting: if batch.get_flag("min") {
             Rewriting::Certify
         } else {
@@ -91,11 +92,23 @@ fn batch_with<'w>(batch: &ArgMatches<'w>) -> Result<Batch<'w>, WrongWord<'w>> {
     })
 }
 
+/// Where a batch writes.
+fn place_of<'w>(batch: &ArgMatches<'w>) -> Result<Destination<'w>, WrongWord<'w>> {
+    match batch.get_str("output") {
+        None => Ok(Destination::Itself),
+        Some("") => Err(WrongWord::NoFolder),
+        Some(folder) if batch.get_flag("keep-folders") => Ok(Destination::Below(folder)),
+        Some(folder) => Ok(Destination::Folder(folder)),
+    }
+}
+
 /// A word that has no value of its kind.
 #[derive(Clone, Copy)]
 enum WrongWord<'w> {
     Resolution(&'w str),
     Pages(&'w str),
+    /// A folder without a name.
+    NoFolder,
     /// One that has to be there isn't.
     Missing,
 }
@@ -116,6 +129,7 @@ impl WrongWord<'_> {
             WrongWord::Pages(word) => format!(in alloc;
                 "--page is a number from 1 to 256, or a range such as 2-5, and not '{word}'"
             ),
+            WrongWord::NoFolder => String::from_str(alloc, "the folder of -o has a name"),
             WrongWord::Missing => String::from_str(alloc, "a word is missing"),
         }
     }
@@ -134,30 +148,30 @@ fn request_of<'w>(matches: &ArgMatches<'w>) -> Result<Request<'w>, WrongWord<'w>
 /// What the words of `min`, `pbm`, `pages`, `explain` or `shrink` ask for.
 fn run_of<'w>(name: &str, command: &ArgMatches<'w>) -> Result<Run<'w>, WrongWord<'w>> {
     let resolution = resolution_of(command)?;
-    let task = match name {
-        "min" => min_task(command),
-        "explain" => explain_task(command),
-        "pages" => pages_task(command),
-        "shrink" => Task::Shrink {
+    let work = match name {
+        "min" => min_work(command),
+        "explain" => Work::Task(explain_task(command)),
+        "pages" => Work::Task(pages_task(command)),
+        "shrink" => Work::Task(Task::Shrink {
             report: command.get_flag("report"),
-        },
-        _ => Task::Preview {
+        }),
+        _ => Work::Task(Task::Preview {
             choice: page_choice(command)?,
-        },
+        }),
     };
     Ok(Run {
-        task,
-        source: source_of(task, command),
+        work,
+        source: source_of(work, command),
         target: target_of(command),
-        resolution: seen_at(task, resolution),
+        resolution: seen_at(work, resolution),
         quiet: name == "min" && command.get_flag("quiet"),
     })
 }
 
-/// The resolution at which a task sees its job: no matter which where it has none.
-fn seen_at(task: Task<'_>, resolution: Resolution) -> Resolution {
-    match task {
-        Task::ExplainKind { .. } => Resolution::Given(Dpi::Dpi300),
+/// The resolution at which a job is seen; one is as good as the other where none is read.
+fn seen_at(work: Work<'_>, resolution: Resolution) -> Resolution {
+    match work {
+        Work::Task(Task::ExplainKind { .. }) => Resolution::Given(Dpi::Dpi300),
         _ => resolution,
     }
 }
@@ -169,9 +183,9 @@ fn resolution_of<'w>(command: &ArgMatches<'w>) -> Result<Resolution, WrongWord<'
 }
 
 /// Where the job comes from: the file that is named, or standard input where none or `-` is, or where none is read.
-fn source_of<'w>(task: Task<'w>, command: &ArgMatches<'w>) -> Source<'w> {
-    match (task, command.get_str("JOB")) {
-        (Task::ExplainKind { .. }, _) | (_, None | Some("-")) => Source::StandardInput,
+fn source_of<'w>(work: Work<'w>, command: &ArgMatches<'w>) -> Source<'w> {
+    match (work, command.get_str("JOB")) {
+        (Work::Task(Task::ExplainKind { .. }), _) | (_, None | Some("-")) => Source::StandardInput,
         (_, Some(file)) => Source::File(file),
     }
 }
@@ -218,19 +232,19 @@ fn file_of<'w>(command: &ArgMatches<'w>, name: &str) -> Result<&'w str, WrongWor
 }
 
 /// What the words after `min` ask for.
-fn min_task<'w>(min: &ArgMatches<'w>) -> Task<'w> {
+fn min_work<'w>(min: &ArgMatches<'w>) -> Work<'w> {
     let format = match min.get_one::<u16>("format") {
         Some(2) => Format::Two,
         _ => Format::One,
     };
     match min.get_str("cert") {
-        Some(file) => Task::Certify { file, format },
-        None => Task::Minimize,
+        Some(file) => Work::Certify(Certificate { file, format }),
+        None => Work::Task(Task::Minimize),
     }
 }
 
 /// What the words after `pages` ask for.
-fn pages_task<'w>(pages: &ArgMatches<'w>) -> Task<'w> {
+fn pages_task(pages: &ArgMatches<'_>) -> Task {
     let layout = if pages.get_flag("json") {
         Layout::Json
     } else {
@@ -240,7 +254,7 @@ fn pages_task<'w>(pages: &ArgMatches<'w>) -> Task<'w> {
 }
 
 /// What the words after `explain` ask for: a kind of refusal, where its name stands in place of a file.
-fn explain_task<'w>(explain: &ArgMatches<'w>) -> Task<'w> {
+fn explain_task(explain: &ArgMatches<'_>) -> Task {
     let Some(word) = explain.get_str("JOB") else {
         return Task::Explain;
     };

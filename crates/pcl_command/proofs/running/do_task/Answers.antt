@@ -3,9 +3,6 @@ use Rattle.pcl_command.proofs.running.do_task.Goals as goal
 pub returns-in-Minimize : goal.returns-in-Minimize
 returns-in-Minimize g c = rw c.in-Minimize.is assumption
 
-pub returns-in-Certify : goal.returns-in-Certify
-returns-in-Certify g c = rw c.in-Certify.is assumption
-
 pub returns-in-Preview : goal.returns-in-Preview
 returns-in-Preview g c = rw c.in-Preview.is assumption
 

@@ -1,0 +1,101 @@
+//! What is said of a job that isn't written.
+
+use pcl_files::{FILE_STATUS, Failure, MEMORY_STATUS, USAGE_STATUS, fault_line, status_of};
+use pcl_streams::Fault;
+use std::alloc::{AllocError, Global};
+
+/// Why a job isn't written, and the status for it alone.
+#[derive(Drop)]
+pub(crate) struct Reason {
+    pub(crate) status: u8,
+    pub(crate) said: String,
+}
+
+/// Why nothing is tried with a job.
+#[derive(Clone, Copy)]
+pub(crate) enum Obstacle {
+    /// It has no place of its own: a job before it has its names.
+    Taken,
+    /// It has no place below the folder.
+    LeadsOut,
+    /// It is a folder, a device or a pipe.
+    NoFile,
+    /// What would be written is the job itself.
+    Itself,
+    /// A file is in its place that no digests say to be of it.
+    Foreign,
+    /// A certificate is there that would not be of what is written: its digests don't name it, or none is asked for now.
+    ForeignCertificate,
+    /// A file is in the place of its digests that has none, or those of another job.
+    ForeignSums,
+}
+
+impl Obstacle {
+    fn status(self) -> u8 {
+        match self {
+            Obstacle::NoFile => FILE_STATUS,
+            _ => USAGE_STATUS,
+        }
+    }
+
+    fn text(self) -> &'static str {
+        match self {
+            Obstacle::Taken =>
+                "a job before this one has its name, or the name of a file that is written with it",
+            Obstacle::LeadsOut => "a path with .. has no place below the folder",
+            Obstacle::NoFile => "cannot read: no file, but a folder, a device or a pipe",
+            Obstacle::Itself => "it would be written over the job itself, which --in-place does",
+            Obstacle::Foreign => "a file is there that isn't known to be of this job",
+            Obstacle::ForeignCertificate =>
+                "a certificate is there that would not be of what is written",
+            Obstacle::ForeignSums =>
+                "a file is there in place of the digests, or digests of another job",
+        }
+    }
+}
+
+impl Reason {
+    pub(crate) fn of(alloc: Global, obstacle: Obstacle) -> Result<Reason, AllocError> {
+        Ok(Reason {
+            status: obstacle.status(),
+            said: String::from_str(alloc, obstacle.text())?,
+        })
+    }
+
+    /// Of a fault of reading or writing.
+    pub(crate) fn of_fault(alloc: Global, fault: &Fault) -> Result<Reason, AllocError> {
+        let line = fault_line(alloc, fault, 0)?;
+        Ok(Reason {
+            status: status_of(fault),
+            said: said_in(alloc, &line)?,
+        })
+    }
+
+    /// Of a run that failed.
+    pub(crate) fn of_failure(alloc: Global, failure: &Failure) -> Result<Reason, AllocError> {
+        match failure {
+            Failure::Said { line, status } => Ok(Reason {
+                status: *status,
+                said: said_in(alloc, line)?,
+            }),
+            Failure::NoMemory => Ok(Reason {
+                status: MEMORY_STATUS,
+                said: String::from_str(alloc, "out of memory")?,
+            }),
+        }
+    }
+
+    /// With what is left of an earlier batch.
+    pub(crate) fn beside_earlier(mut self) -> Result<Reason, AllocError> {
+        self.said
+            .push_str("; what an earlier batch wrote is still there")?;
+        Ok(self)
+    }
+}
+
+/// What a line says, without the program's name and the line feed.
+fn said_in(alloc: Global, line: &[u8]) -> Result<String, AllocError> {
+    let said = std::str::from_utf8(line).unwrap_or("");
+    let said = said.strip_prefix("pclmin: ").unwrap_or(said);
+    String::from_str(alloc, said.trim_end())
+}

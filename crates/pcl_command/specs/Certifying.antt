@@ -1,0 +1,60 @@
+-- What a run reads and writes that writes a job with a certificate.
+use Rattle.std.specs.Prelude.{◌≡◌, ℕ, List, ◌⊎◌, Option, Some, Result, Err}
+use Rattle.pcl_base.specs.declared.dpi.Dpi.{Dpi}
+use Rattle.pcl_page.specs.Accepting.{IsFirstAccepted}
+use Rattle.pcl_cert.specs.declared.format.Format.{Format}
+use Rattle.pcl_streams.specs.declared.fault.Fault.{Fault}
+use Rattle.pcl_tool.specs.Minimizing.{IsFilteredCert, IsRead}
+use Rattle.pcl_files.specs.Failures.{HasFailedFile, IsOutcome}
+use Rattle.pcl_files.specs.Files.{FileAct, Begun, Unbegun, Dropped}
+use Rattle.pcl_files.specs.WholeFiles.{AreSettled, IsSettledAside}
+use Rattle.pcl_files.specs.declared.failures.Failure.{Failure}
+use Rattle.pcl_files.specs.declared.files.FileFault.{FileFault}
+use Rattle.pcl_request.specs.declared.request.Certificate.{Certificate}
+use Rattle.pcl_request.specs.declared.request.Resolution.{Resolution}
+use Rattle.pcl_request.specs.declared.request.Resolution.TheVariants.{Given, FirstAccepted}
+use Rattle.pcl_request.specs.declared.request.Target.{Target}
+use Rattle.pcl_request.specs.declared.request.Target.TheVariants.{StandardOutput, File}
+use Rattle.pcl_command.specs.Reads.{IsUnread}
+
+-- The job is written again with its certificate at a resolution that is given. Else the job can't be read, or it is done with the
+-- bytes of the job, at the first resolution at which that is accepted.
+abbrev pub HasCertifiedSeen : Format → Resolution → (given left old new aside_old aside_new : Option (List ℕ)) → Result (Unit {0}) Fault
+    → Type 0
+HasCertifiedSeen format (Given dpi) given left old new aside_old aside_new done =
+    IsFilteredCert dpi format given left old new aside_old aside_new done
+HasCertifiedSeen format FirstAccepted given left old new aside_old aside_new done =
+    ((fault : Fault) × (done ≡ Err fault) × IsUnread given left old new fault × (aside_new ≡ aside_old))
+    ⊎ ((job : List ℕ) × (rest : Option (List ℕ)) × (dpi : Dpi) × IsRead given left job × IsFirstAccepted job dpi
+    × IsFilteredCert dpi format (Some job) rest old new aside_old aside_new done)
+
+-- The job goes to a file that is begun, and both files are settled. Or it can't be begun: then the certificate is dropped, and
+-- nothing was read.
+abbrev pub HasCertifiedFile : {F : Type 0} → (F → FileAct → F → Type 0) → Certificate → (aside : Option (List ℕ)) → Resolution
+    → (name : List ℕ) → (files kept : F) → (given left : Option (List ℕ)) → Result (Unit {0}) Failure → Type 0
+HasCertifiedFile {F} acts certificate aside resolution name files kept given left ended =
+    ((why : FileFault) × (failure : Failure) × (unbegun : F) × acts files (Unbegun name why) unbegun
+    × acts unbegun (Dropped certificate.file.now) kept × (left ≡ given) × (ended ≡ Err failure) × HasFailedFile why failure)
+    ⊎ ((begun : F) × (held holds aside_holds : Option (List ℕ)) × (done settled : Result (Unit {0}) Fault)
+    × acts files (Begun name held) begun × HasCertifiedSeen certificate.format resolution given left held holds aside aside_holds done
+    × AreSettled acts name holds certificate.file.now aside_holds done begun kept settled × IsOutcome 0 settled ended)
+
+-- The same by where the job goes, with a certificate's file that was begun and holds this: nothing reaches the writer where the job
+-- goes to a file.
+abbrev pub HasCertifiedTo : {F : Type 0} → (F → FileAct → F → Type 0) → Certificate → (aside : Option (List ℕ)) → Resolution → Target
+    → (files kept : F) → (given left old new : Option (List ℕ)) → Result (Unit {0}) Failure → Type 0
+HasCertifiedTo acts certificate aside resolution StandardOutput files kept given left old new ended =
+    (aside_holds : Option (List ℕ)) × (done settled : Result (Unit {0}) Fault)
+    × HasCertifiedSeen certificate.format resolution given left old new aside aside_holds done
+    × IsSettledAside acts certificate.file.now aside_holds done files kept settled × IsOutcome 0 settled ended
+HasCertifiedTo acts certificate aside resolution (File name) files kept given left old new ended =
+    (new ≡ old) × HasCertifiedFile acts certificate aside resolution name.now files kept given left ended
+
+-- The certificate's file is begun before anything is read. Or it can't be, and then nothing was read or written.
+abbrev pub HasCertified : {F : Type 0} → (F → FileAct → F → Type 0) → Certificate → Resolution → Target → (files kept : F)
+    → (given left old new : Option (List ℕ)) → Result (Unit {0}) Failure → Type 0
+HasCertified {F} acts certificate resolution target files kept given left old new ended =
+    ((why : FileFault) × (failure : Failure) × acts files (Unbegun certificate.file.now why) kept × (left ≡ given) × (new ≡ old)
+    × (ended ≡ Err failure) × HasFailedFile why failure)
+    ⊎ ((begun : F) × (aside : Option (List ℕ)) × acts files (Begun certificate.file.now aside) begun
+    × HasCertifiedTo acts certificate aside resolution target begun kept given left old new ended)
