@@ -4,7 +4,7 @@
 PREFIX ?= /usr/local
 PROGRAM := crates/pclmin/out/pclmin
 
-.PHONY: demo build test test-memory test-process test-home test-batch test-cups oracle examples bench bench-certificates bench-clients install install-cups deb test-cupsd clean lib install-lib test-library web serve test-web
+.PHONY: demo build test test-memory test-process test-home test-batch test-slurm test-cups oracle examples bench bench-certificates bench-clients install install-cups deb test-cupsd clean lib install-lib test-library web serve test-web
 
 # Previews the sample job into build/demo.pbm, and shrinks it into build/demo.pcl, by two of the kit's quick runs side by side: a minute
 # or two after a fresh clone, and nothing is proved.
@@ -58,6 +58,12 @@ test-home: test-cups test-batch test-cupsd
 test-batch:
 	home/batch.py $(PROGRAM)
 
+# Starts slurm with two nodes on loopback, and runs the block of docs/BATCH.md that uses it over some 60 jobs: as it stands, with a task
+# that is killed, with one that is requeued, and with a bound on the time of each job. It takes a minute or two. Needs root, the
+# packages that home/slurm.py names, and the program that `make build` left.
+test-slurm:
+	home/slurm.py $(PROGRAM)
+
 # Runs the CUPS backend with a device behind it that only keeps what comes. Needs the program that `make build` left.
 test-cups:
 	cups/try.sh $(PROGRAM)
@@ -67,7 +73,8 @@ test-cups:
 test-cupsd:
 	cups/server.py $(PROGRAM)
 
-# A short run of the programs of oracle/, which share no line with this one, beside it. Needs rustc, Python 3, and the
+# A run of the programs of oracle/, which share no line with this one, beside it, and of 20,000 random jobs through shrink and back: a
+# quarter of an hour on four cores. Needs rustc, Python 3, and the
 # program that `make build` left.
 oracle:
 	oracle/run.sh

@@ -17,7 +17,7 @@ _pclmin() {
         pbm:-*) mapfile -t COMPREPLY < <(compgen -W "--dpi --page --output --help" -- "$word") ;;
         shrink:-*) mapfile -t COMPREPLY < <(compgen -W "--dpi --report --output --help" -- "$word") ;;
         pages:-*) mapfile -t COMPREPLY < <(compgen -W "--dpi --json --tsv --output --help" -- "$word") ;;
-        batch:-*) mapfile -t COMPREPLY < <(compgen -W "--dpi --min --json --output --help" -- "$word") ;;
+        batch:-*) mapfile -t COMPREPLY < <(compgen -W "--dpi --min --json --output --keep-folders --in-place --help" -- "$word") ;;
         explain:-*) mapfile -t COMPREPLY < <(compgen -W "--dpi --output --help" -- "$word") ;;
         check:-*) mapfile -t COMPREPLY < <(compgen -W "--dpi --page --quiet --help" -- "$word") ;;
         same:-*) mapfile -t COMPREPLY < <(compgen -W "--dpi --asked --image --help" -- "$word") ;;

@@ -18,6 +18,8 @@ complete -c pclmin -n "__fish_seen_subcommand_from shrink" -l report -d "Tell wh
 complete -c pclmin -n "__fish_seen_subcommand_from pages batch" -l json -d "Write JSON"
 complete -c pclmin -n "__fish_seen_subcommand_from pages" -l tsv -d "Write columns"
 complete -c pclmin -n "__fish_seen_subcommand_from batch" -l min -d "Write least raster jobs with certificates"
+complete -c pclmin -n "__fish_seen_subcommand_from batch" -l keep-folders -d "Keep the folders of the jobs"
+complete -c pclmin -n "__fish_seen_subcommand_from batch" -l in-place -d "Write each job over its own file"
 complete -c pclmin -n "__fish_seen_subcommand_from batch" -s o -l output -x -a "(__fish_complete_directories)" -d "Write into a folder"
 complete -c pclmin -n "__fish_seen_subcommand_from check" -l page -d "The first file has images of the pages"
 complete -c pclmin -n "__fish_seen_subcommand_from same" -l asked -d "Compare what is asked of the printer too"

@@ -7,7 +7,7 @@ The jobs are made in a temporary folder: pages of text by ghostscript's drivers 
 are refused, cut short, empty or not there. A batch over all of them is killed in the middle, run again, and run once more; then the
 lines of docs/BATCH.md that use GNU parallel are run as they stand there, over an ssh server on loopback in place of the hosts. Each
 time each job has to have one line of the report with the right outcome and digests, and a file in the folder that is whole. The
-batch that is killed may leave the one file that it was writing, `NAME.part1`; nothing after it may touch that or add to it. Some
+batch that is killed may leave the one file that it was writing, `NAME.pclmin-part1`, which the next one takes away. Some
 jobs are compared, and some are written with certificates, which are checked. Prints what held, and how many jobs, pages and bytes a
 batch does in how many seconds; status 1 if something doesn't hold.
 
@@ -101,20 +101,20 @@ def read_report(path, is_json):
     """The rows of a report by job: outcome, status, pages, bytes in and out, and both digests."""
     with open(path) as report:
         if is_json:
-            rows = [json.loads(line) for line in report]
+            rows = [row for row in map(json.loads, report) if "file" in row]
             none = {"bytes": None, "sha256": None}
             both = [(it, it["input"] or none, it["output"] or none) for it in rows]
             return [(it["file"], it["outcome"], it["status"], it["pages"], came["bytes"], written["bytes"], came["sha256"],
                      written["sha256"]) for it, came, written in both]
         number = lambda text: None if text == "-" else int(text)
         text = lambda it: None if it == "-" else it
+        rows = csv.DictReader((line for line in report if not line.startswith("# ")), delimiter="\t", quoting=csv.QUOTE_NONE)
         return [(it["file"], it["outcome"], int(it["status"]), number(it["pages"]), number(it["bytes_in"]), number(it["bytes_out"]),
-                 text(it["sha256_in"]), text(it["sha256_out"])) for it in csv.DictReader(report, delimiter="\t", quoting=csv.QUOTE_NONE)]
+                 text(it["sha256_in"]), text(it["sha256_out"])) for it in rows]
 
 
-def look(what, home, wanted, report, folder, outcomes, is_json=False, left=frozenset()):
-    """Looks at a report and the folder: each job has one row, and what is in the folder is what the row says. The names of `left`
-    have to be there besides."""
+def look(what, home, wanted, report, folder, outcomes, is_json=False):
+    """Looks at a report and the folder: each job has one row, and what is in the folder is what the row says."""
     rows = read_report(report, is_json)
     holds(f"{what}: a line for each of {len(wanted)} jobs", collections.Counter(it[0] for it in rows) == collections.Counter([*wanted]))
     holds(f"{what}: each has its status", all(status == wanted[name] for name, _, status, *_ in rows))
@@ -124,8 +124,7 @@ def look(what, home, wanted, report, folder, outcomes, is_json=False, left=froze
     sums = subprocess.run("cat *.sha256 | sha256sum -c --quiet", shell=True, cwd=folder, stderr=subprocess.DEVNULL)
     done = sum(not status for status in wanted.values())
     holds(f"{what}: {done} files of sums, and all are right", sums.returncode == 0 and len(list(folder.glob("*.sha256"))) == done)
-    names = {it.name for it in folder.iterdir()}
-    holds(f"{what}: nothing else is left", left <= names and len(names) == 2 * done + len(left))
+    holds(f"{what}: nothing else is left", len(list(folder.iterdir())) == 2 * done)
     return rows
 
 
@@ -192,13 +191,13 @@ def main(program, count):
         batch(program, home, names, home / "killed.tsv", *words, until=len(names) // 2)
         parts = [it for it in (home / "again").iterdir() if it.name.endswith(".pcl")]
         holds("killed: what lies in the folder is whole", all(digest(it) == digest(home / "smaller" / it.name) for it in parts) and parts)
-        left = {it.name for it in (home / "again").iterdir() if re.search(r"\.part\d+$", it.name)}
+        left = [it for it in (home / "again").iterdir() if re.search(r"\.pclmin-part\d+$", it.name)]
         holds("killed: at most the one file that was being written is left", len(left) <= 1)
         batch(program, home, names, home / "resumed.tsv", *words)
-        rows = look("resumed", home, wanted, home / "resumed.tsv", home / "again", ["written", "kept"], left=left)
+        rows = look("resumed", home, wanted, home / "resumed.tsv", home / "again", ["written", "kept"])
         holds("resumed: what was done is kept", sum(it[1] == "kept" for it in rows) >= len(parts) - 1)
         _, _, seconds = batch(program, home, names, home / "kept.tsv", *words)
-        look("once more", home, wanted, home / "kept.tsv", home / "again", ["kept"], left=left)
+        look("once more", home, wanted, home / "kept.tsv", home / "again", ["kept"])
         print(f"nothing is to be done in {seconds:.0f} seconds", flush=True)
 
         well = [name for name in names if wanted[name] == 0]
@@ -222,7 +221,7 @@ def main(program, count):
                 done = subprocess.run(["bash", "-c", line.replace("/archive", f"{home}/archive")], cwd=home, env=environment,
                                       capture_output=True, text=True)
                 seconds = time.monotonic() - begun
-                folder = home / ("archive/smaller" if "/archive" in line else "smaller")
+                folder = home / ("archive/smaller/jobs" if "/archive" in line else "smaller/jobs")
                 what = "over hosts" if "-S" in line else "on all processors"
                 look(what, home, given, home / "report.json", folder, ["written"], True)
                 said = [int(it[1]) for it in re.finditer(r"pclmin: (\d+) of \d+ jobs failed", done.stderr)]
