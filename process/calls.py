@@ -6,8 +6,8 @@
 PROGRAM is a built pclmin. A run in which a read fails, interrupted ones too, says `pclmin: cannot read`; one in which a write, a
 rename or a sync fails says `pclmin: cannot write`; both end with status 3. One in which a file can't be opened says either. Where
 something else of the system fails, a run says one of these or does what it does else. Standard output then has a prefix of what it has
-else, or nothing where a job is read no further; the files of -o, --cert and --image are as they were, all of them, and none is left
-beside them. Where each read gives and each write takes one byte, all is as ever. Needs a C compiler.
+else, or nothing where a job is read no further; the files of -o and --cert are as they were, both, and so is that of --image or it is
+whole; none is left beside them. Where each read gives and each write takes one byte, all is as ever. Needs a C compiler.
 """
 
 import errno
@@ -26,6 +26,7 @@ RUNS = ["pbm dot.pcl", "min dot.pcl", "min --cert cert dot.pcl", "min --cert cer
 LINES = {"read": [READ], "write": [WRITE], "rename": [WRITE], "fsync": [WRITE], "open": [READ, WRITE]}
 OTHERS = ["link", "flock", "realpath", "statx", "fchmod", "fcntl"]
 ERRORS = [errno.EIO, errno.EINTR]
+AS_IT_WAS = {"kept": b"kept", "kept.cert": b"kept"}
 
 
 def main():
@@ -56,8 +57,10 @@ def try_run(failing, words):
         return (ran.returncode, ran.stdout, ran.stderr, made(folder)) == (ample.returncode, ample.stdout, ample.stderr, files)
 
     def has_failed(ran, lines):
-        return (ran.returncode == 3 and ran.stderr in lines and ample.stdout.startswith(ran.stdout)
-                and made(folder) == {"kept": b"kept", "kept.cert": b"kept"})
+        left = made(folder)
+        # an image is placed before the line that names its dot
+        is_as_it_was = left == AS_IT_WAS or left == files and "--image" in words
+        return ran.returncode == 3 and ran.stderr in lines and ample.stdout.startswith(ran.stdout) and is_as_it_was
 
     counts = []
     for what in [*LINES, *OTHERS]:
