@@ -1,6 +1,5 @@
 -- Faults that come of an image.
 use Rattle.pcl_answers.proofs.Names.{List, ℕ, Option, Some, Err, inl, refl, arith, Bor, Dpi, Picture, Fault, Memory, WriteFault, IsImageWritten, FileFault, FileAct, write_fault_of, IsDifferingPage, IsImageMade, IsDrawnTo}
-use Rattle.pcl_files.specs.declared.files.FileFault.TheVariants as file
 
 -- a fault that an image can have
 abbrev pub IsImageFault : Fault → Type 0

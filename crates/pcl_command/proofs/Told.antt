@@ -1,6 +1,6 @@
 -- What was read and written where a text on a job is.
 use Rattle.std.proofs.Common.{◌≤◌, ℕ, List, Option, Result, Ok, Err, length, arith}
-use Rattle.pcl_command.proofs.Names.{Keeps-refl, Dpi, JobFault, Refusal, IsRefusal, fault_of, Fault, Refused, Memory, WriteFault, IsRead, input_limit, IsWritten, IsDescribed, IsShrunk, IsTextRun}
+use Rattle.pcl_command.proofs.Names.{Keeps-refl, Dpi, JobFault, Refusal, IsRefusal, fault_of, Fault, WriteFault, IsRead, input_limit, IsWritten, IsDescribed, IsShrunk, IsTextRun}
 use Rattle.pcl_base.specs.declared.fault.JobFault.TheVariants as fault
 
 -- of a job that was read to its end, where its text was written, or a prefix of it

@@ -1,5 +1,5 @@
 use Rattle.std.proofs.Common.{◌≡◌, ◌∙◌, List, ℕ, Option, Result, Ok, Err, inl, inr, refl, sym, subst}
-use Rattle.pcl_answers.proofs.Names.{Vec, err_from_is_err_and, Keeps-refl, Dpi, Fault, Refused, Memory, ReadFault, TooLong, WriteFault, AppendsFront, IsWritten, AskedComparison, Comparison, SameFault, IsComparison, IsCompared, of_pages, FileAct, AreSeenAt, IsFileRead, ComparedFiles, Failed, comparison_line_of, AreSeen, IsOneUnread, IsComparisonFor, IsComparedAndDrawn, IsCompareRun, compare_fault_of, dotted_page, IsDrawn}
+use Rattle.pcl_answers.proofs.Names.{Vec, err_from_is_err_and, Keeps-refl, Dpi, Fault, Memory, ReadFault, TooLong, WriteFault, AppendsFront, IsWritten, AskedComparison, Comparison, SameFault, IsComparison, IsCompared, of_pages, FileAct, AreSeenAt, IsFileRead, ComparedFiles, Failed, comparison_line_of, AreSeen, IsOneUnread, IsComparisonFor, IsComparedAndDrawn, IsCompareRun, compare_fault_of, dotted_page, IsDrawn}
 use Rattle.pcl_same.specs.declared.fault.SameFault.TheVariants as same
 use Rattle.pcl_files.proofs.FileReads.{read_fault}
 use Rattle.pcl_answers.proofs.ComparedFor.{by_pages}
