@@ -16,7 +16,7 @@ import sys
 import tempfile
 
 sys.dont_write_bytecode = True
-from failing import HERE, Failing
+from failing import AS_IT_WAS, HERE, Failing
 
 EXAMPLES = HERE.parent / "examples"
 READ, WRITE = b"pclmin: cannot read\n", b"pclmin: cannot write\n"
@@ -26,7 +26,6 @@ RUNS = ["pbm dot.pcl", "min dot.pcl", "min --cert cert dot.pcl", "min --cert cer
 LINES = {"read": [READ], "write": [WRITE], "rename": [WRITE], "fsync": [WRITE], "open": [READ, WRITE]}
 OTHERS = ["link", "flock", "realpath", "statx", "fchmod", "fcntl"]
 ERRORS = [errno.EIO, errno.EINTR]
-AS_IT_WAS = {"kept": b"kept", "kept.cert": b"kept"}
 
 
 def main():
@@ -41,23 +40,16 @@ def main():
             try_run(failing, [program, *run.split()])
 
 
-def made(folder):
-    """What files hold that a run makes."""
-    names = ("kept", "kept.cert", "cert", "image")
-    return {path.name: path.read_bytes() for path in folder.iterdir() if path.name in names or "-part" in path.name}
-
-
 def try_run(failing, words):
     """Each call of a run fails in turn."""
-    folder = failing.folder
     ample = failing.run(words, what="none")
-    files = made(folder)
+    files = failing.made()
 
     def is_done(ran):
-        return (ran.returncode, ran.stdout, ran.stderr, made(folder)) == (ample.returncode, ample.stdout, ample.stderr, files)
+        return (ran.returncode, ran.stdout, ran.stderr, failing.made()) == (ample.returncode, ample.stdout, ample.stderr, files)
 
     def has_failed(ran, lines):
-        left = made(folder)
+        left = failing.made()
         # an image is placed before the line that names its dot
         is_as_it_was = left == AS_IT_WAS or left == files and "--image" in words
         return ran.returncode == 3 and ran.stderr in lines and ample.stdout.startswith(ran.stdout) and is_as_it_was

@@ -6,6 +6,9 @@ import subprocess
 import sys
 
 HERE = pathlib.Path(__file__).resolve().parent
+# Files that are there before each run, and those that a run makes.
+KEPT, MADE = ("kept", "kept.cert"), ("cert", "image")
+AS_IT_WAS = {name: b"kept" for name in KEPT}
 
 
 class Failing:
@@ -17,11 +20,16 @@ class Failing:
         self.count = folder / "count"
         subprocess.run(["cc", "-O1", "-shared", "-fPIC", "-o", self.shim, HERE / "failing.c", "-ldl"], check=True)
 
+    def made(self):
+        """What files hold that a run makes or replaces."""
+        names = (*KEPT, *MADE)
+        return {path.name: path.read_bytes() for path in self.folder.iterdir() if path.name in names or "-part" in path.name}
+
     def run(self, words, **settings):
         """What one run did; settings are those of failing.c, without FAIL_."""
-        for name in ("kept", "kept.cert"):
+        for name in KEPT:
             (self.folder / name).write_bytes(b"kept")
-        for name in ("cert", "image"):
+        for name in MADE:
             (self.folder / name).unlink(missing_ok=True)
         added = {"FAIL_" + name.upper(): str(value) for name, value in settings.items()}
         environment = dict(os.environ, LD_PRELOAD=str(self.shim), FAIL_COUNT=str(self.count), **added)

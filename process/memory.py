@@ -9,16 +9,16 @@ more where memory ran out: it always prints what the file EXPECTED has. Needs a 
 """
 
 import pathlib
-import subprocess
 import sys
 import tempfile
 
 sys.dont_write_bytecode = True
-from failing import HERE, Failing
+from failing import AS_IT_WAS, HERE, Failing
 
 EXAMPLES = HERE.parent / "examples"
 LINE = b"pclmin: out of memory\n"
-RUNS = ["pbm --page 1 dot.pcl", "min dot.pcl", "min --cert cert --format 2 dot.pcl", "shrink dot.pcl", "pages dot.pcl",
+RUNS = ["pbm --page 1 dot.pcl", "min dot.pcl", "min --cert cert --format 2 dot.pcl",
+        "min --cert kept.cert -o kept dot.pcl", "same --image image dot.pcl other.pcl", "shrink dot.pcl", "pages dot.pcl",
         "pages --json dot.pcl", "explain dot.pcl", "explain NoFont", "check dot.pcl dot.min dot.cert", "same dot.pcl dot.min",
         "same --asked dot.pcl dot.min", "shrink -o kept dot.pcl", "min --dpi auto dot.pcl"]
 
@@ -30,17 +30,18 @@ def main():
         failing = Failing(folder)
         for file in EXAMPLES.glob("dot*"):
             (folder / file.name).write_bytes(file.read_bytes())
+        (folder / "other.pcl").write_bytes((folder / "dot.pcl").read_bytes().replace(b"\x80", b"\x40"))
         wanted = expected.read_bytes()
         fail_each(failing, "memory_cases", [cases], lambda ran: (ran.returncode, ran.stdout) == (0, wanted))
         for run in RUNS:
             words = [program, *run.split()]
-            ample = subprocess.run(words, cwd=folder, stdin=subprocess.DEVNULL, capture_output=True, check=False)
-            made = (folder / "kept").read_bytes() if "kept" in run else b"kept"
+            ample = failing.run(words, what="none")
+            files = failing.made()
 
             def holds(ran):
-                kept = (folder / "kept").read_bytes()
-                done = (ran.returncode, ran.stdout, kept) == (ample.returncode, ample.stdout, made)
-                return done or (ran.returncode, ran.stdout, ran.stderr, kept) == (3, b"", LINE, b"kept")
+                left = failing.made()
+                done = (ran.returncode, ran.stdout, left) == (ample.returncode, ample.stdout, files)
+                return done or (ran.returncode, ran.stdout, ran.stderr, left) == (3, b"", LINE, AS_IT_WAS)
 
             fail_each(failing, "pclmin " + run, words, holds)
 

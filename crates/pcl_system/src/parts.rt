@@ -158,18 +158,16 @@ impl Part {
 
     /// Keeps what its place has under another name too.
     fn keep(&self, rt: &HostRuntime) -> io::Result<Kept> {
+        // nothing is asked of memory once the second name is there
+        let place = String::from_str(rt.alloc(), self.place.as_str())?;
         if self.rights.is_none() {
-            let place = String::from_str(rt.alloc(), self.place.as_str())?;
             return Ok(Kept::Nothing { place });
         }
         let stem = stem_of(self.place.as_str());
         for number in 1..=PART_NAMES {
             let path = part_path(rt, stem, number)?;
             match fs::hard_link(rt, &self.place, &path) {
-                Ok(()) => {
-                    let place = String::from_str(rt.alloc(), self.place.as_str())?;
-                    return Ok(Kept::Linked { path, place });
-                }
+                Ok(()) => return Ok(Kept::Linked { path, place }),
                 Err(error) if error.kind() == ErrorKind::AlreadyExists => {}
                 Err(_) => return Ok(Kept::Unknown),
             }
