@@ -93,7 +93,7 @@ fn total_for(
     }
 }
 
-/// The bytes that a coder takes for the rows of a page, each over the row above it, so many times.
+/// The bytes that a coder takes for the rows of a page, each over the row above it, this many times.
 fn total<C: RowCoder>(
     alloc: Global,
     coder: &C,

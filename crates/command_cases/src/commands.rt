@@ -14,7 +14,7 @@
 //!   writes 48: ESCE                  how many bytes are written and flushed, and how they begin; none where it isn't said
 //!   says pclmin: no page 2           the whole line on standard error; none where nothing is said
 //!   mentions --page <N>              in its place a part of the text of help or of a usage fault
-//!   tells 2 pages, 1 end             how many pages are told of, and how often the end; none where it isn't said
+//!   tells 2 pages, 1 end             how many pages are reported, and how often the end; none where it isn't said
 //!   makes page.cert 12: {PCLCERT1}   the length of a file that was made, and how it begins
 //!   run pclmin pbm --page 2          the words
 //!   status 1                         the status; this ends the case
@@ -65,7 +65,7 @@ impl Write for Taken {
     }
 }
 
-/// Counts what it is told.
+/// Counts what is reported to it.
 #[derive(Drop)]
 struct Told {
     /// The number of pages that was told last.
@@ -130,7 +130,7 @@ impl Begin {
         })
     }
 
-    /// Whether bytes are so many and begin so.
+    /// Whether bytes are this many and begin so.
     fn is_of(&self, bytes: &[u8]) -> bool {
         bytes.len() == self.len && bytes.starts_with(&self.bytes)
     }
@@ -155,7 +155,7 @@ pub struct Commands {
     /// What is said, and whether that is all.
     said: String,
     is_whole: bool,
-    /// The pages that are told of, and how often the end is.
+    /// The pages that are reported, and how often the end is.
     told: (usize, usize),
     /// The file that is made, and what it begins with.
     made: Option<(String, Begin)>,

@@ -34,9 +34,9 @@ struct Case {
     /// From one letter to the next, and from line to line, in dots.
     step: u32,
     leading: u32,
-    /// So many dots each letter stands further right, in turn.
+    /// How many dots each letter stands further right, in turn.
     shifts: &'static [u32],
-    /// A dot stands above each of so many letters, from the first on; none for 0.
+    /// A dot stands above each of this many letters, from the first on; none for 0.
     dots: u32,
 }
 
@@ -414,7 +414,7 @@ fn shift_of(case: &Case, place: u32) -> u32 {
     case.shifts.get(turn).copied().unwrap_or(0)
 }
 
-/// Appends a letter of so many rows, whose raster starts at `(x, y)`.
+/// Appends a letter of this many rows, whose raster starts at `(x, y)`.
 fn append_letter(
     kind: u32,
     rows: u32,

@@ -22,7 +22,7 @@ pub struct Case {
     pub length: Option<usize>,
 }
 
-/// A page, so many times.
+/// A page, this many times.
 #[derive(Drop)]
 pub struct Pages {
     /// How many pages there are up to the last of these.
@@ -39,7 +39,7 @@ pub struct Pages {
     pub body: Option<Vec<u8>>,
 }
 
-/// Rows with the same dots: the first, and each so many rows below it, up to the last.
+/// Rows with the same dots: the first, and each this many rows below it, up to the last.
 #[derive(Drop)]
 pub struct Rows {
     /// The first row.

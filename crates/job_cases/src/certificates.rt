@@ -15,7 +15,7 @@
 //!   put 21: 05                       other bytes, in hexadecimal, from a place of the certificate on
 //!   insert 18: 00 00                 bytes more before a place
 //!   remove 18 4800                   bytes fewer from a place on: how many
-//!   cut 105649                       a prefix of so many bytes
+//!   cut 105649                       a prefix of this many bytes
 //!   cut 8-105649 by 997              the same, of each of these lengths: 8, 1005 and so on
 //!   answer Certificate(Short)        what `check_job` answers; this ends the case
 //! ```

@@ -1,7 +1,7 @@
 //! Whole jobs and what becomes of them: a table of named cases in text files, which `table` tells how to write.
 //! Each case is performed, and its pages are compared dot for dot, or its refusal word for word; then the job
 //! is written again, and what was written has to have the same pages. One more table has certificates that are
-//! changed and what is answered of them (`certificates`).
+//! changed and the verdicts on them (`certificates`).
 //!
 //! It prints how many cases hold; `stdout` has how many there are. A case that doesn't is printed with its job and
 //! with what came instead, and the status is then 1. The tables lie in the folder that its argument names, or

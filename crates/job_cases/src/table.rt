@@ -90,7 +90,7 @@ fn add_word(alloc: Global, case: &mut Case, word: &str, rest: &str) -> Result<()
     Ok(())
 }
 
-/// Adds so many times the page of a line, as `A4, 3 copies`.
+/// Adds this many times the page of a line, as `A4, 3 copies`.
 fn add_pages(alloc: Global, case: &mut Case, times: usize, page: &str) -> Result<(), TableFault> {
     let (name, copies) = page.split_once(", ").unwrap_or((page, "1 copies"));
     let (copies, _) = copies.split_once(' ').ok_or(TableFault::Unknown)?;
@@ -154,7 +154,7 @@ fn row_of(alloc: Global, text: &str) -> Result<Vec<u8>, TableFault> {
     Ok(row)
 }
 
-/// Adds zeros up to so many bytes.
+/// Adds zeros up to this many bytes.
 fn widen(row: &mut Vec<u8>, len: usize) -> Result<(), TableFault> {
     if len < row.len() || len > ROW_BYTES {
         return Err(TableFault::Row);

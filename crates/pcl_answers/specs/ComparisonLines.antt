@@ -30,7 +30,7 @@ size_text Letter = codes "Letter"
 size_text Legal = codes "Legal"
 size_text A4 = codes "A4"
 
--- what is told of the first job, and of the second
+-- what is said of the first job, and of the second
 abbrev pub pair_text : List ℕ → List ℕ → List ℕ → List ℕ
 pair_text label first second = label ++ first ++ codes " " ++ second
 

@@ -11,9 +11,9 @@ use pcl_tool::{CheckAnswer, check_images, check_job_watched};
 use std::alloc::Global;
 use std::io::Write;
 
-/// Reads the files, the input or the images first, checks the job, and writes the line of the answer; the watcher is told of each page
-/// that is done, and that the last one is before the line is written. Nothing is written after any fault but of a write, and then
-/// a prefix of the line.
+/// Reads the files, checks the job, and writes the line of the verdict. The input or the images are read first; the watcher is called
+/// for each page that is done, and at the end of the last one before the line is written. Nothing is written after any fault but of a
+/// write, and then a prefix of the line.
 pub fn check<F: JobFiles, W: Write, P: Watcher>(
     files: &F,
     alloc: Global,
@@ -45,7 +45,7 @@ pub fn check<F: JobFiles, W: Write, P: Watcher>(
     Ok(answer)
 }
 
-/// What is answered of a written job beside its input, or beside images of its pages.
+/// The verdict on a written job beside its input, or beside images of its pages.
 fn answer<P: Watcher>(
     alloc: Global,
     beside: Beside,

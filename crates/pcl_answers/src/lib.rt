@@ -1,4 +1,4 @@
-//! Jobs that are checked and compared, from files: what is answered, what is said of it, and how a run ends.
+//! Jobs that are checked and compared, from files: verdicts, their lines, and how a run ends.
 #![tactic(auto)]
 
 mod checks;

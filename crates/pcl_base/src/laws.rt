@@ -6,8 +6,7 @@ ghost use Rattle.pcl_base.specs.declared.size.Size.{Size};
 ghost use Rattle.pcl_base.specs.Method.{method_code, method_with_code};
 ghost use Rattle.pcl_base.specs.Size.{code_of, size_with_code};
 
-/// The numbers of page sizes and of methods lead back and forth: each has one, and no other number is its own. A law: the
-/// call does nothing.
+/// Page sizes and methods have one number each, and no other number is theirs. A law: the call does nothing.
 pub fn codes_lead_back()
     ensures size { (size : Size) → size_with_code (code_of size) ≡ Some size }
     ensures size_code { (code : ℕ) (size : Size) → size_with_code code ≡ Some size → code_of size ≡ code }

@@ -54,8 +54,9 @@ impl Name {
         }
     }
 
-    /// Appends the name as messages print it: its bytes, `text` for text, the code's own name for a
-    /// control code, and `-` for the empty name. Where memory runs out `out` stays as it was.
+    /// Appends the name as messages print it. That is its bytes, `text` for text, the code's own
+    /// name for a control code, and `-` for the empty name. Where memory runs out `out` stays as it
+    /// was.
     pub fn write_text(&self, out: &mut Vec<u8>) -> Result<(), AllocError>
         ensures { out.new.items ≡ (if is_ok result then out.old.items ++ name_text self.now else out.old.items) }
     {

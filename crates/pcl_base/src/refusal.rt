@@ -26,8 +26,8 @@ impl Refusal {
         Refusal { kind, at, name }
     }
 
-    /// Appends the refusal as messages print it: the kind, ` at `, the place in decimal, a space and
-    /// the name. Where memory runs out `out` stays as it was.
+    /// Appends the refusal as messages print it. That is the kind, ` at `, the place in decimal, a
+    /// space and the name. Where memory runs out `out` stays as it was.
     pub fn write_text(&self, out: &mut Vec<u8>) -> Result<(), AllocError>
         ensures ok { OnOk result (out.new.items ≡ out.old.items ++ refusal_text self.now) }
         ensures err { OnErr result (out.new.items ≡ out.old.items) }

@@ -80,7 +80,7 @@ impl Size {
         self.height(Dpi::Dpi300) * DOT_UNITS
     }
 
-    /// The bytes of a row of the page: eight dots to a byte, the last perhaps partly used.
+    /// The bytes of a row of the page. Eight dots make a byte, the last perhaps partly used.
     pub fn row_bytes(self, dpi: Dpi) -> usize
         ensures { result ≡ page_row_bytes self dpi }
     {

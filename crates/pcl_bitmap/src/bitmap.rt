@@ -107,10 +107,10 @@ impl Bitmap {
         self.bytes.fill(0);
     }
 
-    /// Paints a row of raster data: the first `width` bits of `row`, high bits first, are raster dots
-    /// from the dot `x` of row `y` on to the right, each a square of `scale` dots, and each set bit
-    /// inks its square (docs/LANGUAGE.md, "Raster graphics"). What lies past the right or the lower
-    /// edge of the page is left out, and a clear bit changes nothing.
+    /// Paints a row of raster data from the dot `x` of row `y` on to the right. The first `width`
+    /// bits of `row`, high bits first, are raster dots, each a square of `scale` dots, and each set
+    /// bit inks its square (docs/LANGUAGE.md, "Raster graphics"). What lies past the right or the
+    /// lower edge of the page is left out, and a clear bit changes nothing.
     pub fn paint_row(&mut self, x: u32, y: u64, scale: u32, width: u32, row: &[u8])
         requires scale { (1 ≤ scale) × (scale ≤ 8) }
         requires bits { width ≤ 8 * length row.now }
@@ -137,9 +137,8 @@ impl Bitmap {
         squares::paint_squares(&mut self.bytes, row_bytes, area, scale as usize, row);
     }
 
-    /// Inks a rectangle of `w` by `h` dots whose upper left corner is the dot `(x, y)`
-    /// (docs/LANGUAGE.md, "Rectangles"). What lies past the right or the lower edge of the page is
-    /// left out.
+    /// Inks a rectangle of `w` by `h` dots whose upper left corner is the dot `(x, y)`. What lies
+    /// past the right or the lower edge of the page is left out (docs/LANGUAGE.md, "Rectangles").
     pub fn fill(&mut self, x: u32, y: u32, w: u64, h: u64, ink: Ink)
         ensures size { self.new.size ≡ self.old.size }
         ensures dpi { self.new.dpi ≡ self.old.dpi }
@@ -166,10 +165,10 @@ impl Bitmap {
         fills::fill_rows(&mut self.bytes, row_bytes, area, ink);
     }
 
-    /// Paints the pattern of a character (PCL 5 manual, "Soft Font Creation"): `height` rows of `width` bits
-    /// in whole bytes, high bits first, each bit a square of `scale` dots and the first at the dot `(x, y)`,
-    /// which may lie left of or above the page. Each set bit inks its square; what lies off the page is left
-    /// out, and a clear bit changes nothing.
+    /// Paints the pattern of a character, whose first bit is at the dot `(x, y)`. It has `height` rows of
+    /// `width` bits in whole bytes, high bits first, each bit a square of `scale` dots; the first may lie
+    /// left of or above the page (PCL 5 manual, "Soft Font Creation"). Each set bit inks its square; what
+    /// lies off the page is left out, and a clear bit changes nothing.
     pub fn blit(&mut self, x: i32, y: i32, width: u16, height: u16, rows: &[u8], scale: u32)
         requires scale { (1 ≤ scale) × (scale ≤ 2) }
         requires rows { height * ((width + 7) / 8) ≤ length rows.now }

@@ -15,7 +15,7 @@ magic Two = codes "PCLCERT2"
 
 -- ---- what a certificate can hold
 
--- the size of pages that have so many rows
+-- the size of pages that have this many rows
 abbrev pub size_with_height : Dpi → ℕ → Option Size
 size_with_height dpi rows =
     if rows == page_height Executive dpi then Some Executive

@@ -49,7 +49,7 @@ AreSmall numbers =
     × (numbers.inside.runs < 2 ^ 32) × (numbers.outside.packed < 2 ^ 32) × (numbers.inside.packed < 2 ^ 32)
     × (numbers.outside.delta < 2 ^ 32) × (numbers.inside.delta < 2 ^ 32)
 
--- a list has at most so many numbers, and doesn't end in 0
+-- a list has at most this many numbers, and doesn't end in 0
 pub record IsList (most : ℕ) (numbers : List ℕ) : Type 0 where
   pub short : length numbers ≤ most
   pub small : AllByRecursion (λ n. n < 2 ^ 16) numbers

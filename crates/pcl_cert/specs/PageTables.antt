@@ -10,7 +10,7 @@ use Rattle.pcl_output.specs.PageText.{bitmap_rows}
 use Rattle.pcl_cert.specs.Certificates.{IsList}
 use Rattle.pcl_cert.specs.RowTables.{list_of}
 
--- the table that a list stands for: the numbers of so many places, 0 after the list's end
+-- the table that a list stands for: the numbers of this many places, 0 after the list's end
 abbrev pub table_of : ℕ → List ℕ → List ℕ
 table_of places list = take places (list ++ replicate places 0)
 

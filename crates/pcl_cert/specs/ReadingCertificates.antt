@@ -51,7 +51,7 @@ format_at bytes =
     if starts_with nat_eq bytes (magic One) then Ok (One, drop 8 bytes)
     else (if starts_with nat_eq bytes (magic Two) then Ok (Two, drop 8 bytes) else Err BadMagic)
 
--- the size of pages with so many rows
+-- the size of pages with this many rows
 abbrev pub sized : Option Size → Result Size CertFault
 sized None = Err Rows
 sized (Some size) = Ok size
@@ -78,7 +78,7 @@ row_numbers_at bytes = do
     delta.1,
   )
 
--- the numbers after so many rows
+-- the numbers after this many rows
 unfoldable pub table_at : ℕ → List ℕ → Result (List RowNumbers × List ℕ) CertFault
 table_at zero bytes = Ok ([], bytes)
 table_at (suc n) bytes = do
@@ -88,7 +88,7 @@ table_at (suc n) bytes = do
 
 -- ---- row tables
 
--- a list of at most so many numbers: its count is looked at before they are read, and the last of them after all
+-- a list of at most this many numbers: its count is looked at before they are read, and the last of them after all
 abbrev pub list_behind : ℕ → ℕ × List ℕ → Result (List ℕ × List ℕ) CertFault
 list_behind most count =
     if nat_lt most count.0 then Err Places

@@ -16,7 +16,7 @@ number_at_place lists row method place = slice_index_or (list_of lists row metho
 
 -- ---- lists in bytes
 
--- so many numbers of two bytes, the higher one first
+-- this many numbers of two bytes, the higher one first
 unfoldable pub numbers_from : ℕ → List ℕ → List ℕ
 numbers_from zero bytes = []
 numbers_from (suc n) bytes = from_be_bytes w16 (take 2 bytes) ∷ numbers_from n (drop 2 bytes)

@@ -50,9 +50,9 @@ pub enum Verdict {
     Proved,
 }
 
-/// Checks that a text prints a page and that none that does is shorter, by a table of numbers for the nodes of the page,
-/// whoever made it. Where there are row tables no coder is called: rows are counted with the first numbers of these. It
-/// fails only where memory runs out.
+/// Checks that a text prints a page and that none that does is shorter, by numbers for the nodes of the page. The
+/// numbers may come from anybody. Where there are row tables no coder is called: rows are counted with the first numbers
+/// of these. It fails only where memory runs out.
 pub fn check_page(
     alloc: Global,
     page: &Page,

@@ -18,7 +18,7 @@ pub enum CertFault {
     /// There are bytes after the last page.
     #[error("there are bytes behind the last page")]
     Extra,
-    /// No size of page has so many rows.
+    /// No size of page has this many rows.
     #[error("no size of page has so many rows")]
     Rows,
     /// A list of a row table is longer than a row, or ends in 0.

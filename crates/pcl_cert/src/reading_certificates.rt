@@ -18,8 +18,8 @@ use pcl_base::{Dpi, Size};
 use pcl_output::Table;
 use std::alloc::Global;
 
-/// What a certificate of pages at this resolution says of each page, and the format in which it says so
-/// (docs/CERTIFICATE.md). Row tables stay in its bytes. A fault is that of the first field where something is wrong.
+/// What a certificate says of each page, and its format. The pages are at this resolution (docs/CERTIFICATE.md). Row
+/// tables stay in its bytes. A fault is that of the first field where something is wrong.
 pub fn read_certificate(
     alloc: Global,
     bytes: &[u8],
@@ -54,7 +54,7 @@ fn read_all(
     Ok((format, proofs))
 }
 
-/// Reads what is said of so many pages.
+/// Reads what is said of this many pages.
 fn proofs_at(
     alloc: Global,
     count: u32,
@@ -97,7 +97,7 @@ fn proof_at(
     Ok((proof, rest))
 }
 
-/// The size of pages with so many rows.
+/// The size of pages with this many rows.
 fn size_with_height(rows: u32, dpi: Dpi) -> Result<Size, CertFault>
     ensures size { Gives (λ size. size) result (sized (size_with_height dpi rows)) }
     ensures height { IfOk result (λ size. page_height size dpi ≡ rows) }
@@ -115,7 +115,7 @@ fn size_with_height(rows: u32, dpi: Dpi) -> Result<Size, CertFault>
     }
 }
 
-/// Reads the table of a page of so many rows.
+/// Reads the table of a page of this many rows.
 fn table_at(alloc: Global, rows: u32, bytes: &[u8]) -> Result<(Table, &[u8]), CertFault>
     requires { rows ≤ 10000 }
     ensures { Gives (λ x. (x.0, x.1.now)) result (table_at (rows + 1) bytes.now) }
@@ -130,7 +130,7 @@ fn table_at(alloc: Global, rows: u32, bytes: &[u8]) -> Result<(Table, &[u8]), Ce
     Ok((Table::of(numbers), rest))
 }
 
-/// Reads the row tables of a page of so many rows of so many bytes, where the format has any.
+/// Reads the row tables of a page of this many rows of this many bytes, where the format has any.
 #[tactic(auto, unfolding(crate::specs::ReadingCertificates::places_at))]
 fn places_at(
     alloc: Global,
@@ -151,7 +151,7 @@ fn places_at(
     }
 }
 
-/// Reads four lists of at most so many numbers for each row.
+/// Reads four lists of at most this many numbers for each row.
 fn lists_at(
     alloc: Global,
     rows: u32,
@@ -170,7 +170,7 @@ fn lists_at(
     Ok((RowTables::within(Bytes::Lent(bytes), starts), rest))
 }
 
-/// The bytes after a list of at most so many numbers.
+/// The bytes after a list of at most this many numbers.
 #[tactic(auto, unfolding(crate::specs::ReadingCertificates::list_at))]
 fn behind_list(bytes: &[u8], most: usize) -> Result<&[u8], CertFault>
     ensures { Gives (λ rest. rest.now) result (behind (list_at most bytes.now)) }

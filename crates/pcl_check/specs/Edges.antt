@@ -11,7 +11,7 @@ use Rattle.pcl_output.specs.Spelling.{setting_cost, row_cost}
 
 -- ---- good numbers
 
--- the number of the node after so many rows, in a method, inside a sequence or outside
+-- the number of the node after this many rows, in a method, inside a sequence or outside
 abbrev pub number_at : (Node → ℕ) → ℕ → Method → Bool → ℕ
 number_at number row method inside = number (record { row = row; method = method; inside = inside })
 
@@ -76,7 +76,7 @@ inside_code true = 1
 abbrev pub place_of : ℕ → Method → Bool → ℕ
 place_of row method inside = 8 * row + 2 * method_code method + inside_code inside
 
--- the first node, down to so many rows, whose number isn't good
+-- the first node, down to this many rows, whose number isn't good
 pub record IsFirstBad (Good : ℕ → Method → Bool → Type 0) (last : ℕ) (bad : Node) : Type 0 where
   pub within : bad.row ≤ last
   pub is_bad : Good bad.row bad.method bad.inside → ⊥

@@ -25,10 +25,10 @@ use pcl_output::{Node, Table, row_cost};
 use skips::first_bad_skip;
 use std::alloc::{AllocError, Global};
 
-/// The first number of a table, in the order of certificates, that is above what some step costs and the number
-/// where that leads, or that isn't 0 though the text may end there; none where there is no such number. All steps of all
-/// nodes are tested, whoever made the table. A row is counted with the length that `lengths` gives. It takes
-/// time in proportion to the page's rows, besides what the lengths take, and fails only where memory runs out.
+/// The first number of a table, in the order of certificates, that isn't good, if there is one. It is above what some
+/// step costs and the number where that leads, or isn't 0 though the text may end there. All steps of all nodes are
+/// tested, whoever made the table. A row is counted with the length that `lengths` gives. It takes time in proportion to
+/// the page's rows, besides what the lengths take, and fails only where memory runs out.
 pub fn first_bad_number<L: RowLengths>(
     alloc: Global,
     lengths: &L,

@@ -23,10 +23,10 @@ use windows::first_undercut;
 /// The places of the longest row, and its end.
 pub const PLACES: usize = ROW_LIMIT + 1;
 
-/// The first place of a row whose number is above the bytes of some element that agrees with the row and the number
-/// where that stops, or isn't 0 though no more data is needed there; none where the numbers are a row table. All elements
-/// are tested at all places, whoever made the numbers. It takes time in proportion to the row's bytes, and no memory; numbers
-/// that never grow, as least numbers don't, are mostly found good by a few passes (`steady`).
+/// The first place of a row whose number isn't good, if there is one. It is above the bytes of some element that agrees with
+/// the row and the number where that stops, or isn't 0 though no more data is needed there. Without such a place the numbers
+/// are a row table. All elements are tested at all places, whoever made the numbers. It takes time in proportion to the row's
+/// bytes, and no memory; numbers that never grow, as least numbers don't, are mostly found good by a few passes (`steady`).
 pub fn first_bad_place(method: Method, row: &[u8], seed: &[u8], numbers: &[u16]) -> Option<usize>
     requires codable { IsCodable seed.now row.now }
     requires size { length numbers.now ≡ length row.now + 1 }

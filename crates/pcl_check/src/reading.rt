@@ -24,8 +24,8 @@ pub enum TextVerdict {
     Prints,
 }
 
-/// Reads a text beside a page: whether it is a page text at the page's resolution, and whether it prints the page
-/// (docs/OUTPUT.md). It takes no memory, and its time grows with the bytes of the text and the rows of the page.
+/// Whether a text is a page text at a page's resolution, and prints the page (docs/OUTPUT.md). It takes no
+/// memory, and its time grows with the bytes of the text and the rows of the page.
 pub fn read_page_text(page: &Page, text: &[u8]) -> TextVerdict
     ensures { IsTextVerdict page.now text.now result }
 {

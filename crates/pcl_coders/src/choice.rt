@@ -128,7 +128,7 @@ fn least_of_eight(numbers: &[u16]) -> u16
         .min(numbers[8] + 8)
 }
 
-/// The longest literal, of at most so many bytes, that begins data of the first number. Numbers never grow to the
+/// The longest literal, of at most this many bytes, that begins data of the first number. Numbers never grow to the
 /// right, so a length that has some bytes too many is that far from the next that may do.
 fn literal_len(numbers: &[u16], most: usize) -> Option<usize>
     requires within { most < length numbers.now }

@@ -29,8 +29,8 @@ pub trait RowCoder {
         table::least(self.method(), row, seed)
     }
 
-    /// For each place of a row, and for its end, how many bytes the rest of the row needs at least. `out`
-    /// is one longer than the row.
+    /// How many bytes the rest of a row needs at least, from each place and from its end. `out` is one
+    /// longer than the row.
     fn places(&self, row: &[u8], seed: &[u8], out: &mut [u16])
         requires codable { IsCodable seed.now row.now }
         requires size { length out.old ≡ length row.now + 1 }
@@ -48,8 +48,8 @@ pub trait RowCoder {
         table::append(self.method(), row, seed, out)
     }
 
-    /// The same along the least numbers of the row, as `places` gives them: a table is filled once for the
-    /// length, its first number, and for the data.
+    /// The same along the least numbers of the row, as `places` gives them. So a table is filled once for
+    /// the length, its first number, and for the data.
     fn write_along(
         &self,
         row: &[u8],

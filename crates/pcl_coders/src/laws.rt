@@ -22,14 +22,14 @@ pub fn first_number_is_least()
         → IsLeastLength method seed row (slice_index table 0) }
 {}
 
-/// Each of the least numbers is the least cost of a walk from its place: no elements that give the rest of
+/// Each of the least numbers is the least cost of a walk from its place. No elements that give the rest of
 /// the row have fewer bytes, and some have as many.
 pub fn numbers_are_least()
     ensures { (method : Method) (seed row table : List ℕ) (place : ℕ) → IsLeastTable method seed row table → place ≤ length row
         → IsLeastCost (Leads method (base method seed) row) (Ends (base method seed) row) cost place (slice_index table place) }
 {}
 
-/// An earlier start of a replacement is never shorter: for elements of method 3 that give the rest of a row there
+/// An earlier start of a replacement is never shorter. For elements of method 3 that give the rest of a row there
 /// are others of no more bytes whose first one starts at the first byte that differs from the row before.
 pub fn latest_start_is_as_good()
     ensures { (old row : List ℕ) (steps : List Element) (place start : ℕ) → length old ≡ length row → IsLatestStart old row place start

@@ -76,7 +76,7 @@ fn append_command(offset: usize, len: usize, out: &mut Vec<u8>) -> Result<(), Al
     }
 }
 
-/// Appends a command byte, and the bytes that lengthen its offset by so many.
+/// Appends a command byte, and the bytes that lengthen its offset by this many.
 fn append_lengthened(command: u8, more: usize, out: &mut Vec<u8>) -> Result<(), AllocError>
     ensures ok { OnOk result (out.new.items ≡ out.old.items ++ command ∷ (replicate (more / 255) 255 ++ more % 255 ∷ [])) }
     ensures err { OnErr result (take (length out.old.items) out.new.items ≡ out.old.items) }

@@ -41,7 +41,7 @@ pub fn report_shrunk<P: Reporter>(
     Ok(())
 }
 
-/// What is said of a job of so many bytes that was shrunk.
+/// What is said of a job of this many bytes that was shrunk.
 fn shrunk_line(alloc: Global, len: usize, shrunk: &Shrunk) -> Result<Vec<u8>, AllocError> {
     let mut line = Vec::from_slice(alloc, b"pclmin: ")?;
     append_number(len, b" bytes in, ", &mut line)?;

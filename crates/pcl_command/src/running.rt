@@ -75,7 +75,7 @@ fn do_request<F: JobFiles, R: Read, W: Write, P: Reporter>(
     }
 }
 
-/// Who is told of the pages of a run: nobody where it is to be quiet.
+/// The watcher of the pages of a run: none where it is to be quiet.
 fn told_of<P: Reporter>(quiet: bool, watcher: P) -> Option<P>
     ensures { result ≡ (if quiet then None else Some watcher) }
 {

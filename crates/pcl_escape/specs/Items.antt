@@ -11,7 +11,7 @@ name_with (first ∷ second ∷ third ∷ []) =
     if third == 0 then (if second == 0 then One first else Two first second) else Three first second third
 name_with other = Empty
 
--- the bytes of the job from a place on, so many of them
+-- the bytes of the job from a place on, this many of them
 abbrev pub bytes_in : List ℕ → ℕ → ℕ → List ℕ
 bytes_in job begin len = take len (drop begin job)
 

@@ -15,7 +15,7 @@ const LANGUAGE: &[u8] = b"@PJLENTERLANGUAGE=";
 /// The same of the line that asks for PCL.
 const PCL: &[u8] = b"@PJLENTERLANGUAGE=PCL";
 
-/// So many bytes of a line tell what it asks for: one more than the line has that asks for PCL.
+/// This many bytes of a line tell what it asks for: one more than the line has that asks for PCL.
 const FRONT: usize = 22;
 
 /// The bytes after the lines of the job language, or the place of a line that asks for another language

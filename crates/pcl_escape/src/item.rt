@@ -89,7 +89,7 @@ fn name_with(bytes: [u8; 3]) -> Name
     }
 }
 
-/// The bytes of the job from a place on, so many of them, as far as there are any.
+/// The bytes of the job from a place on, this many of them, as far as there are any.
 fn bytes_in(job: &[u8], begin: usize, len: usize) -> &[u8]
     ensures { result.now ≡ bytes_in job.now begin len }
 {

@@ -14,8 +14,8 @@ use crate::{Command, Commands};
 use pcl_base::JobFault;
 use std::alloc::{AllocError, Global};
 
-/// The commands of a job (docs/LANGUAGE.md, "Reading"), from its first byte to its last; or its first
-/// fault, by kind, place and name; or out of memory. The data of a command are a slice of the job.
+/// The commands of a job, or its first fault, by kind, place and name; or out of memory. The data of
+/// a command are a slice of the job (docs/LANGUAGE.md, "Reading").
 pub fn read_job<'a>(alloc: Global, job: &'a [u8]) -> Result<Vec<Command<'a>>, JobFault>
     // The commands are those of a reading of the job.
     ensures reading { IfOk result (λ commands. IsReading job.now (views commands.items)) }
@@ -29,7 +29,7 @@ pub fn read_job<'a>(alloc: Global, job: &'a [u8]) -> Result<Vec<Command<'a>>, Jo
     }
 }
 
-/// The commands of a job as [`read_job`] gives them, in half of the memory: each is made anew where it is asked for. A job of
+/// The commands of a job as [`read_job`] gives them, in half of the memory. Each is made anew where it is asked for. A job of
 /// 4,294,967,296 bytes or more, whose places need more than 32 bits, is out of memory.
 pub fn read_commands<'a>(alloc: Global, job: &'a [u8]) -> Result<Commands<'a>, JobFault>
     ensures reading { IfOk result (λ commands. IsReading job.now commands) }
@@ -70,7 +70,7 @@ fn scan<'a, S: CommandStore<'a>>(job: &'a [u8], store: &mut S) -> Result<(), Job
     Ok(())
 }
 
-/// Appends the command of a step, if it gave one, after which so many bytes are left.
+/// Appends the command of a step, if it gave one, after which this many bytes are left.
 fn append<'a, S: CommandStore<'a>>(
     store: &mut S,
     command: Option<Command<'a>>,

@@ -13,7 +13,7 @@ pub trait CommandStore<'a> {
     /// The commands of a job that it keeps.
     ghost kept: { List ℕ → Self → List Said };
 
-    /// Appends a command of a job, after whose data so many bytes are left.
+    /// Appends a command of a job, after whose data this many bytes are left.
     fn append(&mut self, command: Command<'a>, job: &'a [u8], left: usize) -> Result<(), AllocError>
         requires { IsPlaced job.now left (view command) }
         ensures { OnOk result (kept job.now self.new ≡ kept job.now self.old ++ view command.entry ∷ []) };

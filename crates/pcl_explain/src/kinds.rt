@@ -38,7 +38,7 @@ pub fn kind_named(name: &str) -> Option<Kind>
     None
 }
 
-/// What is to be said of a kind of refusal: its name, and in the same line what it means and what can be done.
+/// A line on a kind of refusal: its name, what it means and what can be done.
 pub fn kind_explanation(alloc: Global, kind: Kind) -> Result<Vec<u8>, AllocError>
     ensures { IfOk result (λ text. ExplainsKind kind text.items) }
 {

@@ -11,7 +11,7 @@ use itoa::Buffer;
 use pcl_base::{Dpi, Kind, Sign, Value};
 use std::alloc::{AllocError, Global};
 
-/// What is to be said of a job: `nothing is refused`, or a line for each thing that is, and one on its language where that is
+/// A line for each thing that is refused in a job, or `nothing is refused`. One line is on the job's language where that is
 /// another than PCL 5.
 pub fn explanation(alloc: Global, job: &[u8], dpi: Dpi) -> Result<Vec<u8>, AllocError>
     ensures { IfOk result (λ text. Explains dpi job.now text.items) }

@@ -17,7 +17,7 @@ const FINDING_LIMIT: usize = 100;
 /// How often a job is performed at most after its first refusal.
 const PERFORMING_LIMIT: usize = 32;
 
-/// What the rules refuse in a job: the refusal of the job, and then that of the job without all commands like those that were
+/// What the rules refuse in a job. That is the refusal of the job, and then that of the job without all commands like those that were
 /// refused before, up to 100 in all. Where a value is refused, the commands of its name with other values that are refused by themselves
 /// are found with it, so that the job is performed once for each name, and 32 times at most. None exactly where the job is accepted.
 pub fn find_refusals(alloc: Global, job: &[u8], dpi: Dpi) -> Result<Option<Findings>, AllocError>

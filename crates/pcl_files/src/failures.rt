@@ -18,7 +18,7 @@ pub enum Failure {
 }
 
 impl Failure {
-    /// Of a fault of a run that was asked for a page.
+    /// The failure for a fault of a run that was asked for a page.
     pub fn of(alloc: Global, fault: &Fault, page: usize) -> Failure
         ensures { HasFailed (line_of fault.now page) (status_for fault.now) result }
     {
@@ -31,7 +31,7 @@ impl Failure {
         }
     }
 
-    /// Of a file that can't be begun.
+    /// The failure for a file that can't be begun.
     pub fn of_file(alloc: Global, why: FileFault) -> Failure
         ensures { HasFailedFile why result }
     {
@@ -51,7 +51,7 @@ impl Failure {
         }
     }
 
-    /// Of a usage fault, with the line that is said of it.
+    /// The failure for a usage fault, with its line.
     pub fn usage(alloc: Global, said: &[u8]) -> Failure
         ensures { HasFailed said.now 2 result }
     {
@@ -79,7 +79,7 @@ impl Failure {
     }
 }
 
-/// How a run ended that was asked for a page, by what became of it.
+/// How a run ended, by what became of it. It was asked for a page.
 pub fn outcome(alloc: Global, done: Result<(), Fault>, page: usize) -> Result<(), Failure>
     ensures { IsOutcome page done result }
 {

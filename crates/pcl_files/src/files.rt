@@ -77,8 +77,8 @@ pub trait JobFiles {
         ensures opened { IfOk result (λ file. acts self.now (Opened name.now (Self.Reader.remaining file)) self.now) }
         ensures unopened { OnErr result (acts self.now (Unopened name.now) self.now) };
 
-    /// Whether two names are those of one file, by what the files themselves say of it and not by how the names are written. A
-    /// name may have no file yet.
+    /// Whether two names are those of one file. The files themselves say so, and not how the names are written. A name may
+    /// have no file yet.
     fn are_one(&self, name: &str, other: &str) -> bool
         ensures { MatchBool result (acts self.now (OneFile name.now other.now) self.now)
             (acts self.now (TwoFiles name.now other.now) self.now) };
@@ -91,7 +91,7 @@ pub trait JobFiles {
         ensures made { OnOk result (acts self.old (FolderMade name.now) self.new) }
         ensures unmade { IfErr result (λ why. acts self.old (Unbegun name.now why) self.new) };
 
-    /// Begins a file that is to take the place of what this name has now, which stays until then. After an error nothing was
+    /// Begins a file that is to take the place of what this name has. That stays until then. After an error nothing was
     /// begun.
     fn begin(&mut self, name: &str) -> Result<Self::Writer, FileFault>
         ensures begun { IfOk result (λ file. acts self.old (Begun name.now (Self.Writer.contents file)) self.new) }

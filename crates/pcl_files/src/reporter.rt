@@ -1,18 +1,18 @@
-//! Who is told what there is to say of a run.
+//! Reporters: what there is to say of a run, and how far it has come.
 
 use pcl_streams::Watcher;
 
-/// Is told what there is to say of a run besides what it writes, and how far it has come. No contract speaks of what it does
+/// Reports what there is to say of a run besides what it writes, and how far it has come. No contract speaks of what it does
 /// then.
 pub trait Reporter: Watcher {
-    /// A line, with its line feed.
+    /// Reports a line, with its line feed.
     fn report(&self, line: &[u8]);
 
-    /// As many jobs are done, of as many.
+    /// Reports how many jobs are done, of how many.
     fn jobs_done(&self, done: usize, jobs: usize);
 }
 
-/// Where there is no reporter, nobody is told.
+/// Where there is no reporter, nothing is reported.
 impl<P: Reporter> Reporter for Option<P> {
     fn report(&self, line: &[u8]) {
         if let Some(reporter) = self {

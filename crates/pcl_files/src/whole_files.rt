@@ -17,7 +17,7 @@ pub fn read_file<F: JobFiles>(files: &F, alloc: Global, name: &str) -> Result<Ve
     }
 }
 
-/// Places a file that was begun for a name where the task that wrote it is done, and drops it where that failed.
+/// Places a file that was begun where the task that wrote it is done, and else drops it.
 pub fn settle<F: JobFiles>(
     files: &mut F,
     name: &str,
@@ -56,8 +56,8 @@ pub fn settle_aside<F: JobFiles>(
     }
 }
 
-/// Settles the files of a job and its certificate: both take their places where the task that wrote them is done, or neither does.
-/// Where the job is refused its file is dropped, and the other one settled without a byte.
+/// Settles the files of a job and its certificate: both take their places, or neither does. Where the job is refused its file is
+/// dropped, and the other one settled without a byte.
 pub fn settle_both<F: JobFiles>(
     files: &mut F,
     name: &str,
@@ -80,7 +80,7 @@ pub fn settle_both<F: JobFiles>(
     }
 }
 
-/// Writes a file of these bytes, which takes the place of what its name had only where it is whole. After a fault, which is
+/// Writes a file of these bytes. It takes the place of what its name had only where it is whole. After a fault, which is
 /// WriteFault or Memory, what was there stays.
 pub fn write_file<F: JobFiles>(files: &mut F, name: &str, bytes: &[u8]) -> Result<(), Fault>
     ensures { IsFileWritten F.acts name.now bytes.now files.old files.new result }

@@ -28,7 +28,7 @@ pub fn blank_code(number: usize) -> u8 {
     }
 }
 
-/// The font and the code of the character of this rank, where each font has so many blanks. None is left for those of
+/// The font and the code of the character of this rank, where each font has this many blanks. None is left for those of
 /// too high a rank.
 pub fn code_of_rank(rank: usize, blanks: usize) -> Option<Code> {
     let first = blanks.saturating_sub(1);

@@ -5,7 +5,7 @@ use indexmap::IndexMap;
 use pcl_patterns::{Letter, Letters, Patterns, number_of_place};
 use std::alloc::{AllocError, Global};
 
-/// The usual advance of a glyph is the least that at least one in so many of its letters has.
+/// The usual advance of a glyph is the least that one in this many of its letters has, or more.
 const USUAL_PART: u32 = 20;
 
 /// How many gaps are made by blanks, at most.

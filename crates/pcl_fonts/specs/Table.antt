@@ -87,7 +87,7 @@ character_in g = record { left = g.left; top = g.top; width = g.width; height = 
 abbrev pub stored_in : Entry → Stored
 stored_in e = record { font = font_in e; characters = map (λ c. (c.0, character_in c.1)) e.characters.entries }
 
--- after so many deletions of temporary fonts one is there that is permanent, or that was sent or marked after the last of them
+-- after this many deletions of temporary fonts one is there that is permanent, or that was sent or marked after the last of them
 abbrev pub is_there : ℕ → Entry → Bool
 is_there deletions entry = entry.is_permanent || nat_eq entry.deletions deletions
 

@@ -39,7 +39,7 @@ pub struct Entry<'a> {
 }
 
 impl<'a> Entry<'a> {
-    /// Whether it is still there after so many deletions of temporary fonts.
+    /// Whether it is still there after this many deletions of temporary fonts.
     fn is_there(&self, deletions: u16) -> bool
         ensures { result ≡ is_there deletions self.now }
     {
@@ -87,8 +87,8 @@ impl<'a> Fonts<'a> {
         }
     }
 
-    /// Takes the header of a font for an ID (`ESC)s#W`): a new font without characters, temporary, in place of any other
-    /// of the ID. FontHeader where the data are no header that is taken. After an error nothing has changed.
+    /// Takes the header of a font for an ID (`ESC)s#W`). It is a new font without characters, temporary, in place of any
+    /// other of the ID. FontHeader where the data are no header that is taken. After an error nothing has changed.
     pub fn header(&mut self, id: u16, bytes: &'a [u8]) -> Result<(), CallFault>
         ensures { HasHeader id bytes.now result self.old self.new }
     {
@@ -221,8 +221,8 @@ impl<'a> Fonts<'a> {
         self.entry(id).map(|entry| entry.info)
     }
 
-    /// The character that text prints for a code in the font of an ID: one that is there, of a code that fonts of this
-    /// type have.
+    /// The character that text prints for a code in the font of an ID, if there is one. The code is one that fonts of
+    /// this type have.
     pub fn glyph(&self, id: u16, code: u8) -> Option<Glyph<'a>>
         ensures { option_map character_in result ≡ printed self.now id code }
     {

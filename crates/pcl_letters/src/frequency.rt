@@ -31,7 +31,7 @@ impl Frequency {
             .unwrap_or(true)
     }
 
-    /// About how many bytes so many of all shapes of a pattern take in rasters, which are no letters.
+    /// About how many bytes this many of all shapes of a pattern take in rasters, which are no letters.
     pub fn raster_bytes(&self, pattern: u32, count: usize, all: usize) -> usize {
         let count = i64::try_from(count).unwrap_or(0);
         let all = i64::try_from(all).unwrap_or(0);
@@ -39,7 +39,7 @@ impl Frequency {
         usize::try_from(quotient(cost, all.saturating_mul(FINE))).unwrap_or(0)
     }
 
-    /// Looks at all patterns once more, which have so many shapes.
+    /// Looks at all patterns once more, which have this many shapes.
     fn look_again(
         &mut self,
         alloc: Global,

@@ -209,7 +209,7 @@ impl<'a> Apart<'a> {
             .saturating_add(self.freed(collection, pair.second, count))
     }
 
-    /// About how many bytes fewer a pattern takes without so many of its shapes: what prints it isn't sent where none is left.
+    /// About how many bytes fewer a pattern takes without this many of its shapes: what prints it isn't sent where none is left.
     fn freed(self, collection: &Collection, pattern: u32, count: usize) -> usize {
         let all = self.uses.get(pattern as usize).copied().unwrap_or(0);
         if !self.frequency.is_letter(pattern) {
@@ -330,7 +330,7 @@ fn add_pattern(
     Ok(())
 }
 
-/// Joins these pairs of shapes to patterns of these numbers. What is left moves to the front, behind what was looked at.
+/// Joins these pairs of shapes to patterns of these numbers. What is left moves to the front, after what was looked at.
 fn join_items(
     collection: &mut Collection,
     pairs: &IndexMap<Pair, usize>,

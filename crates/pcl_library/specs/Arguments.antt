@@ -66,7 +66,7 @@ IsTooLong bytes = input_limit < length bytes
 
 -- ---- which arguments are right
 
--- an input isn't too long, or is answered so
+-- an input isn't too long, or is reported to be
 abbrev pub IsWithinLimit : List ℕ → Result (Unit {0}) Failure → Type 0
 IsWithinLimit bytes (Ok unit) = length bytes ≤ input_limit
 IsWithinLimit bytes (Err failure) = (failure ≡ Run run.TooLong) × IsTooLong bytes

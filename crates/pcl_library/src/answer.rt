@@ -44,7 +44,7 @@ impl Answer {
     ghost use Rattle.pcl_library.specs.Answers.{IsLineOf, Tells};
     ghost use Rattle.pcl_library.specs.Failures.{job_number};
 
-    /// Where nothing is told yet of a call that is done at a resolution of so many dots per inch.
+    /// An answer that says nothing yet of a call that is done at this many dots per inch.
     fn blank(resolution: u32) -> Answer
         ensures outcome { result.outcome ≡ 0 }
         ensures resolution { result.resolution ≡ resolution }

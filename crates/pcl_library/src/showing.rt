@@ -12,7 +12,8 @@ use pcl_base::Dpi;
 use pcl_tool::{Fault, PageChoice, preview_pages};
 use std::alloc::Global;
 
-/// `pclmin_preview`: the pages from `first` to `last`, counted from 1, as PBM images, one after the other; all pages by 0 and 0.
+/// `pclmin_preview`: the pages from `first` to `last` as PBM images. Pages are counted from 1, and stand one after the other; 0
+/// and 0 are all pages.
 #[unsafe(no_mangle)]
 pub extern "C" fn pcl_library_preview(
     alloc: Global,

@@ -60,7 +60,7 @@ macro_in body = record { from = body.from; to = body.to; permanent = body.is_per
 abbrev pub begun_in : Definition → Begun
 begun_in definition = record { id = definition.id; from = definition.from }
 
--- after so many deletions of temporary macros one is there that is permanent, or that was defined or marked after the last of them
+-- after this many deletions of temporary macros one is there that is permanent, or that was defined or marked after the last of them
 abbrev pub is_there : ℕ → Body → Bool
 is_there deletions body = body.is_permanent || nat_eq body.deletions deletions
 

@@ -37,7 +37,7 @@ pub struct Body {
 }
 
 impl Body {
-    /// Whether it is still there after so many deletions of temporary macros.
+    /// Whether it is still there after this many deletions of temporary macros.
     fn is_there(self, deletions: u16) -> bool
         ensures { result ≡ is_there deletions self }
     {
@@ -92,7 +92,7 @@ impl Macros {
         }
     }
 
-    /// Begins the definition of a macro (`ESC&f0X`), whose first command is at a place in the list of commands.
+    /// Begins the definition of a macro (`ESC&f0X`) at a place in the list of commands.
     pub fn begin(&mut self, id: u16, from: usize)
         requires { is_begun self.old ≡ false }
         ensures { self.new ≡ record self.old { begun = Some (record { id = id; from = from }) } }
@@ -100,7 +100,7 @@ impl Macros {
         self.begun = Some(Definition { id, from });
     }
 
-    /// Ends the definition (`ESC&f1X`) before a place in the list of commands: what stands between is the macro of its ID,
+    /// Ends the definition (`ESC&f1X`) before a place in the list of commands. What stands between is the macro of its ID,
     /// temporary, in place of any other. MacroControl where no definition is open. After an error nothing has changed.
     pub fn end(&mut self, to: usize) -> Result<(), CallFault>
         ensures { HasEnd to result self.old self.new }

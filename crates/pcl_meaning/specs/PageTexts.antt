@@ -26,7 +26,7 @@ abbrev pub job_commands : {dpi : Dpi} {size : Size} {copies : ℕ} {rows : List 
     → IsPageText dpi size copies rows text → ℕ
 job_commands printed = command_count printed.tokens + 12
 
--- the job is accepted, and all that it means is so many copies of one page of this size with these rows, dot for dot
+-- the job is accepted, and all that it means is this many copies of one page of this size with these rows, dot for dot
 pub record MeansRows (dpi : Dpi) (size : Size) (copies : ℕ) (rows : List (List ℕ)) (job : List ℕ) : Type 0 where
   pub sheet : Sheet
   pub meaning : HasPages dpi job (sheet ∷ [])

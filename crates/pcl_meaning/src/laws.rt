@@ -6,15 +6,15 @@ ghost use Rattle.pcl_page.specs.Jobs.{HasAsks};
 ghost use Rattle.pcl_meaning.specs.JobTexts.{IsJobOf, nothing_for};
 ghost use Rattle.pcl_meaning.specs.PageTexts.{PageTextsMeanTheirPages};
 
-/// A page text, in any spelling, with any methods and of any size and number of copies, is between two resets
-/// a job that is accepted, and it means the page that the text prints and no other: what the grammar of texts
-/// says and what the rules of reading and performing say agree.
+/// A page text between two resets is a job that is accepted, and it means the page that the text prints and
+/// no other. So it is in any spelling, with any methods and of any size and number of copies: what the
+/// grammar of texts says and what the rules of reading and performing say agree.
 pub fn page_texts_mean_their_pages()
     ensures { PageTextsMeanTheirPages }
 {}
 
-/// A job written again asks the printer for nothing besides dots: for no sides, trays or bins, and no universal
-/// exit stands in it.
+/// A job written again asks the printer for nothing besides dots. It asks for no sides, trays or bins, and no
+/// universal exit stands in it.
 pub fn written_jobs_ask_for_nothing()
     ensures { (dpi : Dpi) (input output : List ℕ) → (written : IsJobOf dpi input output) → HasAsks dpi output (nothing_for written.pages) }
 {}

@@ -9,7 +9,7 @@ use Rattle.pcl_output.specs.PageText.{IsPageText}
 abbrev pub fixed_bytes : Dpi → Size → ℕ → ℕ
 fixed_bytes dpi size copies = length (start_bytes dpi copies size) + length end_bytes
 
--- the least length of a page text that prints so many copies of these rows: some text has it, and none is shorter
+-- the least length of a page text that prints this many copies of these rows: some text has it, and none is shorter
 pub record IsLeastText (dpi : Dpi) (size : Size) (copies : ℕ) (rows : List (List ℕ)) (least : ℕ) : Type 0 where
   pub attained : (text : List ℕ) × IsPageText dpi size copies rows text × (length text ≡ least)
   pub shortest : (text : List ℕ) → IsPageText dpi size copies rows text → least ≤ length text

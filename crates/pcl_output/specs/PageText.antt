@@ -9,7 +9,7 @@ use Rattle.pcl_bitmap.specs.Bitmap.{Picture, dot_of_row}
 use Rattle.pcl_bitmap.specs.declared.page.Page.{Page}
 use Rattle.pcl_output.specs.Tokens.{Token, token_bytes, PrintsRows, start_bytes, end_bytes}
 
--- so many rows of so many bytes
+-- this many rows of this many bytes
 unfoldable pub rows_from : ℕ → ℕ → List ℕ → List (List ℕ)
 rows_from zero width bytes = []
 rows_from (suc count) width bytes = take width bytes ∷ rows_from count width (drop width bytes)
@@ -26,7 +26,7 @@ IsRowOf size dpi row = (length row ≡ page_row_bytes size dpi) × ((x : ℕ) �
 abbrev pub PrintsAll : Size → Dpi → List Token → List (List ℕ) → Type 0
 PrintsAll size dpi tokens rows = PrintsRows false Plain (replicate (page_row_bytes size dpi) 0) tokens rows
 
--- a text that prints so many copies of a page of this size, whose rows are these
+-- a text that prints this many copies of a page of this size, whose rows are these
 pub record IsPageText (dpi : Dpi) (size : Size) (copies : ℕ) (rows : List (List ℕ)) (text : List ℕ) : Type 0 where
   pub some_copies : 0 < copies
   pub few_copies : copies < 100

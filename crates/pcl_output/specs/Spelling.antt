@@ -16,7 +16,7 @@ digit_count n = length (least_spelling n)
 abbrev pub setting_cost : ℕ → ℕ
 setting_cost number = digit_count number + 1
 
--- a row of so many bytes of data
+-- a row of this many bytes of data
 abbrev pub row_cost : ℕ → ℕ
 row_cost bytes = setting_cost bytes + bytes
 

@@ -36,7 +36,7 @@ node_number table node = number_in (slice_index_or table node.row no_numbers) no
 
 -- ---- numbers after the same rows
 
--- the number after so many rows, outside a sequence and inside one, and the lesser of the two
+-- the number after this many rows, outside a sequence and inside one, and the lesser of the two
 abbrev pub outside : (Node → ℕ) → ℕ → Method → ℕ
 outside number row method = number (record { row = row; method = method; inside = false })
 

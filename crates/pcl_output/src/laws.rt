@@ -20,8 +20,8 @@ pub fn printing_is_walking()
         → (PrintsRows false methods.Plain (replicate width 0) tokens rows) ↔ (Walk (Leads width rows) (Ends rows) start tokens) }
 {}
 
-/// No page text that prints these rows is shorter than its fixed part and the number of the first node in a
-/// feasible table, whoever made the table.
+/// No page text of these rows is shorter than its fixed part and the first node's number in a feasible
+/// table. The table may come from anybody.
 pub fn feasible_numbers_bound_texts()
     ensures { (dpi : Dpi) (size : Size) (copies : ℕ) (rows : List (List ℕ)) (text : List ℕ) (number : Node → ℕ)
         → IsFeasible (Leads (page_row_bytes size dpi) rows) (Ends rows) cost number → IsPageText dpi size copies rows text

@@ -5,10 +5,10 @@ use pcl_base::Method;
 /// A parameter of a page text's body (docs/OUTPUT.md, "Page texts").
 #[derive(Clone, Copy, Debug, PartialEq, Eq)]
 pub enum Step {
-    /// So many white rows are skipped (`y`).
+    /// This many white rows are skipped (`y`).
     Skip(u16),
     /// The rows from here on are sent by this method (`m`).
     Switch(Method),
-    /// The next row is sent by so many bytes of data (`W`).
+    /// The next row is sent by this many bytes of data (`W`).
     Row(u16),
 }

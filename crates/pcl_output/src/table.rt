@@ -21,8 +21,8 @@ impl RowNumbers {
     ghost use Rattle.pcl_output.specs.Table.{IsSwitched};
     ghost use Rattle.pcl_output.specs.Table.{by_method};
 
-    /// Where the rest of the rows is white: outside a sequence nothing is to come, inside one a parameter
-    /// that ends it, `M` without a digit.
+    /// The numbers where the rest of the rows is white. Outside a sequence nothing is to come, inside one
+    /// a parameter that ends it, `M` without a digit.
     pub fn at_end() -> RowNumbers
         ensures { result ≡ end_numbers }
     {
@@ -32,8 +32,9 @@ impl RowNumbers {
         }
     }
 
-    /// Where the rest isn't white: inside a sequence a row is sent or rows are skipped, perhaps in another
-    /// method, and outside one is opened before. `direct` is what that costs with no switch before it.
+    /// The numbers where the rest isn't white. Inside a sequence a row is sent or rows are skipped,
+    /// perhaps in another method, and outside one is opened before. `direct` is what that costs with no
+    /// switch before it.
     pub fn from_direct(direct: ByMethod) -> RowNumbers
         requires { (method : RowMethod) → by_method direct method < 2 ^ 30 }
         ensures { IsSwitched (by_method direct) result }
@@ -72,7 +73,7 @@ impl Table {
     ghost use Rattle.pcl_output.specs.Table.{number_in, node_number, no_numbers};
     ghost use Rattle.pcl_output.specs.Table.{rest};
 
-    /// A table of zeros for a page of so many rows, 65535 at most. It fails where memory runs out.
+    /// A table of zeros for a page of this many rows, 65535 at most. It fails where memory runs out.
     pub fn new(alloc: Global, rows: u32) -> Result<Table, AllocError>
         requires { rows ≤ 65535 }
         ensures rows { IfOk result (λ table. length table ≡ rows + 1) }
@@ -96,7 +97,7 @@ impl Table {
         Table { numbers }
     }
 
-    /// The numbers after so many rows.
+    /// The numbers after this many rows.
     pub fn row(&self, row: u32) -> RowNumbers
         requires { row < length self.now }
         ensures { result ≡ slice_index_or self.now row no_numbers }
@@ -111,7 +112,7 @@ impl Table {
         self.numbers.len() as u32 - 1
     }
 
-    /// The number of a node: after so many rows, in a method, inside a sequence or outside.
+    /// The number of a node: after this many rows, in a method, inside a sequence or outside.
     pub fn number(&self, row: u32, method: Method, inside: bool) -> u32
         requires { row < length self.now }
         ensures { result ≡ node_number self.now record { row = row; method = method; inside = inside } }
@@ -124,7 +125,7 @@ impl Table {
         }
     }
 
-    /// The lesser of the two numbers after so many rows in a method: inside a sequence and outside.
+    /// The lesser of the two numbers after this many rows in a method: inside a sequence and outside.
     pub fn rest(&self, row: u32, method: Method) -> u32
         requires { row < length self.now }
         ensures { result ≡ rest (node_number self.now) row method }
@@ -150,7 +151,7 @@ impl Table {
         self.numbers[row as usize] = numbers;
     }
 
-    /// Changes the numbers of all nodes after so many rows.
+    /// Changes the numbers of all nodes after this many rows.
     pub fn put(&mut self, row: u32, numbers: RowNumbers)
         requires { row < length self.old }
         ensures rows { length self.new ≡ length self.old }

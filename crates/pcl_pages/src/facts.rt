@@ -40,7 +40,7 @@ impl DataBytes {
         bytes
     }
 
-    /// With so many more by a method.
+    /// With this many more by a method.
     fn with(self, method: Method, more: usize) -> DataBytes {
         match method {
             Method::Plain => DataBytes {

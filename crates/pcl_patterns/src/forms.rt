@@ -48,7 +48,7 @@ impl Form {
         }
     }
 
-    /// About how many bytes so many letters of a pattern take, where what prints it takes so many.
+    /// About how many bytes this many letters of a pattern take, where what prints it takes this many.
     pub fn bytes_of_letters(self, definition: usize, count: usize) -> usize {
         count
             .saturating_mul(self.letter_bytes())

@@ -22,7 +22,7 @@ pub struct Row {
 }
 
 impl Row {
-    /// A row whose data take so many bytes.
+    /// A row whose data take this many bytes.
     pub fn of(bytes: u32) -> Row {
         Row {
             bytes: u16::try_from(bytes).unwrap_or(u16::MAX),
@@ -65,7 +65,7 @@ pub fn most_in_row(row: &Row, weight: i64) -> i64 {
     all.min(quotient(part_of(row, 0).saturating_mul(weight), FINE))
 }
 
-/// So many bytes in fine parts.
+/// This many bytes in fine parts.
 pub fn in_fine_parts(bytes: usize) -> i64 {
     i64::try_from(bytes)
         .unwrap_or(i64::MAX)

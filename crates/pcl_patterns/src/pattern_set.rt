@@ -9,14 +9,14 @@ use indexmap::IndexMap;
 use std::alloc::{AllocError, Global};
 use std::hash::{FoldHasher, Hasher};
 
-/// What is kept of patterns may take so many bytes before there is more room.
+/// What is kept of patterns may take this many bytes before there is more room.
 const FIRST_ROOM: usize = 1_048_576;
 
 /// About how many bytes a pattern takes besides its rows.
 const PATTERN_BYTES: usize = 64;
 
-/// Patterns, numbered from 0 as they came. They are told apart by a hash of their sides and dots: if two had the same one, a letter would
-/// be another than it should be, and the look at the job would refuse it.
+/// Patterns, numbered from 0 as they came. They are kept apart by a hash of their sides and dots: if two had the same one, a letter would
+/// be another than it should be, and the comparison would refuse the job.
 #[derive(Drop)]
 pub struct Patterns {
     /// By their hashes.
@@ -72,13 +72,13 @@ impl Patterns {
         }
     }
 
-    /// Makes room for so many bytes more. What prints patterns is sent, so where they take more bytes than the pages do as rasters few of
+    /// Makes room for this many bytes more. What prints patterns is sent, so where they take more bytes than the pages do as rasters few of
     /// them can be letters.
     pub fn add_room(&mut self, bytes: usize) {
         self.room = self.room.saturating_add(bytes);
     }
 
-    /// Whether there is room for so many patterns more, with so many bytes of rows.
+    /// Whether there is room for this many patterns more, with this many bytes of rows.
     fn has_room(&self, patterns: usize, rows: usize) -> bool {
         let count = self.kept.len().saturating_add(patterns);
         let bytes = self.rows.len().saturating_add(rows);

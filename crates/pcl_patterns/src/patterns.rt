@@ -35,7 +35,7 @@ impl<'a> Pattern<'a> {
         row_bytes_of(self.width)
     }
 
-    /// Its rows but so many of the uppermost ones.
+    /// Its rows but this many of the uppermost ones.
     pub fn rows_from(self, first: u32) -> PatternRows<'a> {
         let row_bytes = self.row_bytes();
         let start = (first as usize).saturating_mul(row_bytes);
@@ -125,7 +125,7 @@ pub struct Changes {
 }
 
 impl Changes {
-    /// With a row of which so many bytes differ.
+    /// With a row of which this many bytes differ.
     pub fn with(self, bytes: usize) -> Changes {
         if bytes == 0 {
             return self;
@@ -148,7 +148,7 @@ fn changed_bytes(above: &[u8], row: &[u8]) -> usize {
     changed
 }
 
-/// How many bytes a row of so many dots has: one at least.
+/// How many bytes a row of this many dots has: one at least.
 pub fn row_bytes_of(width: u32) -> usize
     ensures { 1 ≤ result }
 {

@@ -18,7 +18,7 @@ pub struct Place {
     pub y: u32,
 }
 
-/// Inks the dots of rows of a pattern in rows of so many bytes, whose left upper dot is in this place.
+/// Inks the dots of rows of a pattern in rows of this many bytes, whose left upper dot is in this place.
 pub fn stamp(bytes: &mut [u8], row_bytes: usize, place: Place, rows: PatternRows<'_>, ink: Ink) {
     let mut start = (place.y as usize).saturating_mul(row_bytes);
     for row in rows.bytes.chunks(rows.row_bytes.max(1)) {

@@ -34,7 +34,7 @@ pub fn fill<L: LeastLengths>(lengths: &L, rows: &Rows<'_>, table: &mut Table)
     }
 }
 
-/// How many rows are white from a row on, where so many are from the next one on.
+/// How many rows are white from a row on, where this many are from the next one on.
 fn white_run(rows: &Rows<'_>, row: u32, below: u32) -> u32
     requires row { row < rows.now.count }
     requires below { IsWhiteRun (rows_of rows.now) (row + 1) below }
@@ -94,7 +94,7 @@ fn least_starts(table: &Table, row: u32, run: u32, bytes: ByMethod) -> ByMethod
     }
 }
 
-/// The least of what sending a row by so many bytes of data costs, with all that comes after it, and of
+/// The least of what sending a row by this many bytes of data costs, with all that comes after it, and of
 /// what skipping some of `run` rows costs.
 fn least_start(table: &Table, row: u32, method: Method, run: u32, bytes: u32) -> u32
     requires readable { IsReadable table.now row run }
@@ -143,7 +143,7 @@ pub fn least_skip(table: &Table, row: u32, method: Method, run: u32) -> Skip
         .or(skip_of(table, row, method, run.min(9)))
 }
 
-/// The skip of so many rows.
+/// The skip of this many rows.
 fn skip_of(table: &Table, row: u32, method: Method, count: u32) -> Skip
     requires some { 0 < count }
     requires readable { IsReadable table.now row count }

@@ -16,8 +16,8 @@ use std::alloc::Global;
 use std::convert::AsStr;
 use std::io::{Read, Write};
 
-/// Does what the words of a command line ask for, the program's name first: as [`run_request`] says, or a batch, whose jobs may be
-/// named by the reader.
+/// Does what the words of a command line ask for, the program's name first. It is as [`run_request`] says, or a batch, whose jobs
+/// may be named by the reader.
 pub fn run<F: JobFiles, S: AsStr, R: Read, W: Write, P: Reporter + Copy>(
     files: &mut F,
     alloc: Global,
@@ -77,9 +77,9 @@ fn run_batch_words<F: JobFiles, S: AsStr, R: Read, W: Write, P: Reporter>(
     }
 }
 
-/// Does what is asked for, with the job that a reader gives. The reporter is told of each page that is done, unless silence is asked
-/// for, and what there is to say besides. Where the writer is a terminal, no job and no image is written to it. An error is the help,
-/// the version or a usage fault, whose text is to be printed: then no file is made, nothing is read and nothing written.
+/// Does what is asked for, with the job that a reader gives. The reporter is called for each page that is done, unless silence is
+/// asked for, and for what there is to say besides. Where the writer is a terminal, no job and no image is written to it. An error is
+/// the help, the version or a usage fault, whose text is to be printed: then no file is made, nothing is read and nothing written.
 pub fn run_request<F: JobFiles, R: Read, W: Write, P: Reporter>(
     files: &mut F,
     alloc: Global,

@@ -178,7 +178,7 @@ impl Totals {
         }
     }
 
-    /// The same in words, behind a sign that no name of a column has.
+    /// The same in words, after a sign that no name of a column has.
     fn text(&self, alloc: Global) -> Result<String, AllocError> {
         let Totals {
             jobs,

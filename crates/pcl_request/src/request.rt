@@ -87,7 +87,7 @@ pub struct Run<'w> {
     pub target: Target<'w>,
     /// The resolution.
     pub resolution: Resolution,
-    /// Whether nothing is told of how far it has come.
+    /// Whether it isn't reported how far it has come.
     pub quiet: bool,
 }
 
@@ -225,7 +225,7 @@ pub struct CheckedFiles<'w> {
     pub certificate: &'w str,
     /// The resolution.
     pub resolution: Resolution,
-    /// Whether nothing is told of how far the check has come.
+    /// Whether it isn't reported how far the check has come.
     pub quiet: bool,
 }
 
@@ -266,7 +266,7 @@ impl<'w> Request<'w> {
         }
     }
 
-    /// The file that is written beside the jobs, and may be none of theirs: that of a certificate or of an image.
+    /// The file of a certificate or of an image, which may be none of the jobs'.
     pub fn aside(self) -> Option<&'w str>
         ensures { result ≡ aside_of self.entry }
     {

@@ -34,7 +34,7 @@ front_of Packed byte bytes =
 front_of Delta byte bytes =
     if byte % 32 == 31 then further 31 (byte / 32 + 1) bytes else literal (byte % 32) (byte / 32 + 1) bytes
 
--- untreated bytes after at most so many elements
+-- untreated bytes after at most this many elements
 unfoldable pub treated_by : ℕ → Method → List ℕ → List ℕ → List ℕ
 treated_by zero method bytes old = old
 treated_by (suc more) method [] old = old

@@ -12,11 +12,11 @@ use pcl_patterns::{Form, Pattern, Patterns, Row, number_of_place, short_number};
 use std::alloc::{AllocError, Global};
 use std::marker::Model;
 
-/// After so many shapes no further pages are looked at.
+/// After this many shapes no further pages are looked at.
 const ITEM_LIMIT: usize = 4_000_000;
 
-/// After so many shapes, and one more for so many bytes of the texts of the pages, no further pages are looked at either: shapes of text
-/// take some twenty bytes each in a raster.
+/// After this many shapes, and one more for this many bytes of the texts of the pages, no further pages are looked at either: shapes
+/// of text take some twenty bytes each in a raster.
 const FIRST_ITEMS: usize = 65_536;
 
 const ITEM_BYTES: usize = 12;
@@ -65,7 +65,7 @@ impl Model for Collection {
 }
 
 impl Collection {
-    /// No page yet, of pages of so many dots per inch.
+    /// No page yet, of pages of this many dots per inch.
     pub fn new(alloc: Global, dpi: Dpi) -> Collection {
         Collection {
             form: form_at(dpi),
@@ -79,7 +79,7 @@ impl Collection {
         }
     }
 
-    /// Makes room for the shapes of a page whose text takes so many bytes as a raster.
+    /// Makes room for the shapes of a page whose text takes this many bytes as a raster.
     pub fn add_room(&mut self, bytes: usize) {
         self.patterns.add_room(bytes / 2);
         let limit = self.item_limit.saturating_add(bytes / ITEM_BYTES);
@@ -143,7 +143,7 @@ impl Collection {
         self.collect_rows(&page.bitmap, &shapes.runs, first, &mut drawings, &bottoms)
     }
 
-    /// Draws the shapes of a page with these runs, of whose rows the first is in this place, and collects them. So many shapes end above
+    /// Draws the shapes of a page with these runs, of whose rows the first is in this place, and collects them. This many shapes end above
     /// each of its rows.
     fn collect_rows(
         &mut self,
@@ -208,7 +208,7 @@ impl Collection {
     }
 }
 
-/// How letters of pages of so many dots per inch are printed.
+/// How letters of pages of this many dots per inch are printed.
 fn form_at(dpi: Dpi) -> Form {
     match dpi {
         Dpi::Dpi300 => Form::Characters,

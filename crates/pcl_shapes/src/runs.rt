@@ -6,7 +6,7 @@ use pcl_bitmap::Bitmap;
 use std::alloc::{AllocError, Global};
 use std::mem::swap;
 
-/// After so many runs no further ones are looked for on a page.
+/// After this many runs no further ones are looked for on a page.
 const RUN_LIMIT: usize = 1_000_000;
 
 /// A run of black dots of a row, from the dot `start` up to the one before `end`. No page has 65,535 dots in a row.
@@ -18,7 +18,7 @@ pub struct Run {
     pub label: u32,
 }
 
-/// After so many labels no further runs are looked for on a page: its shapes are the dots of a picture, and each label takes memory.
+/// After this many labels no further runs are looked for on a page: its shapes are the dots of a picture, and each label takes memory.
 fn label_limit(dpi: Dpi) -> u32 {
     match dpi {
         Dpi::Dpi300 => 131_072,
@@ -33,7 +33,7 @@ pub struct Link {
     pub other: u32,
 }
 
-/// So many runs of a page are kept, which take two or four megabytes; those of a page with more are found once more where they are wanted.
+/// This many runs of a page are kept, in two or four megabytes; those of a page with more are found once more where they are wanted.
 fn kept_runs_limit(dpi: Dpi) -> usize {
     match dpi {
         Dpi::Dpi300 => 262_144,
@@ -53,7 +53,7 @@ pub struct KeptRuns {
 }
 
 impl KeptRuns {
-    /// Above the topmost row of a page of so many dots per inch.
+    /// Above the topmost row of a page of this many dots per inch.
     pub fn new(alloc: Global, dpi: Dpi) -> KeptRuns {
         KeptRuns {
             runs: Vec::new(alloc),
@@ -143,7 +143,7 @@ impl RowWalk {
         Ok(())
     }
 
-    /// Whether no further runs of a page of so many dots per inch are looked for.
+    /// Whether no further runs of a page of this many dots per inch are looked for.
     fn is_full(&self, dpi: Dpi) -> bool {
         self.count >= RUN_LIMIT || self.labels >= label_limit(dpi)
     }

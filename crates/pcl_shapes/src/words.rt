@@ -17,7 +17,7 @@ pub fn inked_bytes(word: u64) -> u64 {
     ((word & LOW_BITS).wrapping_add(LOW_BITS) | word) & !LOW_BITS
 }
 
-/// The bits of the first so many bytes of a word, up to seven.
+/// The bits of a word's first bytes, as many as this, up to seven.
 pub fn first_bytes(count: usize) -> u64 {
     match count {
         0 => 0,

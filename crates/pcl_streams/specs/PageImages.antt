@@ -24,7 +24,7 @@ abbrev pub last_page : PageChoice → ℕ
 last_page All = 0
 last_page (Range before count) = before + count
 
--- of so many pages none is missing that is asked for
+-- of this many pages none is missing that is asked for
 abbrev pub AreThere : PageChoice → ℕ → Type 0
 AreThere All number = Unit {0}
 AreThere (Range before count) number = before + count ≤ number

@@ -1,5 +1,5 @@
-//! What runs read and write, over any reader and writer: whole inputs, images of pages, the faults of it, and who is told of pages
-//! that are done.
+//! What runs read and write, over any reader and writer: whole inputs, images of pages, faults, and watchers of pages that are
+//! done.
 #![tactic(auto)]
 
 mod fault;

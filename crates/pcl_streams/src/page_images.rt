@@ -18,7 +18,7 @@ use std::marker::Model;
 pub enum PageChoice {
     /// All of them.
     All,
-    /// So many pages after so many others.
+    /// This many pages after this many others.
     Range { before: u16, count: u16 },
 }
 

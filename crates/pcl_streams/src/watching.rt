@@ -1,4 +1,4 @@
-//! Who is told how far a run has come.
+//! Watchers: how far a run has come.
 
 ghost use Rattle.pcl_streams.specs.Watching.{HasTaken};
 
@@ -7,17 +7,17 @@ use pcl_page::{Page, PageSink, perform};
 use std::alloc::{AllocError, Global};
 use std::marker::Model;
 
-/// Is told how far a run has come. No contract of a run speaks of what it does then, and nothing that it does changes what the
-/// run answers.
+/// Is called with how far a run has come. No contract of a run speaks of what it does then, and nothing that it does changes
+/// what the run answers.
 pub trait Watcher: Copy {
-    /// So many pages are done.
+    /// Is called with how many pages are done.
     fn pages_done(&self, pages: u32);
 
-    /// No page comes any more, since the job has ended or has failed.
+    /// Is called where no page comes any more. The job has ended or has failed.
     fn ended(&self);
 }
 
-/// Is told, and does nothing.
+/// Is called, and does nothing.
 #[derive(Clone, Copy, Debug)]
 pub struct Unwatched;
 
@@ -27,7 +27,7 @@ impl Watcher for Unwatched {
     fn ended(&self) {}
 }
 
-/// Where there is no watcher, nobody is told.
+/// Where there is no watcher, nothing is called.
 impl<P: Watcher> Watcher for Option<P> {
     fn pages_done(&self, pages: u32) {
         if let Some(watcher) = self {
@@ -42,8 +42,8 @@ impl<P: Watcher> Watcher for Option<P> {
     }
 }
 
-/// Performs a job and hands its pages to a sink, which is given back; the watcher is told of each page that the sink took, and of
-/// the end. A refusal is the job's.
+/// Performs a job and hands its pages to a sink, which is given back. The watcher is called for each page that the sink took, and
+/// at the end. A refusal is the job's.
 pub fn perform_watched<S: PageSink + Drop, P: Watcher>(
     alloc: Global,
     job: &[u8],
@@ -64,7 +64,7 @@ pub fn perform_watched<S: PageSink + Drop, P: Watcher>(
     Ok(watched.sink)
 }
 
-/// A sink, and who is told of each page that it took. It is taken for the sink: its model is the sink's, so what is said of a sink
+/// A sink, and the watcher of the pages that it took. It is taken for the sink: its model is the sink's, so what is said of a sink
 /// that takes a job's pages is said of the one inside. The sink is held by value, since the checker doesn't follow a reference in
 /// a struct that is lent.
 #[derive(Drop)]

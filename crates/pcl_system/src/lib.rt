@@ -1,4 +1,4 @@
-//! The system that a process runs on: its files, standard input, and what a person is told on standard error.
+//! The system that a process runs on: its files, standard input, and what is reported on standard error.
 #![tactic(auto)]
 
 mod files;

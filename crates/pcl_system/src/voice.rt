@@ -1,11 +1,11 @@
-//! What is told on standard error: how far a long run has come, and what there is to say of it.
+//! What is reported on standard error: how far a long run has come, and what there is to say of it.
 
 use pcl_files::Reporter;
 use pcl_streams::Watcher;
 use std::io::IsTerminal;
 use std::time::Instant;
 
-/// How many seconds a run takes before anything is told of it.
+/// How many seconds a run takes before anything is reported of it.
 const PATIENCE: u64 = 1;
 
 /// Tells on standard error how many pages of a run are done, once it has taken a second.
@@ -26,7 +26,7 @@ impl<'a> Progress<'a> {
         Some(Progress { rt, begun })
     }
 
-    /// Whether the run has taken so long that it is told of.
+    /// Whether the run has taken so long that it is reported.
     fn is_long(&self) -> bool {
         match self.begun.elapsed(self.rt) {
             Ok(taken) => taken.as_secs() >= PATIENCE,

@@ -18,7 +18,7 @@ pub record IsAnswered (dpi : Dpi) (sheet : Sheet) (text : List ℕ) (proof : Pag
   pub as_long : length text ≡ proof.text_len
   pub verdict_is : IsVerdict page text proof.table proof.places verdict
 
--- as many proofs as pages, and for each page in order a text that is answered Proved
+-- as many proofs as pages, and for each page in order a text that is Proved
 abbrev pub AreProved : Dpi → List Sheet → List ℕ → List PageProof → Type 0
 AreProved dpi sheets texts proofs =
     (length sheets ≡ length proofs)

@@ -23,8 +23,8 @@ pub record TheClaim (dpi : Dpi) (input output certificate : List ℕ) : Type 0 w
   -- it is a job text of these pages, each of its page texts is as short as any that prints its page, and no job text of these pages
   -- is shorter
   pub least : IsLeastJobText dpi pages output
-  -- the checker's answer on it and its certificate is Proved, and no other answer is right
+  -- the checker's verdict on it and its certificate is Proved, and no other verdict is right
   pub proved : IsJobVerdict dpi input output certificate Proved
   pub no_other : (verdict : JobVerdict) → IsJobVerdict dpi input output certificate verdict → verdict ≡ Proved
-  -- whatever else is answered Proved, whoever made it and its certificate, is a least job text of these pages too
+  -- any other output that is Proved, whoever made it and its certificate, is a least job text of these pages too
   pub checked : (other evidence : List ℕ) → IsJobVerdict dpi input other evidence Proved → IsLeastJobText dpi pages other

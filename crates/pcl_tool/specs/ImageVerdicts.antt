@@ -10,7 +10,7 @@ use Rattle.pcl_streams.specs.PageImages.{AreImagesOf}
 use Rattle.pcl_streams.specs.JobFaults.{RefusedOrMemory}
 use Rattle.pcl_tool.specs.JobVerdicts.{IsJobVerdict}
 
--- The output is accepted, and the images of its pages aren't these. Or they are, and what is answered of it is right of a job with
+-- The output is accepted, and the images of its pages aren't these. Or they are, and the verdict on it is right of a job with
 -- its own pages: Proved where no job text with the pages of these images is shorter.
 abbrev pub IsImagesAnswer : Dpi → List ℕ → List ℕ → List ℕ → CheckAnswer → Type 0
 IsImagesAnswer dpi images output certificate OtherImages =

@@ -40,7 +40,7 @@ pub record IsFramed (output texts : List ℕ) (proofs : List PageProof) : Type 0
 
 -- ---- the first page that isn't proved
 
--- The texts of the pages before it are answered Proved, and this verdict on its own text isn't. Pages are counted from 1.
+-- The texts of the pages before it are Proved, and this verdict on its own text isn't. Pages are counted from 1.
 pub record IsFirstFailure (dpi : Dpi) (pages : List Sheet) (texts : List ℕ) (proofs : List PageProof) (number : ℕ) (verdict : Verdict)
     : Type 0 where
   pub pages_before : List Sheet
@@ -63,7 +63,7 @@ pub record IsFirstFailure (dpi : Dpi) (pages : List Sheet) (texts : List ℕ) (p
 -- ---- verdicts
 
 -- The first test that fails answers, in this order: the certificate is one; it speaks of as many pages as the input has; the
--- output is a job text with texts of its lengths; each text is answered Proved.
+-- output is a job text with texts of its lengths; each text is Proved.
 abbrev pub IsJobVerdict : Dpi → List ℕ → List ℕ → List ℕ → JobVerdict → Type 0
 IsJobVerdict dpi input output certificate (job.Certificate faults.Memory) = ⊥
 IsJobVerdict dpi input output certificate (job.Certificate fault) =

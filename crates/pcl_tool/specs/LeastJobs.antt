@@ -16,7 +16,7 @@ pub record IsLeastJobOf (dpi : Dpi) (input output : List ℕ) : Type 0 where
   pub meaning : HasPages dpi input pages
   pub is_least : IsLeastJobText dpi pages output
 
--- the output is a job text, and the certificate the bytes of proofs by which its text of each of the input's pages is answered
+-- the output is a job text, and the certificate the bytes of proofs by which its text of each of the input's pages is
 -- Proved
 pub record IsCertifiedBy (dpi : Dpi) (input output certificate : List ℕ) : Type 0 where
   pub pages : List Sheet

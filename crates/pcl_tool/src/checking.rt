@@ -13,8 +13,9 @@ use pcl_page::{Page, PageSink};
 use pcl_streams::{Fault, Unwatched, Watcher, perform_watched};
 use std::alloc::{AllocError, Global};
 
-/// Checks that an output prints the pages of an input, and that no job text that does is shorter, by a certificate,
-/// whoever made these (docs/CERTIFICATE.md). A refusal is the input's; else it fails only where memory runs out.
+/// Checks by a certificate that an output prints the pages of an input and is a shortest such job text. The output
+/// and the certificate may come from anybody (docs/CERTIFICATE.md). A refusal is the input's; else it fails only
+/// where memory runs out.
 pub fn check_job(
     alloc: Global,
     input: &[u8],
@@ -44,7 +45,7 @@ pub fn check_job_watched<P: Watcher>(
     }
 }
 
-/// What is answered of bytes that are no certificate.
+/// The verdict on bytes that are no certificate.
 fn check_fault<P: Watcher>(
     alloc: Global,
     input: &[u8],

@@ -8,10 +8,10 @@ use pcl_base::Dpi;
 use pcl_streams::{Fault, PageChoice, Watcher, chosen_images};
 use std::alloc::Global;
 
-/// Checks that an output prints the pages of PBM images, which stand one after the other as [`preview_pages`](crate::preview_pages)
-/// writes them, and that no job text with these pages is shorter, by a certificate (docs/CERTIFICATE.md). So whoever has a renderer
-/// of his own needs no input. Copies aren't in an image: the output says how many. A refusal is the output's; else it fails only
-/// where memory runs out. The watcher is called for each page that is done.
+/// Checks by a certificate that an output prints the pages of PBM images and is a shortest such job text. The images stand one
+/// after the other as [`preview_pages`](crate::preview_pages) writes them (docs/CERTIFICATE.md). So whoever has a renderer of his
+/// own needs no input. Copies aren't in an image: the output says how many. A refusal is the output's; else it fails only where
+/// memory runs out. The watcher is called for each page that is done.
 pub fn check_images<P: Watcher>(
     alloc: Global,
     images: &[u8],

@@ -17,7 +17,7 @@ pub enum JobVerdict {
     Proved,
 }
 
-/// What is answered of a written job beside its input, or beside images of its pages.
+/// The verdict on a written job beside its input, or beside images of its pages.
 #[derive(Clone, Copy, Debug, PartialEq, Eq)]
 pub enum CheckAnswer {
     /// The images of the pages that it prints are others than those that are given.

@@ -25,21 +25,21 @@ pub fn the_headline()
     one_meaning();
 }
 
-/// A job that `minimize` and `filter` write is a job text of the input's pages, in order and dot for dot; no page text that
-/// prints one of the pages is shorter than the one that was written, and no job text of the same pages is shorter than the
-/// job.
+/// A job that `minimize` and `filter` write is a least job text of the input's pages. It has them in order and dot for dot;
+/// no page text that prints one of the pages is shorter than the one that was written, and no job text of the same pages is
+/// shorter than the job.
 pub fn written_jobs_are_least()
     ensures { (dpi : Dpi) (input output : List ℕ) → IsJobOf dpi input output → IsLeastJobOf dpi input output }
 {}
 
-/// Where `check_job` answers Proved the same holds of the output, whoever made it and the certificate.
+/// Where `check_job` says Proved the output is one too, whoever made it and the certificate.
 pub fn proved_jobs_are_least()
     ensures { (dpi : Dpi) (input output certificate : List ℕ) → IsJobVerdict dpi input output certificate verdicts.Proved
         → IsLeastJobOf dpi input output }
 {}
 
-/// A job text of the input's pages is answered Proved by a certificate of proofs by which each of its page texts is, and no other
-/// verdict is right. So `check_job` answers Proved on what `minimize` and `filter_cert` write.
+/// No verdict but Proved is right of a job text with a certificate by which each of its page texts is proved. So `check_job` says
+/// Proved on what `minimize` and `filter_cert` write.
 pub fn certified_jobs_are_proved()
     ensures certified { (dpi : Dpi) (input output certificate : List ℕ) (verdict : JobVerdict)
         → IsCertifiedBy dpi input output certificate → IsJobVerdict dpi input output certificate verdict → verdict ≡ verdicts.Proved }

@@ -22,7 +22,7 @@ pub struct Output {
     pub certificate: Vec<u8>,
 }
 
-/// Writes a job again as a raster job of the same pages, with a certificate of this format, by which the checker answers
+/// Writes a job again as a raster job of the same pages, with a certificate of this format. By it the checker says
 /// Proved on each page text. A refusal is the job's.
 pub fn minimize(alloc: Global, job: &[u8], dpi: Dpi, format: Format) -> Result<Output, Fault>
     ensures { IsMinimized dpi format job.now result }
@@ -124,9 +124,9 @@ pub fn filter_watched<R: Read, W: Write, P: Watcher>(
     write_all(out, &output)
 }
 
-/// Does what `filter` does, with a certificate of this format (docs/CERTIFICATE.md), which is written and flushed once the
-/// whole job is. Nothing is written after any fault but of a write; then a prefix of the job and nothing of the certificate,
-/// or the whole job and a prefix of the certificate.
+/// Does what `filter` does, with a certificate of this format. It is written and flushed once the whole job is
+/// (docs/CERTIFICATE.md). Nothing is written after any fault but of a write; then a prefix of the job and nothing of the
+/// certificate, or the whole job and a prefix of the certificate.
 pub fn filter_cert<R: Read, W: Write, C: Write>(
     alloc: Global,
     reader: &mut R,

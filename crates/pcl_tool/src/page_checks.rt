@@ -50,7 +50,7 @@ impl<'p, 'c, 't> Checker<'p, 'c, 't> {
         }
     }
 
-    /// What is answered after the last page.
+    /// The verdict after the last page.
     pub fn verdict(&self) -> JobVerdict
         ensures { result ≡ answer (drop self.now.taken self.now.proofs.now) self.now.found }
     {

@@ -31,7 +31,7 @@ pub data Item : Type 0 where
   leave : Item
   return : ℕ → Item
 
--- what a command leads to; a refused one is on no list
+-- what a command leads to; one that is refused leaves the situation as it is
 abbrev pub or_as_before : Situation → Result Situation Kind → Situation
 or_as_before s (Ok later) = later
 or_as_before s (Err kind) = s
@@ -40,7 +40,7 @@ or_as_before s (Err kind) = s
 abbrev pub returned : Dpi → Situation → Situation → Situation
 returned dpi entered s = record (end_raster dpi s) { settings = restored (kept entered.settings) (end_raster dpi s).settings }
 
--- the newest of some situations, and the one so many items before it
+-- the newest of some situations, and the one this many items before it
 abbrev pub newest : List Situation → Situation
 newest [] = at_begin
 newest (s ∷ past) = s
@@ -115,7 +115,7 @@ body_run (Some Execute) s = macro_now s
 body_run (Some Call) s = macro_now s
 body_run other s = None
 
--- the end of a macro that so many items ago began
+-- the end of a macro that began this many items ago
 abbrev pub end_of : Option Action → ℕ → Item
 end_of (Some Call) items = return items
 end_of other items = leave
@@ -149,7 +149,7 @@ add dpi bodies place command items =
 abbrev pub ended_by : Option Action → List Item → List Item → Unfolding
 ended_by control begun items = goes_on (end_of control (length items - length begun) ∷ items)
 
--- A macro that a command runs, with so many levels left: its start, its commands in order, each with one level less, and its end.
+-- A macro that a command runs, with this many levels left: its start, its commands in order, each with one level less, and its end.
 -- Where no level is left the command is refused.
 abbrev pub unfolded : ℕ → Dpi → List Said → Bodies
 unfolded zero dpi all command control body items = refused MacroDepth command items

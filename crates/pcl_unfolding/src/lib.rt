@@ -3,8 +3,8 @@
 
 ghost use Rattle.pcl_unfolding.specs.FlatList.{PerformingIsUnfolding};
 
-/// For all commands, the unfolding of macros into one flat list says the same as performing them does: the same situation at
-/// the end, and so the same pages, and the same refusal (docs/LANGUAGE.md, "Macros"). A law: the call does nothing.
+/// The unfolding of macros into one flat list says the same as performing them does. For all commands the situation at the
+/// end, and so the pages, and the refusal are the same (docs/LANGUAGE.md, "Macros"). A law: the call does nothing.
 pub fn performing_is_unfolding()
     ensures { PerformingIsUnfolding }
 {}

@@ -1,4 +1,4 @@
-//! What is answered of two jobs, as the table has it.
+//! How two jobs compare, as the table has it.
 
 use pcl_same::{
     AskedComparison, AsksDifference, Difference, ExitDifference, Job, PagesDifference, SameFault,

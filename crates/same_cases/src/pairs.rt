@@ -7,7 +7,7 @@
 //!   dpi 600                          the resolution; 300 where none is said
 //!   first ESC&l1S ESC*cP             the first job, in the notation that `notation` tells
 //!   second ESC&l2S ESC*cP            the second
-//!   answer page 1: Sides Some(1) Some(2)     what is answered of them, as `answers` says it; this ends the pair
+//!   answer page 1: Sides Some(1) Some(2)     how they compare, as `answers` says it; this ends the pair
 //! ```
 
 use crate::answers::words_of;

@@ -232,7 +232,7 @@ fn lettered_job(alloc: Global, case: &Lettered) -> Result<Vec<u8>, AllocError> {
     Ok(job)
 }
 
-/// Appends a line of so many letters, each a raster of nine rows of its own.
+/// Appends a line of this many letters, each a raster of nine rows of its own.
 fn append_letters(count: usize, job: &mut Vec<u8>) -> Result<(), AllocError> {
     job.extend_from_slice(b"\x1b&l0E\x1b*t300R\x1b*p10x10Y")?;
     for _ in 0..count {

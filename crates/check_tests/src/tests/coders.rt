@@ -70,7 +70,7 @@ fn padded(front: &[u8]) -> [u8; 600] {
     row
 }
 
-/// What the coder of a method writes for a row of so many bytes. The row and its seed row are given by their first
+/// What the coder of a method writes for a row of this many bytes. The row and its seed row are given by their first
 /// bytes; those after are zeros.
 fn data_by(
     rt: &impl Abort,

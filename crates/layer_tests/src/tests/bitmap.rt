@@ -146,7 +146,7 @@ fn is_black_by_rectangles(x: u32, y: u32) -> bool {
     black
 }
 
-// Whether a dot is one of so many from a first one on.
+// Whether a dot is one of this many from a first one on.
 fn covers(first: u32, count: u64, dot: u32) -> bool {
     dot.checked_sub(first)
         .is_some_and(|past| u64::from(past) < count)
@@ -193,13 +193,13 @@ fn is_black_by_rows(x: u32, y: u32) -> bool {
     black
 }
 
-// Which square of so many dots a dot is in, as far to the right or down from the first one.
+// Which square of this many dots a dot is in, as far to the right or down from the first one.
 fn square_of(dot: u32, first: i128, scale: u32) -> Option<u64> {
     let dots = u64::try_from(i128::from(dot).wrapping_sub(first)).ok()?;
     dots.checked_div(u64::from(scale))
 }
 
-// Whether a square is that of a set bit, by its column and row in rows of so many bits and so many of them, each in
+// Whether a square is that of a set bit, by its column and row in rows of this many bits and this many of them, each in
 // whole bytes.
 fn is_inked(column: Option<u64>, row: Option<u64>, size: (u64, u64), rows: &[u8]) -> bool {
     let (Some(column), Some(row)) = (column, row) else {

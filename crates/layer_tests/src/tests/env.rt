@@ -351,7 +351,7 @@ fn assert_margin_stays(rt: &impl Abort, env: &mut Env) {
     assert_gives(rt, &"a marked page", &(answer, env.y()), &(STAY, 4500));
 }
 
-// The PCL units that can be set: so many of each are an inch.
+// The PCL units that can be set: this many of each are an inch.
 const UNITS: [u32; 26] = [
     96, 100, 120, 144, 150, 160, 180, 200, 225, 240, 288, 300, 360, 400, 450, 480, 600, 720, 800,
     900, 1200, 1440, 1800, 2400, 3600, 7200,
@@ -369,7 +369,7 @@ fn units_of_an_inch(rt: HostRuntime) {
     }
 }
 
-// The line spacings: so many lines of each are an inch.
+// The line spacings: this many lines of each are an inch.
 const LINES: [u32; 10] = [1, 2, 3, 4, 6, 8, 12, 16, 24, 48];
 
 #[test]
@@ -383,7 +383,7 @@ fn lines_of_an_inch(rt: HostRuntime) {
     }
 }
 
-/// Asserts that so many line feeds can be made.
+/// Asserts that this many line feeds can be made.
 fn assert_feeds(rt: &impl Abort, env: &mut Env, lines: u32) {
     for _ in 0..lines {
         assert_gives(rt, &lines, &say(env, LineFeed, 0), &STAY);

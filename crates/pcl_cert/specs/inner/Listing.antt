@@ -44,7 +44,7 @@ pub record HasRowMore (method : Method) (seed row : List ℕ) (old new : Lists) 
   pub is_list : IsList (length row) list
   pub least : IsLeastTable method seed row (table_of (length row + 1) list)
 
--- the lists of so many rows stand there
+-- the lists of this many rows stand there
 pub record HoldsRows (width : ℕ) (rows : List (List ℕ)) (done : ℕ) (lists : Lists) : Type 0 where
   pub size : length lists.starts.items ≡ 4 * done
   pub whole : AreWhole lists

@@ -11,9 +11,9 @@ ghost use Rattle.pcl_cert.specs.declared.format.Format.{Format};
 ghost use Rattle.pcl_cert.specs.Certificates.{IsProof};
 ghost use Rattle.pcl_cert.specs.Checking.{Tables, AreLeastOf, HasLeastLists, IsVerdict, IsBounded};
 
-/// Where the checker answers Proved the numbers of the nodes are undercut by no token of the output grammar, in any spelling and
-/// with any row data, that is true to the page; with row tables or without. Without them it answers so wherever the text prints
-/// the page, the rows agree, the numbers are such, and the text is as long as that of the first node says.
+/// Where the checker says Proved no token that is true to the page undercuts a node's number. That is so in any spelling and
+/// with any row data, with row tables or without. Without them it says so wherever the text prints the page, the rows agree,
+/// the numbers are such, and the text is as long as that of the first node says.
 pub fn proved_tables_are_feasible()
     ensures only { (page : Page) (text : List ℕ) (table : List RowNumbers) (tables : Tables)
         → IsVerdict page text table tables verdicts.Proved → IsBounded page text table tables }
@@ -21,14 +21,14 @@ pub fn proved_tables_are_feasible()
         → IsVerdict page text table None verdicts.Proved }
 {}
 
-/// Where the checker answers Proved no text of the output grammar that prints the page is shorter, whoever made the tables,
-/// with row tables or without.
+/// Where the checker says Proved no page text that prints the page is shorter. The tables may come from anybody, and there
+/// may be row tables or none.
 pub fn proved_texts_are_least()
     ensures { (page : Page) (text other : List ℕ) (table : List RowNumbers) (tables : Tables)
         → IsVerdict page text table tables verdicts.Proved → PrintsPage page other → length text ≤ length other }
 {}
 
-/// The checker answers Proved on a least text of a page with a table of the page, as a plan has it, with the row tables of the
+/// The checker says Proved on a least text of a page with the table of a plan. That is so with the row tables of the
 /// page or without.
 pub fn tables_are_proved()
     ensures { (page : Page) (text : List ℕ) (table : List RowNumbers) (tables : Tables) → IsTableOf page table → PrintsPage page text
@@ -36,7 +36,7 @@ pub fn tables_are_proved()
         → IsVerdict page text table tables verdicts.Proved }
 {}
 
-/// A certificate of either format can say so: the text is short enough for it, the table has the rows of the page, and its
+/// A certificate of either format can say so. The text is short enough for it, the table has the rows of the page, and its
 /// numbers and those of the row tables are small enough.
 pub fn tables_can_be_certified()
     ensures { (page : Page) (text : List ℕ) (table : List RowNumbers) (format : Format) (places : Option (List (List ℕ)))

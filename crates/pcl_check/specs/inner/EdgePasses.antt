@@ -51,7 +51,7 @@ abbrev pub IsGoodSending : ℕ → (ℕ → Method → ℕ → Type 0) → (Node
 IsGoodSending last Counts number method row = (bytes : ℕ) → row < last → Counts row method bytes
     → number_at number row method true ≤ row_cost bytes + number_at number (row + 1) method false
 
--- skips of at most so many rows, as if each of the counts had so many digits
+-- skips of at most this many rows, as if each of the counts had this many digits
 abbrev pub AreGoodSkipsOf : List ℕ → (Node → ℕ) → Method → ℕ → ℕ → ℕ → Type 0
 AreGoodSkipsOf ends number method digits most row = (count : ℕ) (inside : Bool) → 0 < count → count ≤ most
     → row + count ≤ slice_index ends row → number_at number row method true ≤ digits + 1 + number_at number (row + count) method inside
@@ -74,11 +74,11 @@ IsGoodIn ends last Counts number method row current inside = current ≡ method 
 
 -- ---- windows
 
--- the values at so many places from one on
+-- the values at this many places from one on
 unfoldable pub values : (ℕ → ℕ) → ℕ → ℕ → List ℕ
 values value from zero = []
 values value from (suc count) = value from ∷ values value (from + 1) count
 
--- the numbers after so many rows from one on, for each the lesser of those inside a sequence and outside
+-- the numbers after this many rows from one on, for each the lesser of those inside a sequence and outside
 abbrev pub rests : (Node → ℕ) → Method → ℕ → ℕ → List ℕ
 rests number method = values (λ row. rest number row method)

@@ -27,7 +27,7 @@ pub record IsParameter (text : List ℕ) (found : Parameter) : Type 0 where
   pub spelled : text ≡ found.digits.now ++ found.letter ∷ found.rest.now
   pub number_is : found.number ≡ min (number_of found.digits.now) 65536
 
--- so many bytes and those after them, where there are so many and no row has more
+-- this many bytes and those after them, where there are this many and no row has more
 abbrev pub IsSplit : ℕ → List ℕ → Option (Bor (List ℕ) × Bor (List ℕ)) → Type 0
 IsSplit number bytes None = number ≤ data_limit → length bytes < number
 IsSplit number bytes (Some parts) = (number ≤ data_limit) × (length parts.0.now ≡ number) × (bytes ≡ parts.0.now ++ parts.1.now)

@@ -35,7 +35,7 @@ pub record FallsByStart (old row numbers least : List ℕ) (place : ℕ) : Type 
   pub differs : slice_index old place ≢ slice_index row place
       → place + slice_index numbers place ≤ 1 + slice_index least (place + 1)
 
--- for each place at most each sum of a number and its place, of so many places from it on
+-- for each place at most each sum of a number and its place, of this many places from it on
 abbrev pub AreLeastSums : List ℕ → ℕ → List ℕ → Type 0
 AreLeastSums numbers count least = (place stop : ℕ) → place ≤ stop → stop < place + count → stop < length numbers
     → slice_index least place ≤ stop + slice_index numbers stop

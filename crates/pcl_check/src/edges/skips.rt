@@ -13,7 +13,7 @@ use pcl_coders::Window;
 use pcl_output::{Node, Table};
 
 /// The first node inside a sequence that a skip of white rows undercuts. A count of few digits is tried also where
-/// it is spelled with more: that undercuts less. So the rows that a skip of so many digits may lead to are always those
+/// it is spelled with more: that undercuts less. So the rows that a skip of this many digits may lead to are always those
 /// from the next row on, up to a greatest count or to the end of the white rows.
 pub fn first_bad_skip(
     table: &Table,
@@ -34,7 +34,7 @@ pub fn first_bad_skip(
     first_of(first_of(one, two), first_of(three, four))
 }
 
-/// The same for skips of at most `most` rows, each count spelled with so many digits.
+/// The same for skips of at most `most` rows, each count spelled with this many digits.
 fn first_bad_skip_of(
     table: &Table,
     ends: &[u32],

@@ -275,7 +275,7 @@ fn is_kept_before(number: u16, least: &[u16], place: usize, start: usize) -> boo
                         && is_kept(number, least, start, 4)))
 }
 
-/// Whether no replacement that starts at a place, after a command of so many bytes, undercuts a number.
+/// Whether no replacement that starts at a place, after a command of this many bytes, undercuts a number.
 fn is_kept(number: u16, least: &[u16], start: usize, cost: usize) -> bool
     requires within { start + 1 < length least.now }
     requires small { (length least.now ≤ row_limit + 1) × (cost ≤ 4) }

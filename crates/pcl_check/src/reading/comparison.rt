@@ -54,7 +54,7 @@ impl Comparison<'_> {
         y < self.page_height() && self.bitmap.row(y) == row
     }
 
-    /// Whether so many white rows of the text's page are those of the page from row `y` on.
+    /// Whether this many white rows of the text's page are those of the page from row `y` on.
     pub fn has_white_rows(&self, y: u32, count: u32) -> bool
         requires { y + count < 2 ^ 32 }
         ensures { IsTrue result

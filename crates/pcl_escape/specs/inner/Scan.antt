@@ -93,7 +93,7 @@ abbrev pub skipped_by : List ℕ → Option Said → Result (List ℕ) ℕ → R
 skipped_by bytes said (Ok rest) = Ok record { said = with_bytes (before_rest bytes rest) said; rest = rest; inside = None }
 skipped_by bytes said (Err place) = refuse NotPcl place exit_name
 
--- what was read of so many bytes, which begin at a place, and the lines after it where it is a universal exit
+-- what was read of this many bytes, which begin at a place, and the lines after it where it is a universal exit
 abbrev pub with_lines : ℕ → ℕ → Result Reads Refusal → Result Reads Refusal
 with_lines begin len (Ok reads) =
     if leaves reads.said then skipped_by reads.rest reads.said (lines_at (begin + (len - length reads.rest)) reads.rest) else Ok reads
@@ -164,7 +164,7 @@ abbrev pub and_then : Result Reads Refusal → (Reads → Result (List Said) Ref
 and_then (Ok reads) go_on = with_front (commands_said reads.said) (go_on reads)
 and_then (Err fault) go_on = Err fault
 
--- what the reading of the bytes gives, in at most so many steps; the bytes begin at a place
+-- what the reading of the bytes gives, in at most this many steps; the bytes begin at a place
 unfoldable pub outcome : ℕ → Option Prefix → ℕ → List ℕ → Result (List Said) Refusal
 outcome zero inside at bytes = Ok []
 outcome (suc steps) None at [] = Ok []
@@ -186,7 +186,7 @@ Yields (Err Memory) commands read = Unit {0}
 
 -- ---- places of the data
 
--- the data of a command stand in the job right before so many bytes that are left, and its name is told by its bytes
+-- the data of a command stand in the job right before this many bytes that are left, and its name is known by its bytes
 pub record IsPlaced (job : List ℕ) (left : ℕ) (said : Said) : Type 0 where
   pub within : left + length said.bytes ≤ length job
   pub bytes : bytes_in job (length job - left - length said.bytes) (length said.bytes) ≡ said.bytes

@@ -12,7 +12,7 @@ use Rattle.pcl_plan.specs.declared.fill.Skip.{Skip}
 use Rattle.pcl_output.specs.declared.table.RowNumbers.{RowNumbers}
 use Rattle.pcl_output.specs.Table.{node_number, outside, rest, IsSwitched}
 
--- so many rows that are skipped, and what comes after them
+-- this many rows that are skipped, and what comes after them
 abbrev pub skipping : (Node → ℕ) → ℕ → Method → ℕ → ℕ
 skipping number row method count = setting_cost count + rest number (row + count) method
 
@@ -25,7 +25,7 @@ pub record IsLeastSkip (number : Node → ℕ) (row : ℕ) (method : Method) (ru
   pub within : skip.count ≤ run
   pub number_is : skip.number ≡ skipping number row method skip.count
 
--- what is known of a table where a row is sent or some of so many rows are skipped: the numbers that are read are
+-- what is known of a table where a row is sent or some of this many rows are skipped: the numbers that are read are
 -- small, and don't grow across the rows that may be skipped
 pub record IsReadable (table : List RowNumbers) (row run : ℕ) : Type 0 where
   pub next : row + 1 < length table
@@ -35,7 +35,7 @@ pub record IsReadable (table : List RowNumbers) (row run : ℕ) : Type 0 where
       → rest (node_number table) (row + far) method ≤ rest (node_number table) (row + near) method
   pub small : (a : Node) → row < a.row → a.row < length table → node_number table a ≤ 655374457
 
--- the least of row_cost a row by so many bytes, and of skipping some of so many rows
+-- the least of row_cost a row by this many bytes, and of skipping some of this many rows
 pub record IsLeastStart (number : Node → ℕ) (row : ℕ) (method : Method) (run bytes least : ℕ) : Type 0 where
   pub sent : least ≤ row_cost bytes + outside number (row + 1) method
   pub skipped : (count : ℕ) → 0 < count → count ≤ run → least ≤ skipping number row method count
@@ -59,7 +59,7 @@ pub record AreRowNumbers (width : ℕ) (rows : List (List ℕ)) (number : Node �
 
 -- ---- rows that are done
 
--- the numbers after so many rows are right, where those after more are
+-- the numbers after this many rows are right, where those after more are
 pub record IsRowRight (width : ℕ) (rows : List (List ℕ)) (number : Node → ℕ) (row : ℕ) : Type 0 where
   pub steps : (a : Node) (token : Token) (b : Node) → a.row ≡ row → Leads width rows a token b → number a ≤ cost token + number b
   pub ends : (a : Node) → a.row ≡ row → Ends rows a → number a ≡ 0

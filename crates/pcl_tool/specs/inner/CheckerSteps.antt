@@ -43,7 +43,7 @@ pub record IsBegun (output : List ℕ) (proofs : List PageProof) (checker : Chec
   pub none_taken : checker.taken ≡ 0
   pub begins : BeginsWith output proofs checker.texts.now checker.found
 
--- what is answered after the last page, by the proofs that are left
+-- the verdict after the last page, by the proofs that are left
 abbrev pub answer : List PageProof → JobVerdict → JobVerdict
 answer [] found = found
 answer (proof ∷ proofs) found = job.PageCount

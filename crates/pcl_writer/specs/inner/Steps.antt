@@ -28,7 +28,7 @@ above picture y = row_above (width_of picture) (bitmap_rows picture) y
 abbrev pub IsBitmapPlan : Picture → StepsAndTable → Type 0
 IsBitmapPlan picture plan = IsPlan (width_of picture) (bitmap_rows picture) plan
 
--- a row that is sent has so many bytes of data at least
+-- a row that is sent has this many bytes of data at least
 abbrev pub IsWritable : Picture → ℕ → Method → Step → Type 0
 IsWritable picture row current (Skip count) = Unit {0}
 IsWritable picture row current (Switch next) = Unit {0}

@@ -87,7 +87,7 @@ fn by_hand(rt: HostRuntime) -> Result<(), AllocError> {
 /// flushed.
 #[derive(Clone, Copy)]
 struct Filtered<'a> {
-    /// What is answered.
+    /// The verdict.
     result: Result<(), Fault>,
     /// The bytes of the job.
     job: &'a [u8],

@@ -4,7 +4,7 @@ use std::alloc::Global;
 use std::io;
 use std::io::{ErrorKind, Read, Write};
 
-/// Gives its bytes, at most so many a read; one of its reads fails.
+/// Gives its bytes, at most this many a read; one of its reads fails.
 #[derive(Drop)]
 pub struct Source<'a> {
     /// The bytes that are left.
@@ -31,7 +31,7 @@ impl Read for Source<'_> {
     }
 }
 
-/// Holds what it takes, at most so many bytes a write; one of its writes fails, and flushing may.
+/// Holds what it takes, at most this many bytes a write; one of its writes fails, and flushing may.
 #[derive(Drop)]
 pub struct Held {
     /// The bytes that were taken.

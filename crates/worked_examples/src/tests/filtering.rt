@@ -86,7 +86,7 @@ fn each_read_fails(rt: HostRuntime) {
 /// The most bytes of a write, and how many writes the job takes.
 pub const WRITES: [(usize, usize); 3] = [(1, 48), (7, 7), (usize::MAX, 1)];
 
-/// The front of what the job is written as that so many writes take.
+/// What this many writes take of the job as it is written.
 pub(super) fn taken(writes: usize, most: usize) -> &'static [u8] {
     WRITTEN
         .get(..writes.saturating_mul(most))

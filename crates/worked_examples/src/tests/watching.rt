@@ -1,4 +1,4 @@
-//! What a watcher is told where a sink takes the pages of a job, or only the first of them.
+//! What a watcher hears where a sink takes the pages of a job, or only the first of them.
 
 use super::assert_gives;
 use pcl_base::{Dpi, JobFault};
@@ -11,7 +11,7 @@ use std::process::Abort;
 /// A job of three pages.
 const JOB: &[u8] = b"\x0c\x0c\x0c";
 
-/// Takes so many pages. The next one is answered with out of memory.
+/// Takes this many pages. At the next one memory runs out.
 #[derive(Drop)]
 struct Room(u32);
 
@@ -24,7 +24,7 @@ impl PageSink for Room {
     }
 }
 
-/// Keeps what it is told.
+/// Keeps what it hears.
 #[derive(Drop)]
 struct Told {
     /// The number of pages that was told last.
@@ -46,7 +46,8 @@ impl Watcher for &Told {
     }
 }
 
-/// Asserts what is answered where so many pages are taken, and that the watcher is told of each of these, and of the end.
+/// Asserts what comes of a run where this many pages are taken, and that the watcher is called for each of these, and at
+/// the end.
 fn assert_told(rt: &impl Abort, alloc: Global, taken: u32, wanted: Option<JobFault>) {
     let told = Told {
         pages: Cell::new(0),
@@ -62,7 +63,7 @@ fn assert_told(rt: &impl Abort, alloc: Global, taken: u32, wanted: Option<JobFau
     );
 }
 
-// A watcher isn't told of a page that the sink didn't take.
+// A watcher doesn't hear of a page that the sink didn't take.
 #[test]
 fn told_of_pages_that_were_taken(rt: HostRuntime) {
     for taken in 0..3 {
