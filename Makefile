@@ -42,13 +42,13 @@ test-process:
 	process/calls.py $(PROGRAM)
 
 # All that gets the filter to people: test-cups, test-batch and test-cupsd, and then the manual pages by their linter, the completions
-# in each shell, what the console blocks of README and docs print, a second checker beside `check`, and the Debian package, installed
-# and purged. Needs root, Python 3, mandoc, zsh, fish, the packages that home/batch.py and cups/server.py name, and the program that
+# in each shell, what the console blocks of the documents print and where their links lead, a second checker beside `check`, and the
+# Debian package, installed and purged. Needs root, Python 3, mandoc, zsh, fish, the packages that home/batch.py and cups/server.py name, and the program that
 # `make build` left.
 test-home: test-cups test-batch test-cupsd
 	mandoc -T lint -W warning man/pclmin.1 man/pclmin-cups.8
 	home/completions.sh
-	home/blocks.py $(PROGRAM) README.md docs/*.md examples/README.md
+	home/blocks.py $(PROGRAM) README.md CONTRIBUTING.md CHANGELOG.md docs/*.md */README.md
 	home/sceptic.py $(PROGRAM)
 	home/deb.sh try
 
