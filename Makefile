@@ -43,8 +43,8 @@ test-process:
 
 # All that gets the filter to people: test-cups, test-batch and test-cupsd, and then the manual pages by their linter, the completions
 # in each shell, what the console blocks of the documents print and where their links lead, a second checker beside `check`, and the
-# Debian package, installed and purged. Needs root, Python 3, mandoc, zsh, fish, the packages that home/batch.py and cups/server.py name, and the program that
-# `make build` left.
+# Debian package, installed and purged. Needs root, Python 3, mandoc, zsh, fish, the packages that home/batch.py and cups/server.py
+# name, and the program that `make build` left.
 test-home: test-cups test-batch test-cupsd
 	mandoc -T lint -W warning man/pclmin.1 man/pclmin-cups.8
 	home/completions.sh

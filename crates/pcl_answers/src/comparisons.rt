@@ -51,8 +51,8 @@ impl From<AllocError> for CompareFault {
     }
 }
 
-/// Reads the files, compares the jobs, draws the image that is asked for, and writes the line of the comparison. Nothing is
-/// written after any fault but of a write, and then a prefix of the line, or nothing where the image failed.
+/// Reads the files, compares the jobs, draws the image if one is asked for, and writes the line. Nothing is written after
+/// any fault but of a write, and then a prefix of the line, or nothing where the image failed.
 pub fn compare<F: JobFiles, W: Write>(
     files: &mut F,
     alloc: Global,
@@ -72,7 +72,7 @@ pub fn compare<F: JobFiles, W: Write>(
     Ok(comparison)
 }
 
-/// How two jobs compare: what they ask of the printer counts only where that is wanted.
+/// How two jobs compare. What they ask of the printer counts only where that is wanted.
 pub fn compare_jobs(
     alloc: Global,
     asks: bool,

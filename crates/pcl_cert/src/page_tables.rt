@@ -14,8 +14,8 @@ use pcl_coders::{Delta, Packed, Plain, RowCoder, Runs};
 use pcl_output::row_above;
 use std::alloc::{AllocError, Global};
 
-/// The least numbers of each row of a page over the row above it, by each method (docs/CERTIFICATE.md, "Row tables"). It
-/// fails where memory runs out.
+/// The least numbers of each row of a page, by each method. A row is over the row above it (docs/CERTIFICATE.md, "Row
+/// tables"). It fails where memory runs out.
 pub fn row_tables(alloc: Global, page: &Page) -> Result<RowTables<'static>, AllocError>
     ensures { IfOk result (λ tables. AreLeastTablesOf page.now tables) }
 {

@@ -79,7 +79,7 @@ impl<'a> RowTables<'a> {
         }
     }
 
-    /// Writes out the table of a row and a method: a number for each place.
+    /// Writes out the table of a row and a method. It has a number for each place.
     pub fn copy_table(&self, row: u32, method: Method, out: &mut [u16])
         requires row { 4 * row + 4 ≤ length self.now }
         requires few { length out.old < 2 ^ 32 }
@@ -89,7 +89,7 @@ impl<'a> RowTables<'a> {
         copy_numbers(numbers_at(self.bytes.as_slice(), self.starts[list]), out);
     }
 
-    /// Whether the list of a row and a method has no number, so that all of its table are 0.
+    /// Whether the list of a row and a method has no number. Then all of its table are 0.
     pub fn is_empty(&self, row: u32, method: Method) -> bool
         requires { 4 * row + 4 ≤ length self.now }
         ensures { IsTrue result ↔ (list_of self.now row method ≡ []) }
@@ -98,7 +98,8 @@ impl<'a> RowTables<'a> {
         numbers_at(self.bytes.as_slice(), self.starts[list]).is_empty()
     }
 
-    /// Appends the lists as they stand in a certificate, or a prefix of them where memory runs out.
+    /// Appends the lists as they stand in a certificate. Where memory runs out a prefix of them is
+    /// appended.
     pub fn append(&self, out: &mut Vec<u8>) -> Result<(), AllocError>
         ensures ok { OnOk result (out.new.items ≡ out.old.items ++ flat_map list_bytes self.now) }
         ensures front { take (length out.old.items) out.new.items ≡ out.old.items }

@@ -30,7 +30,7 @@ pub fn write_certificate(
     written
 }
 
-/// Adds a page to a certificate of a format: the certificate of some pages becomes that of these and this one. So a page's tables
+/// Adds a page to a certificate of a format. The certificate of some pages becomes that of these and this one. So a page's tables
 /// need not stay until all pages are known. Where memory runs out the certificate stays as it was.
 pub fn add_proof(
     proof: &PageProof<'_>,

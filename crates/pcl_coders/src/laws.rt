@@ -10,7 +10,8 @@ ghost use Rattle.pcl_coders.specs.Starts.{IsLatestStart, StartsAt};
 ghost use Rattle.pcl_coders.specs.RowWalks.{IsRowTable, IsLeastTable, Leads, Ends, cost};
 ghost use Rattle.pcl_coders.specs.Coding.{IsCodable, IsLeastLength};
 
-/// No whole data for a row is shorter than the first number of a row table, whoever made the table.
+/// No whole data for a row is shorter than the first number of a row table. The table may come from
+/// anybody.
 pub fn row_table_bounds_data()
     ensures { (method : Method) (seed row table bytes : List ℕ) → length seed ≡ length row → IsRowTable method seed row table
         → IsRowData method seed row bytes → slice_index table 0 ≤ length bytes }

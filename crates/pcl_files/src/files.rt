@@ -83,7 +83,7 @@ pub trait JobFiles {
         ensures { MatchBool result (acts self.now (OneFile name.now other.now) self.now)
             (acts self.now (TwoFiles name.now other.now) self.now) };
 
-    /// What a name leads to; none where nothing is there, or the system doesn't say.
+    /// What a name leads to. None where nothing is there, or the system doesn't say.
     fn kind_of(&self, name: &str) -> Option<FileKind>;
 
     /// Makes the folder of a name, and those above it that are missing. It is no error that it is there.

@@ -29,7 +29,8 @@ pub struct Glyph<'a> {
 impl<'a> Glyph<'a> {
     ghost use Rattle.pcl_fonts.specs.Table.{character_in};
 
-    /// Reads a character, none where its fixed bytes are others or its rows aren't all there.
+    /// Reads a character, if there is one. There is none where its fixed bytes are others or its
+    /// rows aren't all there.
     pub fn read(bytes: &'a [u8]) -> Option<Glyph<'a>>
         ensures { MatchOption result (is_character bytes.now ≡ false)
             (λ glyph. (is_character bytes.now ≡ true) × (character_in glyph ≡ character_of bytes.now)) }

@@ -11,7 +11,7 @@ use pcl_answers::{compare_jobs, comparison_line};
 use pcl_base::Dpi;
 use std::alloc::Global;
 
-/// `pclmin_same`: whether two jobs have the same pages, and the line that says what differs first.
+/// `pclmin_same`: whether two jobs have the same pages. The line says what differs first.
 #[unsafe(no_mangle)]
 pub extern "C" fn pcl_library_same(
     alloc: Global,

@@ -13,7 +13,7 @@ use pcl_shrink::shrink;
 use pcl_tool::{Unwatched, least_job, minimize};
 use std::alloc::Global;
 
-/// `pclmin_min`: a least raster job of the job's pages, with a certificate of format 1 or 2, or by 0 with none.
+/// `pclmin_min`: a least raster job of the job's pages. It has a certificate of format 1 or 2, or by 0 none.
 #[unsafe(no_mangle)]
 pub extern "C" fn pcl_library_min(
     alloc: Global,
@@ -72,7 +72,7 @@ fn certified_answer(alloc: Global, job: &[u8], format: Format, dpi: Dpi) -> Answ
     }
 }
 
-/// `pclmin_shrink`: the smallest job that is found with the same pages, which asks the printer for the same.
+/// `pclmin_shrink`: the smallest job that is found with the same pages. It asks the printer for the same.
 #[unsafe(no_mangle)]
 pub extern "C" fn pcl_library_shrink(
     alloc: Global,

@@ -20,7 +20,8 @@ pub fn digits(number: u32) -> u32
     }
 }
 
-/// What a row of this many bytes of data costs: the digits of its length, its letter and its data.
+/// What a row of this many bytes of data costs. That is the digits of its length, its letter and
+/// its data.
 pub fn row_cost(bytes: u32) -> u32
     requires { bytes ≤ data_limit }
     ensures cost { result ≡ row_cost bytes }

@@ -17,7 +17,7 @@ pub struct Node {
 impl Node {
     ghost use Rattle.pcl_output.specs.Nodes.{start, node_after};
 
-    /// Where a body begins: no row is printed, the method is 0, and no sequence is open.
+    /// Where a body begins. No row is printed, the method is 0, and no sequence is open.
     pub fn start() -> Node
         ensures { result ≡ start }
     {
@@ -28,7 +28,7 @@ impl Node {
         }
     }
 
-    /// The node after a step, which ends its sequence or doesn't; a row always does.
+    /// The node after a step. The step ends its sequence or doesn't; a row always does.
     pub fn after(self, step: Step, ends: bool) -> Node
         requires { self.row + 65535 < 2 ^ 32 }
         ensures { result ≡ node_after self step ends }

@@ -111,7 +111,8 @@ fn shown(error: Error) -> Result<Ending, Error>
     }
 }
 
-/// The status of the program after a run: of its ending, or of what is shown in its place.
+/// The status of the program after a run. It is that of its ending, or of what is shown in its
+/// place.
 pub fn exit_status(ended: &Result<Ending, Error>) -> u8
     ensures { IsExitStatus ended.now result }
 {

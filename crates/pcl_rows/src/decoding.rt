@@ -11,8 +11,9 @@ use pcl_base::Method;
 /// The control of method 2 that gives nothing.
 const SKIPPED: u8 = 128;
 
-/// Decodes row data over a seed row (PCL 5 manual, "Set Compression Method"; docs/LANGUAGE.md, "Row
-/// data"). What lies past the row is dropped, and a cut last element gives the new bytes that stand in it.
+/// Decodes row data over a seed row. See the PCL 5 manual, "Set Compression Method", and docs/LANGUAGE.md,
+/// "Row data". What lies past the row is dropped, and a cut last element gives the new bytes that stand in
+/// it.
 pub fn decode(method: Method, seed: &[u8], bytes: &[u8], row: &mut [u8])
     requires { length seed.now ≡ length row.old }
     ensures { Decodes method seed.now bytes.now row.new }

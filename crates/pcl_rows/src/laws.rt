@@ -5,7 +5,7 @@ ghost use Rattle.pcl_base.specs.declared.method.Method.{Method};
 ghost use Rattle.pcl_rows.specs.Decoding.{decoded};
 ghost use Rattle.pcl_rows.specs.Rows.{Decodes};
 
-/// Data makes one row at most over a seed row: its elements can be read in one way.
+/// Data makes one row at most over a seed row. Its elements can be read in one way.
 pub fn data_makes_one_row()
     ensures { (method : Method) (seed bytes row other : List ℕ) → Decodes method seed bytes row → Decodes method seed bytes other
         → row ≡ other }

@@ -23,7 +23,7 @@ pub enum PageChoice {
 }
 
 impl PageChoice {
-    /// The number of the last page that is asked for by a number, from 1; 0 where none is.
+    /// The number of the last page that is asked for, from 1. It is 0 where none is by its number.
     pub fn last(self) -> usize
         ensures { result ≡ last_page self }
     {
