@@ -32,7 +32,8 @@ pub fn written_jobs_are_least()
     ensures { (dpi : Dpi) (input output : List ℕ) → IsJobOf dpi input output → IsLeastJobOf dpi input output }
 {}
 
-/// Where `check_job` says Proved the output is one too, whoever made it and the certificate.
+/// Where `check_job` says Proved the output is a least job text of the input's pages too. It and
+/// the certificate may come from anybody.
 pub fn proved_jobs_are_least()
     ensures { (dpi : Dpi) (input output certificate : List ℕ) → IsJobVerdict dpi input output certificate verdicts.Proved
         → IsLeastJobOf dpi input output }
