@@ -25,7 +25,7 @@ HEAD = """# Ten jobs of real clients
 A title names the driver, its options, and the document. The picture is page 1 by `pclmin pbm`, made smaller; the bytes are those
 of all pages. What `min` and `shrink` write prints the same pages as the job that was sent, dot for dot, by `pclmin same`.
 
-`bench/gallery.py PROGRAM` makes this page anew. [bench/README.md](../bench/README.md) has such jobs by the hundred, by client.
+`bench/gallery.py PROGRAM` makes this page anew.
 """
 
 

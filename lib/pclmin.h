@@ -43,7 +43,7 @@ typedef struct pclmin_answer {
     unsigned char *certificate; /* of pclmin_min; NULL where certificate_length is 0 */
     size_t certificate_length;
     const char *line;           /* what the program says, with its line feed, ended by a zero byte; "" where it says nothing */
-    size_t place;               /* of a refusal: where the refused command stands, in bytes from the job's begin */
+    size_t place;               /* of a refusal: where the refused command stands, in bytes from the job's start */
     size_t pages;               /* of pclmin_page_count */
     int fault;                  /* an enum pclmin_fault */
     int kind;                   /* of a refusal: an enum pclmin_kind, else 0 */

@@ -12,7 +12,7 @@ use std::alloc::AllocError;
 pub struct Refusal {
     /// What is wrong.
     pub kind: Kind,
-    /// The place of the refused command, in bytes from the input's begin.
+    /// The place of the refused command, in bytes from the input's start.
     pub at: usize,
     /// The name of the refused command, as far as it was read.
     pub name: Name,

@@ -5,7 +5,7 @@ use pcl_base::{Name, Value};
 /// A command of a job, as it is spelled there.
 #[derive(Clone, Copy, Debug)]
 pub struct Command<'a> {
-    /// Where the command stands, in bytes from the job's begin: the place of ESC for the first command of
+    /// Where the command stands, in bytes from the job's start: the place of ESC for the first command of
     /// a sequence, the place after the parameter before it for a later one, its own place for a control
     /// code, and that of its first byte for a run of text.
     pub at: usize,

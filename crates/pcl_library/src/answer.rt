@@ -21,7 +21,7 @@ pub struct Answer {
     /// What the program says: of a failure, of two jobs, or of a job that was checked. Its line feed and a zero byte end it. It is
     /// empty where there is nothing to say, and where memory runs out for it.
     pub line: &'static [u8],
-    /// The place of the refused command, in bytes from the job's begin.
+    /// The place of the refused command, in bytes from the job's start.
     pub place: usize,
     /// How many pages were counted.
     pub pages: usize,
