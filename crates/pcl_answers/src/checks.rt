@@ -12,8 +12,8 @@ use std::alloc::Global;
 use std::io::Write;
 
 /// Reads the files, checks the job, and writes the line of the verdict. The input or the images are read first; the watcher is called
-/// for each page that is done, and at the end of the last one before the line is written. Nothing is written after any fault but of a
-/// write, and then a prefix of the line.
+/// for each page that is done, and at the end, before the line is written. Nothing is written after any fault but of a write, and
+/// then a prefix of the line.
 pub fn check<F: JobFiles, W: Write, P: Watcher>(
     files: &F,
     alloc: Global,

@@ -55,7 +55,8 @@ impl<'a> Model for RowTables<'a> {
 impl<'a> RowTables<'a> {
     ghost use Rattle.std.specs.Prelude.{ℕ};
 
-    /// Row tables whose lists stand in these bytes and begin at these places, four for each row.
+    /// Row tables whose lists stand in these bytes, from these places on. There are four for each
+    /// row.
     pub fn within(bytes: Bytes<'a>, starts: Vec<usize>) -> RowTables<'a>
         requires rows { (rows : ℕ) × (rows ≤ 10000) × (length starts.items ≡ 4 * rows) }
         requires lists { AllByRecursion (IsListAt (contents bytes)) starts.items }

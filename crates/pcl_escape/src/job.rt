@@ -14,8 +14,8 @@ use crate::{Command, Commands};
 use pcl_base::JobFault;
 use std::alloc::{AllocError, Global};
 
-/// The commands of a job, or its first fault, by kind, place and name; or out of memory. The data of
-/// a command are a slice of the job (docs/LANGUAGE.md, "Reading").
+/// The commands of a job, or its first fault. A fault has kind, place and name; the other one is out
+/// of memory. The data of a command are a slice of the job (docs/LANGUAGE.md, "Reading").
 pub fn read_job<'a>(alloc: Global, job: &'a [u8]) -> Result<Vec<Command<'a>>, JobFault>
     // The commands are those of a reading of the job.
     ensures reading { IfOk result (λ commands. IsReading job.now (views commands.items)) }

@@ -56,8 +56,8 @@ pub fn settle_aside<F: JobFiles>(
     }
 }
 
-/// Settles the files of a job and its certificate: both take their places, or neither does. Where the job is refused its file is
-/// dropped, and the other one settled without a byte.
+/// Settles the files of a job and its certificate. Where the task that wrote them is done both take their places, or neither
+/// does; where the job is refused its file is dropped, and the other one settled without a byte.
 pub fn settle_both<F: JobFiles>(
     files: &mut F,
     name: &str,

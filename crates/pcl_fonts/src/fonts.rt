@@ -221,8 +221,8 @@ impl<'a> Fonts<'a> {
         self.entry(id).map(|entry| entry.info)
     }
 
-    /// The character that text prints for a code in the font of an ID, if there is one. The code is one that fonts of
-    /// this type have.
+    /// The character that a code prints in the font of an ID, if there is one. The code is one that fonts of this
+    /// type have.
     pub fn glyph(&self, id: u16, code: u8) -> Option<Glyph<'a>>
         ensures { option_map character_in result ≡ printed self.now id code }
     {

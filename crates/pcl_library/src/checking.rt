@@ -14,8 +14,8 @@ use pcl_files::resolve;
 use pcl_tool::{JobVerdict, check_job};
 use std::alloc::Global;
 
-/// `pclmin_check`: whether an output has the pages of an input and is a shortest such job text. The line says which test
-/// fails first.
+/// `pclmin_check`: whether a certificate shows that an output has an input's pages and is a shortest such job text. The
+/// line says which test fails first.
 #[unsafe(no_mangle)]
 pub extern "C" fn pcl_library_check(
     alloc: Global,

@@ -6,9 +6,9 @@ ghost use Rattle.pcl_page.specs.Jobs.{HasAsks};
 ghost use Rattle.pcl_meaning.specs.JobTexts.{IsJobOf, nothing_for};
 ghost use Rattle.pcl_meaning.specs.PageTexts.{PageTextsMeanTheirPages};
 
-/// A page text between two resets is a job that is accepted, and it means the page that the text prints and
-/// no other. So it is in any spelling, with any methods and of any size and number of copies: what the
-/// grammar of texts says and what the rules of reading and performing say agree.
+/// A page text between two resets is an accepted job that means the page that the text prints and no other.
+/// So it is in any spelling, with any methods and of any size and number of copies: what the grammar of
+/// texts says and what the rules of reading and performing say agree.
 pub fn page_texts_mean_their_pages()
     ensures { PageTextsMeanTheirPages }
 {}

@@ -28,7 +28,7 @@ pub fn feasible_numbers_bound_texts()
         → fixed_bytes dpi size copies + number start ≤ length text }
 {}
 
-/// The least cost of a walk from the first node, with the fixed part, is the least length of a page text.
+/// A least walk from the first node, with the fixed part, is as long as a least page text.
 pub fn least_walk_is_least_text()
     ensures { (dpi : Dpi) (size : Size) (copies : ℕ) (rows : List (List ℕ)) (number : ℕ) → 0 < copies → copies < 100
         → length rows ≡ page_height size dpi → AllByRecursion (IsRowOf size dpi) rows

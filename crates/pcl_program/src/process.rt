@@ -13,8 +13,8 @@ use std::process::ExitCode;
 /// The status where help or the version can't be written.
 const WRITE_STATUS: u8 = 3;
 
-/// Does what the words of the command line ask for, with the files of the system, and gives the status. It has standard input
-/// and standard output, and prints on standard error what is to be said.
+/// Does what the words of the command line ask for, and gives the status. It has the files of the system, standard input and
+/// standard output, and prints on standard error what is to be said.
 pub fn run_process(rt: &HostRuntime) -> ExitCode {
     let ended = match arguments(rt) {
         Ok(Some(words)) => run(

@@ -72,8 +72,8 @@ impl PageChoice {
     }
 }
 
-/// Writes the pages of a job that are asked for as PBM images, one after the other, and flushes. NoSuchPage comes only for an
-/// accepted job without one of them. After a write fault a prefix of the images was written, after any other fault nothing.
+/// Writes the pages that are asked for as PBM images, one after the other, and flushes. NoSuchPage comes only for an accepted
+/// job without one of them. After a write fault a prefix of the images was written, after any other fault nothing.
 pub fn preview_pages<W: Write>(
     alloc: Global,
     job: &[u8],

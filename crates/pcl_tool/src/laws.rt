@@ -39,8 +39,8 @@ pub fn proved_jobs_are_least()
         → IsLeastJobOf dpi input output }
 {}
 
-/// No verdict but Proved is right of a job text with a certificate by which each of its page texts is proved. So `check_job` says
-/// Proved on what `minimize` and `filter_cert` write.
+/// On a job text with a certificate that proves each of its page texts no verdict but Proved is right. So `check_job` says Proved
+/// on what `minimize` and `filter_cert` write.
 pub fn certified_jobs_are_proved()
     ensures certified { (dpi : Dpi) (input output certificate : List ℕ) (verdict : JobVerdict)
         → IsCertifiedBy dpi input output certificate → IsJobVerdict dpi input output certificate verdict → verdict ≡ verdicts.Proved }
