@@ -21,7 +21,7 @@ pub trait RowLengths {
     /// Whether a row of a page is counted with a length in a method.
     ghost counts: { Self → PageModel → ℕ → RowMethod → ℕ → Type 0 };
 
-    /// The length that a row is counted with in a method, in bytes. No other is.
+    /// The length that a row is counted with in a method, in bytes. There is one such length.
     fn length(&self, page: &Page, row: u32, method: Method) -> u32
         requires covered { covers self.now page.now }
         requires row { row < page_height page.now.size page.now.dpi }
