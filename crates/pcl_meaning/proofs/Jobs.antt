@@ -167,7 +167,8 @@ few_commands dpi [] = omega arith
 few_commands dpi (sheet ∷ sheets) = omega (arith, few_commands dpi sheets, height_small sheet.size dpi)
 
 -- pages that are alike say the same
-page_alike : {dpi : Dpi} {sheet other : Sheet} (start : PageStart) → AreAlike dpi sheet other → page_said start other ≡ page_said start sheet
+page_alike : {dpi : Dpi} {sheet other : Sheet} (start : PageStart) → AreAlike dpi sheet other
+    → page_said start other ≡ page_said start sheet
 page_alike start alike = rw (alike.size, alike.copies) refl
 
 pages_alike : {dpi : Dpi} (meant again : List Sheet) → AllAlike dpi meant again

@@ -96,4 +96,5 @@ pub counted_page : (asks : Asks) (texts : List Text) {i : ℕ} (d : Text) (old n
     → new ≤ old + length around → new ≤ length (asked_pages asks 0 (least_of (take (i + 1) texts)))
 counted_page asks texts {i} d old new {around = around} lt so_far begun written counted =
     let page : around ≡ page_text asks i (get_or texts i d).least.items = rw (written, begun) refl in
-    omega (arith, ap length (next_page asks texts d lt), ap length page, length-append (asked_pages asks 0 (least_of (take i texts))) (page_text asks i (get_or texts i d).least.items), so_far, counted)
+    let joined = length-append (asked_pages asks 0 (least_of (take i texts))) (page_text asks i (get_or texts i d).least.items) in
+    omega (arith, ap length (next_page asks texts d lt), ap length page, joined, so_far, counted)

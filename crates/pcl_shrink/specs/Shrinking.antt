@@ -22,8 +22,8 @@ pub record PrintsAlike (dpi : Dpi) (pages : List Sheet) (job : List ℕ) : Type 
   pub alike : AllAlike dpi pages again
 
 -- The input is accepted, and the output prints its pages and asks for what it asks for. The output is no longer than the input, nor
--- than a least raster job of the input where it asks for no more than that says, nor than least page texts with what it asks for around them,
--- where these have the same pages and ask for the same.
+-- than a least raster job of the input where it asks for no more than that says, nor than least page texts with what it asks for
+-- around them, where these have the same pages and ask for the same.
 pub record IsSmallerJob (dpi : Dpi) (job output : List ℕ) : Type 0 where
   pub pages : List Sheet
   pub meaning : HasPages dpi job pages

@@ -7,7 +7,8 @@ pub returns-in-Some : goal.returns-in-Some
 returns-in-Some c = λ dpi s at. rw c.in-ControlMacros.is
     (let is : Some c.in-Some.action ≡ action_of c.args.value = sym c.in-Some.is ∙ c.action_of.ensures in
     let later = lasting_by (Some c.in-Some.action) s in
-    let acts = acted_from dpi _ _ c.act.result c.note.new.self c.args.self.now c.act.new.self (sym c.note.ensures.rest.0) (c.act.ensures dpi later (c.note.ensures.situation dpi s at)) in
+    let acts = acted_from dpi _ _ c.act.result c.note.new.self c.args.self.now c.act.new.self (sym c.note.ensures.rest.0)
+    (c.act.ensures dpi later (c.note.ensures.situation dpi s at)) in
     subst (λ (a : Option Action). IsActed dpi (acted c.args.place a (lasting_by a s)) (run_by a) c.act.result c.args.self.now
     c.act.new.self) is acts)
 

@@ -8,5 +8,6 @@ returns-then-self-ge-PAGE_LIMIT g c = λ dpi s i.
 
 pub returns-then-self : goal.returns-then-self
 returns-then-self g c = λ dpi s i.
-    end_marked _ dpi s _ _ c.args.self.now c.eject.new.self c.restart.new.self _ _ i c.if-self.true (omega (arith, c.if-self-ge-PAGE_LIMIT.false)) c.copies-copies.ensures.value
-    c.asked-asked.ensures c.in_ok-eject.ensures.ok.0 c.in_ok-eject.ensures.ok.1 c.restart.ensures
+    end_marked _ dpi s _ _ c.args.self.now c.eject.new.self (record c.eject.new.self { asks = c.restart.new.self }) _ _ i c.if-self.true
+    (omega (arith, c.if-self-ge-PAGE_LIMIT.false)) c.copies-copies.ensures.value c.asked-asked.ensures c.in_ok-eject.ensures.ok.0
+    c.in_ok-eject.ensures.ok.1 c.restart.ensures
