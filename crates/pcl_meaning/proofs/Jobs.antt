@@ -1,6 +1,6 @@
 -- Whole jobs of page texts are accepted, and mean the pages of the texts.
 use Rattle.std.proofs.Common.{◌≡◌, ℕ, ◌+◌, ◌*◌, ◌<◌, ◌≤◌, List, [], ◌∷◌, ◌++◌, length, map, Option, None, refl, sym, ap, subst, ◌∙◌, append_assoc, append-nil, length-append, arith, lit≤, false}
-use Rattle.pcl_meaning.proofs.Names.{flat_map, nat_tests, Dpi, Size, Refusal, macro_limit, command_limit, page_width, page_height, page_row_bytes, height_small, commands_of, IsReading, Settings, defaults, Page, Temporary, control, pages_fit, Mark, is_black, Sheet, Situation, at_begin, at_end, Shows, Performance, done, unless, then_on, runs, after_all, end_refusal, after_end, pages_of, asks_among, Asks, HasPages, HasAsks, performance_of, Token, command_count, token_bytes, start_bytes, end_bytes, frame_bytes, IsPageText, bitmap_rows, IsWrittenPage, AreAlike, AllAlike, PrintEach, most_commands, said_for, page_said, first_page, next_page, PageStart, dot_of_rows, job_of, MeansRows}
+use Rattle.pcl_meaning.proofs.Names.{flat_map, nat_tests, Dpi, Size, Refusal, macro_limit, command_limit, page_width, page_height, page_row_bytes, height_small, commands_of, IsReading, Settings, defaults, Page, Temporary, control, pages_fit, Mark, is_black, Sheet, Situation, at_begin, at_end, Shows, Performance, done, unless, then_on, runs, after_all, end_refusal, after_end, pages_of, asks_among, HasPages, HasAsks, performance_of, Token, command_count, token_bytes, start_bytes, end_bytes, frame_bytes, IsPageText, bitmap_rows, IsWrittenPage, AreAlike, AllAlike, PrintEach, most_commands, of_job, said_for, page_said, first_page, next_page, PageStart, dot_of_rows, job_of, MeansRows}
 use Rattle.pcl_env.specs.Outcome.{outcome}
 use Rattle.pcl_macros.specs.declared.table.MacroControl.TheVariants as macros
 use Rattle.pcl_macros.specs.History.{control as macro_control}
@@ -76,7 +76,12 @@ job_accepted {dpi} {text} {deeds} t {pages} n read leads fits few =
     let reading : IsReading job commands = record { pieces = r.pieces; each = r.each []; spelled = r.spelled; said = refl } in
     record {
       meaning = record { commands = commands; reading = reading; accepted = accepted; ejected = sym (ap pages_of performed) };
-      asks = record { commands = commands; reading = reading; accepted = accepted; asked = sym (ap asks_among performed) };
+      asks = record {
+        commands = commands;
+        reading = reading;
+        accepted = accepted;
+        asked = sym (ap (λ (p : Performance). of_job job (asks_among p)) performed);
+      };
       counted = omega (arith, said_many commands all (r.said 0), length-append deeds (reset ∷ []));
     }
 
@@ -171,20 +176,20 @@ page_alike : {dpi : Dpi} {sheet other : Sheet} (start : PageStart) → AreAlike 
     → page_said start other ≡ page_said start sheet
 page_alike start alike = rw (alike.size, alike.copies) refl
 
-pages_alike : {dpi : Dpi} (meant again : List Sheet) → AllAlike dpi meant again
+pages_alike : (dpi : Dpi) (meant again : List Sheet) → AllAlike dpi meant again
     → map (page_said next_page) again ≡ map (page_said next_page) meant
-pages_alike [] [] a = refl
-pages_alike (sheet ∷ meant) (other ∷ again) a =
+pages_alike dpi [] [] a = refl
+pages_alike dpi (sheet ∷ meant) (other ∷ again) a =
     let one = page_alike next_page a.0 in
-    let more = pages_alike meant again a.1 in cc
-pages_alike meant again a = absurd a
+    let more = pages_alike dpi meant again a.1 in cc
+pages_alike dpi meant again a = absurd a
 
-said_alike : {dpi : Dpi} (meant again : List Sheet) → AllAlike dpi meant again → said_for again ≡ said_for meant
-said_alike [] [] a = refl
-said_alike (sheet ∷ meant) (other ∷ again) a =
+said_alike : (dpi : Dpi) (meant again : List Sheet) → AllAlike dpi meant again → said_for again ≡ said_for meant
+said_alike dpi [] [] a = refl
+said_alike dpi (sheet ∷ meant) (other ∷ again) a =
     let one = page_alike first_page a.0 in
-    let more = pages_alike meant again a.1 in cc
-said_alike meant again a = absurd a
+    let more = pages_alike dpi meant again a.1 in cc
+said_alike dpi meant again a = absurd a
 
 -- the written job is accepted, its pages are alike, it asks for what its texts say, and it has few commands
 pub record IsAgain (dpi : Dpi) (pages : List Sheet) (job : List ℕ) : Type 0 where
@@ -205,7 +210,7 @@ written_again {dpi} texts {pages} h p =
             again = again;
             meaning = job.meaning;
             alike = alike;
-            asks = subst (HasAsks dpi (frame_bytes ++ texts ++ frame_bytes)) (said_alike pages again alike) job.asks;
+            asks = subst (HasAsks dpi (frame_bytes ++ texts ++ frame_bytes)) (said_alike dpi pages again alike) job.asks;
             few = omega (arith, job.counted, few);
           }
     ]

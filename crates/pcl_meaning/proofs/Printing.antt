@@ -1,7 +1,7 @@
 -- Performing the deeds of a page text prints its page.
 use Rattle.std.proofs.Common.{◌≡◌, ℕ, zero, suc, ◌+◌, ◌-◌, ◌*◌, ◌/◌, ◌<◌, ◌≤◌, Bool, true, false, cond, ◌||◌, ◌==◌, nat_le, List, [], ◌∷◌, ◌++◌, length, drop, replicate, Option, Some, None, refl, ◌∙◌, length-append, arith, Ok}
 use Rattle.std.specs.Prelude.{pos}
-use Rattle.pcl_meaning.proofs.Names.{not, nat_lt, AllByRecursion, length-replicate, map-append, or-false, nat_tests, Dpi, Dpi300, Dpi600, Method, Plain, Horizontal, Vertical, PclUnit, Operation, FormFeed, PageSize, Copies, TopMargin, Move, RasterResolution, RasterWidth, StartRaster, EndRasterResetMethod, RasterMethod, RasterOffset, RasterRow, Size, Executive, Value, dots_per_inch, method_code, code_of, page_width, units_high, zero_value, Effect, Settings, put, put_x, put_y, to_first_line, copies_said, size_said, defaults, with_size, before_feed, return_carriage, Temporary, FontEvent, control, MacroEvent, Asked, pages_fit, with_page, Mark, is_black, dot_at, Raster, ends_raster, scale_of, raster_from, bytes_of_width, row_sent, row_mark, IsRowData, decoded_is, Token, opening, method, skip, send, IsRowOf, IsPageText, PageStart, Asks, first_page, next_page, said_of, page_said, said_for, dot_of_rows}
+use Rattle.pcl_meaning.proofs.Names.{not, nat_lt, AllByRecursion, length-replicate, map-append, or-false, nat_tests, Dpi, Dpi300, Dpi600, Method, Plain, Horizontal, Vertical, PclUnit, Operation, FormFeed, PageSize, Copies, TopMargin, Move, RasterResolution, RasterWidth, StartRaster, EndRasterResetMethod, RasterMethod, RasterOffset, RasterRow, Size, Executive, Value, dots_per_inch, method_code, code_of, page_width, units_high, zero_value, Effect, Settings, put, put_x, put_y, to_first_line, copies_said, size_said, defaults, with_size, before_feed, return_carriage, Temporary, FontEvent, control, MacroEvent, Asked, pages_fit, with_page, Mark, is_black, dot_at, Raster, ends_raster, scale_of, raster_from, bytes_of_width, row_sent, row_mark, IsRowData, decoded_is, Token, opening, method, skip, send, IsRowOf, IsPageText, PageStart, Asks, first_page, next_page, sheet_said, page_said, said_for, dot_of_rows}
 use Rattle.pcl_env.specs.declared.effect.Effect.TheVariants as page
 use Rattle.pcl_env.specs.Outcome.{outcome}
 use Rattle.pcl_macros.specs.declared.table.MacroControl.TheVariants as macros
@@ -35,7 +35,7 @@ begins_between = record { method = refl; height = refl; asked = record { sides =
 
 -- what is asked once a page text has said its copies and its size
 said_then : (size : Size) (copies : ℕ) (asked : Asked) (marks : List Mark) → AsksForLittle asked
-    → size_said size (copies_said copies asked) ≡ said_of (record { size = size; copies = copies; marks = marks })
+    → size_said size (copies_said copies asked) ≡ sheet_said (record { size = size; copies = copies; marks = marks })
 said_then size copies asked marks little = λ i. record {
   copies = Some (pos copies);
   page_size = Some (pos (code_of size));
@@ -55,13 +55,13 @@ abbrev pub reset_macros : List MacroEvent
 reset_macros = macro_control macros.Temporary 0 ∷ []
 
 -- how the page after these begins
-abbrev pub start_after : List Sheet → PageStart
-start_after [] = first_page
-start_after (sheet ∷ sheets) = next_page
+abbrev pub begins_after : List Sheet → PageStart
+begins_after [] = first_page
+begins_after (sheet ∷ sheets) = next_page
 
 -- what was asked with these pages
 abbrev pub asks_before : List Sheet → Asks
-asks_before pages = record (said_for pages) { next = start_after pages }
+asks_before pages = record (said_for pages) { next = begins_after pages }
 
 -- an unmarked page with no raster, and no definition
 abbrev pub between : Settings → List Sheet → ℕ → Situation
@@ -128,10 +128,14 @@ unfolding outcome
 width_out size dpi t =
     let some : (page_width size dpi == 0) ≡ false = grind (arith, nat_tests) in rw (whole_is (page_width size dpi), some) refl
 
+-- the settings after the copies
+abbrev with_copies : ℕ → Settings → Settings
+with_copies copies t = record t { copies = copies; asked = copies_said copies t.asked }
+
 -- the settings of a text's raster
 abbrev pub ready : Dpi → Size → ℕ → Settings → Settings
 ready dpi size copies t =
-    record (put_y 0 (put_x 0 (top_zero (with_size size (record t { copies = copies })))))
+    record (put_y 0 (put_x 0 (top_zero (with_size size (with_copies copies t)))))
     { resolution = dots_per_inch dpi; raster_width = Some (page_width size dpi) }
 
 -- the raster of a text: at the page's left edge, as wide as the page, k rows done
@@ -175,7 +179,7 @@ start_leads : (size : Size) (dpi : Dpi) (copies : ℕ) {t : Settings} (pages : L
     → length pages ≤ 256 → AreLeading dpi (start_deeds dpi copies size) (between t pages n)
     (in_body size dpi (ready dpi size copies t) Plain 0 (zeros size dpi) [] pages (n + 1 + 1 + 1 + 1 + 1 + 1 + 1 + 1))
 start_leads size dpi copies {t} pages n b some few fits =
-    let sized = with_size size (record t { copies = copies }) in
+    let sized = with_size size (with_copies copies t) in
     let down = put_y 0 (put_x 0 (top_zero sized)) in
     let m = n + 1 + 1 + 1 + 1 + 1 + 1 + 1 in
     let u = ready dpi size copies t in
@@ -288,13 +292,13 @@ unfolding after outcome
 end_after size dpi t m k seed n = refl
 
 -- one page more
-asks_more : {asked : Asked} (pages : List Sheet) (sheet : Sheet) → asked ≡ said_of sheet
+asks_more : {asked : Asked} (pages : List Sheet) (sheet : Sheet) → asked ≡ sheet_said sheet
     → with_page asked (asks_before pages) ≡ asks_before (pages ++ sheet ∷ [])
 asks_more [] sheet e = rw e refl
 asks_more (page ∷ pages) sheet e = rw (e, map-append (page_said next_page) pages (sheet ∷ [])) refl
 
 feed_after : (dpi : Dpi) (u : Settings) (marks : List Mark) (pages : List Sheet) (n : ℕ)
-    → u.asked ≡ said_of (record { size = u.size; copies = u.copies; marks = marks })
+    → u.asked ≡ sheet_said (record { size = u.size; copies = u.copies; marks = marks })
     → does dpi (deed FormFeed zero_value []) (record (between u pages n) { marks = marks })
     ≡ Ok (between (to_first_line (before_feed u)) (pages ++ record { size = u.size; copies = u.copies; marks = marks } ∷ []) (n + 1))
 unfolding after outcome
@@ -309,7 +313,7 @@ abbrev ended_at : Size → Dpi → Settings → Method → ℕ → List ℕ → 
 ended_at size dpi t m k seed = to_first_line (before_feed (behind size dpi t m k seed))
 
 end_leads : (size : Size) (dpi : Dpi) (t : Settings) (m : Method) (k : ℕ) (seed : List ℕ) (marks : List Mark) (pages : List Sheet) (n : ℕ)
-    → t.raster_height ≡ None → AsksForLittle t.asked → t.asked ≡ said_of (record { size = t.size; copies = t.copies; marks = marks })
+    → t.raster_height ≡ None → AsksForLittle t.asked → t.asked ≡ sheet_said (record { size = t.size; copies = t.copies; marks = marks })
     → length pages < 256 → IsBetween (ended_at size dpi t m k seed)
     × AreLeading dpi end_deeds (in_body size dpi t m k seed marks pages n)
     (between (ended_at size dpi t m k seed) (pages ++ record { size = t.size; copies = t.copies; marks = marks } ∷ []) (n + 1 + 1))

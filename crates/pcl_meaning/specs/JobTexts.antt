@@ -54,11 +54,11 @@ most_commands dpi [] = 2
 most_commands dpi (sheet ∷ sheets) = 3 * page_height sheet.size dpi + 10 + most_commands dpi sheets
 
 -- what a page text says: the copies and the size, and nothing else
-abbrev pub said_of : Sheet → Asked
-said_of sheet = size_said sheet.size (copies_said sheet.copies nothing_asked)
+abbrev pub sheet_said : Sheet → Asked
+sheet_said sheet = size_said sheet.size (copies_said sheet.copies nothing_asked)
 
 abbrev pub page_said : PageStart → Sheet → AskedPage
-page_said start sheet = record { said = said_of sheet; start = start }
+page_said start sheet = record { said = sheet_said sheet; start = start }
 
 abbrev pub pages_said : List Sheet → List AskedPage
 pages_said [] = []
