@@ -31,24 +31,24 @@ SameBelow one other n = (setting : Setting) → order_of setting < n → setting
 abbrev pub SaysBelow : AskedPage → AskedPage → ℕ → Option SettingDifference → Type 0
 SaysBelow one other n found = MatchOption found (SameBelow one other n) (IsFirstSetting one other)
 
-one_more : {one other : AskedPage} (setting : Setting) → SameBelow one other (order_of setting)
+one_more : (one other : AskedPage) (setting : Setting) → SameBelow one other (order_of setting)
     → setting_of setting one ≡ setting_of setting other → SameBelow one other (order_of setting + 1)
-one_more setting below here before lt = grind (arith, below before, here)
+one_more one other setting below here before lt = grind (arith, below before, here)
 
-pub then_setting : {one other : AskedPage} (setting : Setting) (found next : Option SettingDifference)
+pub then_setting : (one other : AskedPage) (setting : Setting) (found next : Option SettingDifference)
     → SaysBelow one other (order_of setting) found → SaysOfSetting one other setting next
     → SaysBelow one other (order_of setting + 1) (option_or found next)
-then_setting setting (Some d) next below here = below
-then_setting setting None (Some d) below here = first_here setting below here
-then_setting setting None None below here = one_more setting below here
+then_setting one other setting (Some d) next below here = below
+then_setting one other setting None (Some d) below here = first_here setting below here
+then_setting one other setting None None below here = one_more one other setting below here
 
-pub none_below : {one other : AskedPage} → SaysBelow one other 0 None
-none_below setting lt = absurd (omega arith)
+pub none_below : (one other : AskedPage) → SaysBelow one other 0 None
+none_below one other setting lt = absurd (omega arith)
 
-pub all_same : {one other : AskedPage} (found : Option SettingDifference) → SaysBelow one other 8 found
+pub all_same : (one other : AskedPage) (found : Option SettingDifference) → SaysBelow one other 8 found
     → MatchOption found (HaveSameSettings one other) (IsFirstSetting one other)
-all_same (Some d) says = says
-all_same None says = λ setting. says setting (small setting)
+all_same one other (Some d) says = says
+all_same one other None says = λ setting. says setting (small setting)
   where
     small : (setting : Setting) → order_of setting < 8
     small setting = grind arith

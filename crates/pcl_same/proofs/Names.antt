@@ -9,7 +9,7 @@ pub use Rattle.pcl_env.specs.{Settings.nothing_asked}
 pub use Rattle.pcl_rows.proofs.Names.{Decodes}
 pub use Rattle.pcl_rows.proofs.{OneReading.one_row}
 pub use Rattle.pcl_page.proofs.{Jobs.accepted_pages, Jobs.has_pages, Jobs.rest_grows}
-pub use Rattle.pcl_page.specs.{Asks.first_page}
+pub use Rattle.pcl_page.specs.{Asks.next_page}
 pub use Rattle.pcl_page.specs.declared.{asks.AskedPage.AskedPage}
 pub use Rattle.pcl_page.proofs.Names.{AllAlike, AreAlike, Asks, Hands, HasAsks, HasPages, IsRefusal, Sheet, Shows, asks_of, at_begin, exit_of, is_black, pages_of, performance_of}
 pub use Rattle.pcl_same.specs.{Comparing.Compare, Comparing.CompareAsks, Comparing.IsAskedComparison, Comparing.IsCompared, Comparing.IsComparedAsked, Comparing.IsComparison, Comparing.of_pages, Differing.DifferBy, Differing.DifferFirst, Differing.IsFirstDot, DifferingAsks.AsksDifferBy, DifferingAsks.DifferAt, DifferingAsks.ExitsDifferBy, DifferingAsks.HaveSameSettings, DifferingAsks.IsAskedBy, DifferingAsks.IsFirstSetting, DifferingAsks.order_of, DifferingAsks.setting_of, DifferingDots.differ, Keeping.IsComparedBeside, Keeping.IsKept, Kept.KeepAll, Kept.KeepsPicture, Kept.MakesRow, Kept.data_of, Kept.piece, Kept.row_above}

@@ -1,9 +1,9 @@
-use Rattle.pcl_same.proofs.Names.{arith, nothing_asked, first_page, AskedPage, IsAskedBy}
+use Rattle.pcl_same.proofs.Names.{arith, nothing_asked, next_page, AskedPage, IsAskedBy}
 use Rattle.pcl_same.proofs.FirstAsked.{differ_here}
 use Rattle.pcl_same.proofs.asking.page_difference.Goals as goal
 
-nothing : AskedPage
-nothing = record { said = nothing_asked; start = first_page }
+abbrev nothing : AskedPage
+nothing = record { said = nothing_asked; start = next_page }
 
 pub returns-in-Some : goal.returns-in-Some
 returns-in-Some c = λ same.

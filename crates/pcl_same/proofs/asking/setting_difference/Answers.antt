@@ -5,12 +5,14 @@ use Rattle.pcl_same.proofs.asking.setting_difference.Goals as goal
 
 pub returns : goal.returns
 returns c =
-    let a = then_setting Copies None c.differing.result none_below c.differing.ensures in
-    let b = then_setting PageSize _ c.differing-2.result a c.differing-2.ensures in
-    let d = then_setting PageLength _ c.differing-3.result b c.differing-3.ensures in
-    let e = then_setting Sides _ c.differing-4.result d c.differing-4.ensures in
-    let f = then_setting OutputBin _ c.differing-5.result e c.differing-5.ensures in
-    let g = then_setting MediaType _ c.differing-6.result f c.differing-6.ensures in
-    let h = then_setting PaperSource _ c.differing-7.result g c.differing-7.ensures in
-    let k = then_setting SheetSide _ c.differing-8.result h c.differing-8.ensures in
-    rw (c.or-7.ensures, c.or-6.ensures, c.or-5.ensures, c.or-4.ensures, c.or-3.ensures, c.or-2.ensures, c.or.ensures) (all_same _ k)
+    let one = c.args.one.now in
+    let other = c.args.other.now in
+    let a = then_setting one other Copies None c.differing.result (none_below one other) c.differing.ensures in
+    let b = then_setting one other PageSize _ c.differing-2.result a c.differing-2.ensures in
+    let d = then_setting one other PageLength _ c.differing-3.result b c.differing-3.ensures in
+    let e = then_setting one other Sides _ c.differing-4.result d c.differing-4.ensures in
+    let f = then_setting one other OutputBin _ c.differing-5.result e c.differing-5.ensures in
+    let g = then_setting one other MediaType _ c.differing-6.result f c.differing-6.ensures in
+    let h = then_setting one other PaperSource _ c.differing-7.result g c.differing-7.ensures in
+    let k = then_setting one other SheetSide _ c.differing-8.result h c.differing-8.ensures in
+    rw (c.or-7.ensures, c.or-6.ensures, c.or-5.ensures, c.or-4.ensures, c.or-3.ensures, c.or-2.ensures, c.or.ensures) (all_same one other _ k)
