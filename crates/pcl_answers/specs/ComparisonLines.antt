@@ -4,8 +4,6 @@ use Rattle.std.specs.Fmt.{signed_decimal}
 use Rattle.pcl_base.specs.Refusal.{refusal_text}
 use Rattle.pcl_base.specs.declared.size.Size.{Size}
 use Rattle.pcl_base.specs.declared.size.Size.TheVariants.{Executive, Letter, Legal, A4}
-use Rattle.pcl_base.specs.declared.operation.Asking.{Asking}
-use Rattle.pcl_base.specs.declared.operation.Asking.TheVariants.{Sides, OutputBin, MediaType, PaperSource, SheetSide}
 use Rattle.pcl_same.specs.declared.comparison.AskedComparison.{AskedComparison}
 use Rattle.pcl_same.specs.declared.comparison.AskedComparison.TheVariants.{Same, Pages, Asks}
 use Rattle.pcl_same.specs.declared.comparison.PagesDifference.{PagesDifference}
@@ -14,6 +12,10 @@ use Rattle.pcl_same.specs.declared.comparison.AsksDifference.{AsksDifference}
 use Rattle.pcl_same.specs.declared.comparison.AsksDifference.TheVariants as asks
 use Rattle.pcl_same.specs.declared.comparison.ExitDifference.{ExitDifference}
 use Rattle.pcl_same.specs.declared.comparison.ExitDifference.TheVariants as exit
+use Rattle.pcl_same.specs.declared.comparison.AskedDifference.{AskedDifference}
+use Rattle.pcl_same.specs.declared.comparison.AskedDifference.TheVariants as asked
+use Rattle.pcl_same.specs.declared.comparison.Setting.{Setting}
+use Rattle.pcl_same.specs.declared.comparison.Setting.TheVariants.{Copies, PageSize, PageLength, Sides, OutputBin, MediaType, PaperSource, SheetSide}
 use Rattle.pcl_same.specs.declared.comparison.SettingDifference.{SettingDifference}
 use Rattle.pcl_same.specs.declared.comparison.Difference.{Difference}
 use Rattle.pcl_same.specs.declared.comparison.Difference.TheVariants as difference
@@ -45,7 +47,10 @@ pages_text (pages.Page number difference) = page_text (codes "not the same: page
 
 -- ---- what is asked
 
-abbrev pub setting_label : Asking → List ℕ
+abbrev pub setting_label : Setting → List ℕ
+setting_label Copies = codes "copies "
+setting_label PageSize = codes "size "
+setting_label PageLength = codes "length "
 setting_label Sides = codes "sides "
 setting_label OutputBin = codes "bin "
 setting_label MediaType = codes "media "
@@ -59,14 +64,19 @@ value_text None = codes "none"
 abbrev pub setting_text : SettingDifference → List ℕ
 setting_text difference = pair_text (setting_label difference.setting) (value_text difference.first) (value_text difference.second)
 
+abbrev pub asked_text : AskedDifference → List ℕ
+asked_text asked.Reset = codes "reset"
+asked_text (asked.Setting difference) = setting_text difference
+
 abbrev pub exit_text : ExitDifference → List ℕ
 exit_text (exit.Place first second) = pair_text (codes "pages before ") (decimal first) (decimal second)
 exit_text exit.Lines = codes "lines"
 
 abbrev pub asks_text : AsksDifference → List ℕ
-asks_text (asks.Page number difference) = page_text (codes "not the same: page ") number ++ setting_text difference
+asks_text (asks.Page number difference) = page_text (codes "not the same: page ") number ++ asked_text difference
 asks_text (asks.ExitCount first second) = pair_text (codes "not the same: exit count ") (decimal first) (decimal second)
 asks_text (asks.Exit number difference) = page_text (codes "not the same: exit ") number ++ exit_text difference
+asks_text asks.Lasting = codes "not the same: what stays in the printer"
 
 -- ---- the line on standard output, and the status
 

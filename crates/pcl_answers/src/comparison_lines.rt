@@ -2,17 +2,17 @@
 
 ghost use Rattle.std.specs.Prelude.{◌≡◌, ◌++◌, IfOk, OnOk};
 ghost use Rattle.pcl_answers.specs.ComparisonLines.{size_text, pair_text, difference_text, pages_text, comparison_text, comparison_line_of};
-ghost use Rattle.pcl_answers.specs.ComparisonLines.{setting_label, setting_text, value_text, exit_text, asks_text};
+ghost use Rattle.pcl_answers.specs.ComparisonLines.{setting_label, setting_text, asked_text, value_text, exit_text, asks_text};
 ghost use Rattle.pcl_answers.specs.ComparisonLines.{comparison_status_for, refused_job_text, compare_line_of, compare_status_for};
 
 use crate::comparisons::CompareFault;
 use crate::verdicts::append_page;
 use itoa::Buffer;
-use pcl_base::{Asking, Size};
+use pcl_base::Size;
 use pcl_files::{fault_line, status_of};
 use pcl_same::{
-    AskedComparison, AsksDifference, Difference, ExitDifference, Job, PagesDifference,
-    SettingDifference,
+    AskedComparison, AskedDifference, AsksDifference, Difference, ExitDifference, Job,
+    PagesDifference, Setting, SettingDifference,
 };
 use std::alloc::{AllocError, Global};
 
@@ -62,7 +62,7 @@ fn append_asks(difference: AsksDifference, line: &mut Vec<u8>) -> Result<(), All
     match difference {
         AsksDifference::Page { number, difference } => {
             append_page(b"not the same: page ", number, line)?;
-            append_setting(difference, line)
+            append_asked(difference, line)
         }
         AsksDifference::ExitCount { first, second } => append_pair(
             b"not the same: exit count ",
@@ -74,6 +74,19 @@ fn append_asks(difference: AsksDifference, line: &mut Vec<u8>) -> Result<(), All
             append_page(b"not the same: exit ", number, line)?;
             append_exit(difference, line)
         }
+        AsksDifference::Lasting => {
+            line.extend_from_slice(b"not the same: what stays in the printer")
+        }
+    }
+}
+
+/// Appends how what two pages are asked with differs.
+fn append_asked(difference: AskedDifference, line: &mut Vec<u8>) -> Result<(), AllocError>
+    ensures { OnOk result (line.new.items ≡ line.old.items ++ asked_text difference) }
+{
+    match difference {
+        AskedDifference::Reset => line.extend_from_slice(b"reset"),
+        AskedDifference::Setting(difference) => append_setting(difference, line),
     }
 }
 
@@ -90,7 +103,7 @@ fn append_setting(difference: SettingDifference, line: &mut Vec<u8>) -> Result<(
 }
 
 /// The text of a value that is asked for.
-fn value_of(value: Option<i32>, digits: &mut Buffer) -> &[u8]
+fn value_of(value: Option<i64>, digits: &mut Buffer) -> &[u8]
     ensures { result.now ≡ value_text value }
 {
     match value {
@@ -100,15 +113,18 @@ fn value_of(value: Option<i32>, digits: &mut Buffer) -> &[u8]
 }
 
 /// What a page is asked with, as a label.
-fn setting_label(setting: Asking) -> &'static [u8]
+fn setting_label(setting: Setting) -> &'static [u8]
     ensures { result.now ≡ setting_label setting }
 {
     match setting {
-        Asking::Sides => b"sides ",
-        Asking::OutputBin => b"bin ",
-        Asking::MediaType => b"media ",
-        Asking::PaperSource => b"source ",
-        Asking::SheetSide => b"side ",
+        Setting::Copies => b"copies ",
+        Setting::PageSize => b"size ",
+        Setting::PageLength => b"length ",
+        Setting::Sides => b"sides ",
+        Setting::OutputBin => b"bin ",
+        Setting::MediaType => b"media ",
+        Setting::PaperSource => b"source ",
+        Setting::SheetSide => b"side ",
     }
 }
 

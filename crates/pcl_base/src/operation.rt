@@ -47,6 +47,8 @@ pub enum Asking {
     PaperSource,
     /// The front or the back of a sheet for what comes next ("Duplex Page Side Selection").
     SheetSide,
+    /// The length of the page in lines, by which printers choose a paper ("Page Length").
+    PageLength,
 }
 
 /// What a command does. docs/LANGUAGE.md, "Commands", says of each which values it takes.
@@ -185,7 +187,7 @@ impl Operation {
             Name::Three(b'&', b'l', b'S') => Operation::Ask(Asking::Sides),
             Name::Three(b'&', b'l', b'G') => Operation::Ask(Asking::OutputBin),
             Name::Three(b'&', b'l', b'M') => Operation::Ask(Asking::MediaType),
-            Name::Three(b'&', b'l', b'P') => Operation::NoEffect,
+            Name::Three(b'&', b'l', b'P') => Operation::Ask(Asking::PageLength),
             Name::Three(b'&', b'a', b'P') => Operation::OnlyZero,
             Name::Three(b'&', b'a', b'G') => Operation::Ask(Asking::SheetSide),
             Name::Three(b'&', b'a', b'L') => Operation::LeftMargin,

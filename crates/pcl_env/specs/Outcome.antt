@@ -24,7 +24,7 @@ use Rattle.pcl_base.specs.Value.{whole_of, signed_whole, is_minus, is_below_zero
 use Rattle.pcl_env.specs.declared.effect.Effect.{Effect}
 use Rattle.pcl_env.specs.declared.effect.Effect.TheVariants as page
 use Rattle.pcl_env.specs.declared.effect.Unsupported.{Unsupported}
-use Rattle.pcl_env.specs.Settings.{inch, margin, Position, Settings, put_x, put_y, put, to_first_line, asked_with, defaults, with_size}
+use Rattle.pcl_env.specs.Settings.{inch, margin, Position, Settings, put_x, put_y, put, to_first_line, asked_with, copies_said, defaults, with_size}
 
 -- the settings after a command and what becomes of the page; none where the value isn't taken
 abbrev pub Outcome : Type 0
@@ -189,14 +189,15 @@ outcome dpi FormFeed v m s = Some (before_feed s, page.Eject)
 outcome dpi CarriageReturn v m s = if s.return_feeds then feed s.vmi (return_carriage s) else stays (return_carriage s)
 outcome dpi (Shift side) v m s = stays (record s { in_use = side })
 outcome dpi PageSize v m s = by_count v (λ n. set_size (size_with_code n) s)
-outcome dpi Copies v m s = by_count v (λ n. stays_if (nat_le 1 n && nat_le n copies_limit) (record s { copies = n }))
+outcome dpi Copies v m s =
+    by_count v (λ n. stays_if (nat_le 1 n && nat_le n copies_limit) (record s { copies = n; asked = copies_said n s.asked }))
 outcome dpi VerticalMotionIndex v m s = from_zero v (record s { vmi = scaled_by 150 v })
 outcome dpi LineSpacing v m s = one_of line_spacings v (record s { vmi = inch / whole_of v })
 outcome dpi TopMargin v m s = from_zero v (set_top (whole_of v * s.vmi) m s)
 outcome dpi TextLength v m s = by_count v (λ n. stays_if (nat_le 1 n) (set_bottom (s.top + n * s.vmi) s))
 outcome dpi PerforationSkip v m s = up_to 1 v (record s { skips = whole_of v == 1 })
 outcome dpi OnlyZero v m s = stays_if (whole_of v == 0) s
-outcome dpi (Ask what) v m s = Some (record s { asked = asked_with what (signed_whole v) s.asked }, effect_of_asking what)
+outcome dpi (Ask what) v m s = Some (record s { asked = asked_with what (signed_whole v) s.vmi s.asked }, effect_of_asking what)
 outcome dpi UnitOfMeasure v m s = one_of units_of_measure v (record s { pcl_unit = inch / whole_of v })
 outcome dpi HorizontalMotionIndex v m s = from_zero v (record s { hmi = scaled_by 60 v })
 outcome dpi LineTermination v m s =

@@ -1,14 +1,15 @@
 -- What a job has set, and its cursor. Lengths and positions are in units of 1/7200 inch, those of rasters in raster dots.
-use Rattle.std.specs.Prelude.{ℕ, suc, ◌+◌, ◌-◌, ◌*◌, ◌/◌, Bool, true, false, min, List, [], Option, Some, None, ℤ, pos, negsuc}
+use Rattle.std.specs.Prelude.{ℕ, suc, ◌+◌, ◌-◌, ◌*◌, ◌/◌, ◌*ℤ◌, Bool, true, false, if◌then◌else◌, min, List, [], Option, Some, None, ℤ, pos, negsuc}
+use Rattle.std.specs.Ordering.{int_eq}
 use Rattle.pcl_base.specs.declared.method.Method.{Method}
 use Rattle.pcl_base.specs.declared.method.Method.TheVariants.{Plain}
 use Rattle.pcl_base.specs.declared.operation.Asking.{Asking}
-use Rattle.pcl_base.specs.declared.operation.Asking.TheVariants.{Sides, OutputBin, MediaType, PaperSource, SheetSide}
+use Rattle.pcl_base.specs.declared.operation.Asking.TheVariants.{Sides, OutputBin, MediaType, PaperSource, SheetSide, PageLength}
 use Rattle.pcl_base.specs.declared.operation.Side.{Side}
 use Rattle.pcl_base.specs.declared.operation.Side.TheVariants.{Primary, Secondary}
 use Rattle.pcl_base.specs.declared.size.Size.{Size}
 use Rattle.pcl_base.specs.declared.size.Size.TheVariants.{Letter}
-use Rattle.pcl_base.specs.Size.{units_wide, units_high}
+use Rattle.pcl_base.specs.Size.{code_of, units_wide, units_high}
 use Rattle.pcl_env.specs.declared.asked.Asked.{Asked}
 
 -- ---- lengths
@@ -90,15 +91,32 @@ advance (negsuc n) s = put_x (s.cursor.x - suc n) s
 -- ---- what a job asks of the printer besides dots
 
 abbrev pub nothing_asked : Asked
-nothing_asked = record { sides = None; output_bin = None; media_type = None; paper_source = None; sheet_side = None }
+nothing_asked = record {
+  copies = None;
+  page_size = None;
+  page_length = None;
+  sides = None;
+  output_bin = None;
+  media_type = None;
+  paper_source = None;
+}
 
--- the last value of each asking counts
-abbrev pub asked_with : Asking → ℤ → Asked → Asked
-asked_with Sides value asked = record asked { sides = Some value }
-asked_with OutputBin value asked = record asked { output_bin = Some value }
-asked_with MediaType value asked = record asked { media_type = Some value }
-asked_with PaperSource value asked = record asked { paper_source = Some value }
-asked_with SheetSide value asked = record asked { sheet_side = Some value }
+-- The last value of each asking counts, with this line spacing. A page length is so many lines; paper source 0 ejects the page and leaves
+-- the source as it is; a side of the sheet is asked of the next page alone (pcl_page).
+abbrev pub asked_with : Asking → ℤ → ℕ → Asked → Asked
+asked_with Sides value vmi asked = record asked { sides = Some value }
+asked_with OutputBin value vmi asked = record asked { output_bin = Some value }
+asked_with MediaType value vmi asked = record asked { media_type = Some value }
+asked_with PaperSource value vmi asked = if int_eq value (pos 0) then asked else record asked { paper_source = Some value }
+asked_with SheetSide value vmi asked = asked
+asked_with PageLength value vmi asked = record asked { page_length = Some (value *ℤ pos vmi) }
+
+abbrev pub copies_said : ℕ → Asked → Asked
+copies_said copies asked = record asked { copies = Some (pos copies) }
+
+-- a page size takes the place of a page length that was said before
+abbrev pub size_said : Size → Asked → Asked
+size_said size asked = record asked { page_size = Some (pos (code_of size)); page_length = None }
 
 -- ---- what a reset leaves
 
@@ -134,8 +152,14 @@ defaults = record {
 
 -- a page size sets the margins, and moves the cursor to the left end of the first line
 abbrev pub with_size : Size → Settings → Settings
-with_size size s =
-    to_first_line (record s { size = size; top = margin; bottom = units_high size - margin; left = 0; cursor = record { x = 0; y = 0 } })
+with_size size s = to_first_line (record s {
+  size = size;
+  top = margin;
+  bottom = units_high size - margin;
+  left = 0;
+  cursor = record { x = 0; y = 0 };
+  asked = size_said size s.asked;
+})
 
 -- ---- fonts and calls
 

@@ -1,63 +1,104 @@
 //! What a page is asked with.
 
-ghost use Rattle.std.specs.Prelude.{◌≡◌};
+ghost use Rattle.std.specs.Prelude.{◌≡◌, pos, Some, if◌then◌else◌};
+ghost use Rattle.std.specs.Ordering.{int_eq};
 ghost use Rattle.pcl_base.specs.Value.{signed_whole};
-ghost use Rattle.pcl_env.specs.Settings.{asked_with};
+ghost use Rattle.pcl_env.specs.Settings.{asked_with, copies_said, size_said};
 
-use pcl_base::{Asking, Value};
+use pcl_base::{Asking, Size, Value};
 
-/// What a job asks of the printer besides dots: of each asking the last value since the last reset, if one was given, as its
-/// whole part with its sign (docs/LANGUAGE.md, "What a page is asked with").
+/// What a job said of each of these since the last reset, `None` where it said nothing: the last value, as its whole part with its sign
+/// (docs/LANGUAGE.md, "What a page is asked with").
 #[derive(Clone, Copy, Debug, PartialEq, Eq)]
 pub struct Asked {
+    /// How many copies of each page, `&lX`.
+    pub copies: Option<i64>,
+    /// The number of the page size, `&lA`.
+    pub page_size: Option<i64>,
+    /// The length of the page, `&lP`, in units of 1/7200 inch: as many lines as the value says, of the line spacing that was set then.
+    /// Nothing where a page size was said after it.
+    pub page_length: Option<i64>,
     /// One side or both, `&lS`.
-    pub sides: Option<i32>,
+    pub sides: Option<i64>,
     /// Where printed sheets go, `&lG`.
-    pub output_bin: Option<i32>,
+    pub output_bin: Option<i64>,
     /// The kind of paper, `&lM`.
-    pub media_type: Option<i32>,
-    /// Where the paper comes from, `&lH`.
-    pub paper_source: Option<i32>,
-    /// The front or the back of a sheet, `&aG`.
-    pub sheet_side: Option<i32>,
+    pub media_type: Option<i64>,
+    /// Where the paper comes from, `&lH`; never 0, which only ejects the page.
+    pub paper_source: Option<i64>,
 }
 
 impl Asked {
     /// Nothing is asked, as at the beginning of a job and after a reset.
     pub const NOTHING: Asked = Asked {
+        copies: None,
+        page_size: None,
+        page_length: None,
         sides: None,
         output_bin: None,
         media_type: None,
         paper_source: None,
-        sheet_side: None,
     };
 
-    /// The same, but with this value of what is asked.
-    pub fn with(self, what: Asking, value: Value) -> Asked
-        ensures { result ≡ asked_with what (signed_whole value) self }
+    /// The same, but with this value of what is asked, where lines are spaced so, in units of 1/7200 inch. The side of a sheet changes
+    /// nothing here: it is asked of the next page alone.
+    pub fn with(self, what: Asking, value: Value, line_spacing: u32) -> Asked
+        ensures { result ≡ asked_with what (signed_whole value) line_spacing self }
     {
-        let whole = Some(value.whole());
+        let whole = i64::from(value.whole());
         match what {
             Asking::Sides => Asked {
-                sides: whole,
+                sides: Some(whole),
                 ..self
             },
             Asking::OutputBin => Asked {
-                output_bin: whole,
+                output_bin: Some(whole),
                 ..self
             },
             Asking::MediaType => Asked {
-                media_type: whole,
+                media_type: Some(whole),
                 ..self
             },
-            Asking::PaperSource => Asked {
-                paper_source: whole,
+            Asking::PaperSource => self.with_source(whole),
+            Asking::SheetSide => self,
+            Asking::PageLength => Asked {
+                page_length: Some(whole * i64::from(line_spacing)),
                 ..self
             },
-            Asking::SheetSide => Asked {
-                sheet_side: whole,
-                ..self
-            },
+        }
+    }
+
+    /// The same, but with this paper source, unless it is 0.
+    fn with_source(self, source: i64) -> Asked
+        ensures { result ≡ (if int_eq source (pos 0) then self else record self { paper_source = Some source }) }
+    {
+        if source == 0 {
+            return self;
+        }
+        Asked {
+            paper_source: Some(source),
+            ..self
+        }
+    }
+
+    /// The same, but with as many copies.
+    pub fn with_copies(self, copies: u8) -> Asked
+        ensures { result ≡ copies_said copies self }
+    {
+        Asked {
+            copies: Some(i64::from(copies)),
+            ..self
+        }
+    }
+
+    /// The same, but with this page size, and no page length.
+    pub fn with_size(self, size: Size) -> Asked
+        ensures { result ≡ size_said size self }
+    {
+        Asked {
+            page_size: Some(i64::from(size.code())),
+            page_length: None,
+            ..self
         }
     }
 }

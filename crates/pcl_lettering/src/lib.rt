@@ -11,3 +11,4 @@ mod macro_writing;
 mod remains;
 
 pub use lettering::{Lettering, PageWriter};
+pub use macro_writing::END_RASTER;

@@ -7,7 +7,7 @@ use pcl_patterns::Letter;
 use std::alloc::AllocError;
 
 /// Puts back method 0, by which the rows of a page text begin.
-const END_RASTER: &[u8] = b"\x1b*rC";
+pub const END_RASTER: &[u8] = b"\x1b*rC";
 
 /// Writes pages with letters as macros, one after the other.
 #[derive(Drop)]

@@ -1,6 +1,8 @@
 -- How far deeds bring a situation.
 use Rattle.std.proofs.Common.{◌≡◌, ℕ, ◌+◌, ◌≤◌, ◌<◌, false, cond, List, [], ◌∷◌, ◌++◌, length, Some, None, Result, Ok, Err, refl, ap, ◌∙◌, arith}
 use Rattle.pcl_meaning.proofs.Names.{is_some, Dpi, Kind, UnsupportedCommand, Empty, Operation, Reset, ControlMacros, ControlFonts, Value, Said, outcome, Run, managed, after_command, run_from, run_of, Performance, done, in_order, step, then_from, after_adds, tried_as}
+use Rattle.pcl_base.specs.declared.operation.Asking.TheVariants.{SheetSide}
+use Rattle.pcl_base.specs.declared.operation.Operation.TheVariants.{Ask}
 use Rattle.pcl_page.specs.Situation.{Situation, is_marked, drawn, draw_refusal, ◌|>◌, turned_by, drawn_on, counted, prepared, is_ignored, after, page_refusal, within_page_limit, tried}
 use Rattle.pcl_meaning.proofs.Deeds.{Deed}
 use Rattle.pcl_meaning.proofs.Readings.{IsSaid, AreSaid}
@@ -18,6 +20,8 @@ nameless command = record { at = 0; name = Empty; value = command.value; bytes =
 -- neither of them matters to what it does
 module _ (command : Said) (s : Situation) where
   drawn_same : (dpi : Dpi) (operation : Operation) → drawn dpi operation command s ≡ drawn dpi operation (nameless command) s
+  drawn_same dpi (Ask SheetSide) = refl
+  drawn_same dpi (Ask other) = refl
   drawn_same dpi Reset = refl
   drawn_same dpi other = refl
 

@@ -1,6 +1,6 @@
 -- Whole jobs of page texts are accepted, and mean the pages of the texts.
-use Rattle.std.proofs.Common.{◌≡◌, ℕ, ◌+◌, ◌*◌, ◌<◌, ◌≤◌, List, [], ◌∷◌, ◌++◌, length, Option, None, refl, sym, ap, subst, ◌∙◌, append_assoc, append-nil, length-append, arith, lit≤, false}
-use Rattle.pcl_meaning.proofs.Names.{flat_map, nat_tests, Dpi, Size, Refusal, macro_limit, command_limit, page_width, page_height, page_row_bytes, height_small, commands_of, IsReading, Settings, defaults, nothing_asked, Page, Temporary, control, pages_fit, Mark, is_black, Sheet, Situation, at_begin, at_end, Shows, Performance, done, unless, then_on, runs, after_all, end_refusal, after_end, pages_of, asks_among, Asks, HasPages, HasAsks, performance_of, Token, command_count, token_bytes, start_bytes, end_bytes, frame_bytes, IsPageText, bitmap_rows, IsWrittenPage, AreAlike, AllAlike, PrintEach, most_commands, nothing_for, dot_of_rows, job_of, MeansRows}
+use Rattle.std.proofs.Common.{◌≡◌, ℕ, ◌+◌, ◌*◌, ◌<◌, ◌≤◌, List, [], ◌∷◌, ◌++◌, length, map, Option, None, refl, sym, ap, subst, ◌∙◌, append_assoc, append-nil, length-append, arith, lit≤, false}
+use Rattle.pcl_meaning.proofs.Names.{flat_map, nat_tests, Dpi, Size, Refusal, macro_limit, command_limit, page_width, page_height, page_row_bytes, height_small, commands_of, IsReading, Settings, defaults, Page, Temporary, control, pages_fit, Mark, is_black, Sheet, Situation, at_begin, at_end, Shows, Performance, done, unless, then_on, runs, after_all, end_refusal, after_end, pages_of, asks_among, HasPages, HasAsks, performance_of, Token, command_count, token_bytes, start_bytes, end_bytes, frame_bytes, IsPageText, bitmap_rows, IsWrittenPage, AreAlike, AllAlike, PrintEach, most_commands, of_job, said_for, page_said, first_page, next_page, PageStart, dot_of_rows, job_of, MeansRows}
 use Rattle.pcl_env.specs.Outcome.{outcome}
 use Rattle.pcl_macros.specs.declared.table.MacroControl.TheVariants as macros
 use Rattle.pcl_macros.specs.History.{control as macro_control}
@@ -10,7 +10,7 @@ use Rattle.pcl_meaning.proofs.Readings.{ReadsAs, reads_joined, reads_none, said_
 use Rattle.pcl_meaning.proofs.Sequences.{token_deeds, body_deeds, reset, tokens_read, start_read, end_read, frame_read}
 use Rattle.pcl_meaning.proofs.Following.{AreLeading, stay, lead, leading_append, commands_done}
 use Rattle.pcl_meaning.proofs.Dots.{page_dot}
-use Rattle.pcl_meaning.proofs.Printing.{IsBetween, reset_fonts, reset_macros, between, text_deeds, text_taken}
+use Rattle.pcl_meaning.proofs.Printing.{IsBetween, begins_between, reset_fonts, reset_macros, between, text_deeds, text_taken}
 
 -- ---- a page text
 
@@ -40,6 +40,7 @@ closed pages n =
     record (between defaults pages n) {
       fonts = control Temporary 0 0 ∷ reset_fonts;
       macros = macro_control macros.Temporary 0 ∷ reset_macros;
+      asks = said_for pages;
     }
 
 -- the end of the input changes nothing after a reset
@@ -47,10 +48,10 @@ ended_there : (dpi : Dpi) (end : ℕ) {pages : List Sheet} {n : ℕ} → length 
     → after_end dpi end (closed pages n) ≡ done (at_end dpi (closed pages n))
 ended_there dpi end {pages} {n} few = rw (pages_fit (at_end dpi (closed pages n)) few) refl
 
--- the job is accepted with these pages, asks for nothing, and is read as so many commands
+-- the job is accepted with these pages, asks for what its texts say, and is read as so many commands
 pub record IsAccepted (dpi : Dpi) (job : List ℕ) (pages : List Sheet) (count : ℕ) : Type 0 where
   pub meaning : HasPages dpi job pages
-  pub asks : HasAsks dpi job (nothing_for pages)
+  pub asks : HasAsks dpi job (said_for pages)
   pub counted : length meaning.commands ≡ count
 
 -- bytes that are read as deeds that eject these pages
@@ -75,7 +76,12 @@ job_accepted {dpi} {text} {deeds} t {pages} n read leads fits few =
     let reading : IsReading job commands = record { pieces = r.pieces; each = r.each []; spelled = r.spelled; said = refl } in
     record {
       meaning = record { commands = commands; reading = reading; accepted = accepted; ejected = sym (ap pages_of performed) };
-      asks = record { commands = commands; reading = reading; accepted = accepted; asked = sym (ap asks_among performed) };
+      asks = record {
+        commands = commands;
+        reading = reading;
+        accepted = accepted;
+        asked = sym (ap (λ (p : Performance). of_job job (asks_among p)) performed);
+      };
       counted = omega (arith, said_many commands all (r.said 0), length-append deeds (reset ∷ []));
     }
 
@@ -85,7 +91,7 @@ pub text_means_page : (dpi : Dpi) (size : Size) (copies : ℕ) (rows : List (Lis
     (printed : IsPageText dpi size copies rows text) → command_count printed.tokens + 12 ≤ command_limit
     → MeansRows dpi size copies rows (job_of text)
 text_means_page dpi size copies rows text printed few =
-    let t = text_taken printed {n = 1} (record { method = refl; height = refl; asked = refl }) (lit≤ tt) in
+    let t = text_taken printed {n = 1} begins_between (lit≤ tt) in
     let job = job_accepted t.settings t.count (text_read printed) t.leads (lit≤ tt)
     (omega (arith, few, text_counted dpi size copies printed.tokens)) in
     record { sheet = _; meaning = job.meaning; size_is = refl; copies_are = refl; dots = λ x y wide high. t.black x y wide }
@@ -165,32 +171,46 @@ few_commands : (dpi : Dpi) (sheets : List Sheet) → most_commands dpi sheets �
 few_commands dpi [] = omega arith
 few_commands dpi (sheet ∷ sheets) = omega (arith, few_commands dpi sheets, height_small sheet.size dpi)
 
-nothing_alike : (again meant : List Sheet) → length again ≡ length meant → nothing_for again ≡ nothing_for meant
-nothing_alike [] [] e = refl
-nothing_alike (sheet ∷ again) (other ∷ meant) e =
-    ap (λ (asks : Asks). record { pages = nothing_asked ∷ asks.pages; exits = [] }) (nothing_alike again meant cc)
-nothing_alike again meant e = absurd cc
+-- pages that are alike say the same
+page_alike : {dpi : Dpi} {sheet other : Sheet} (start : PageStart) → AreAlike dpi sheet other
+    → page_said start other ≡ page_said start sheet
+page_alike start alike = rw (alike.size, alike.copies) refl
 
--- the written job is accepted, its pages are alike, it asks for nothing, and it has few commands
+pages_alike : (dpi : Dpi) (meant again : List Sheet) → AllAlike dpi meant again
+    → map (page_said next_page) again ≡ map (page_said next_page) meant
+pages_alike dpi [] [] a = refl
+pages_alike dpi (sheet ∷ meant) (other ∷ again) a =
+    let one = page_alike next_page a.0 in
+    let more = pages_alike dpi meant again a.1 in cc
+pages_alike dpi meant again a = absurd a
+
+said_alike : (dpi : Dpi) (meant again : List Sheet) → AllAlike dpi meant again → said_for again ≡ said_for meant
+said_alike dpi [] [] a = refl
+said_alike dpi (sheet ∷ meant) (other ∷ again) a =
+    let one = page_alike first_page a.0 in
+    let more = pages_alike dpi meant again a.1 in cc
+said_alike dpi meant again a = absurd a
+
+-- the written job is accepted, its pages are alike, it asks for what its texts say, and it has few commands
 pub record IsAgain (dpi : Dpi) (pages : List Sheet) (job : List ℕ) : Type 0 where
   pub again : List Sheet
   pub meaning : HasPages dpi job again
   pub alike : AllAlike dpi pages again
-  pub asks : HasAsks dpi job (nothing_for pages)
+  pub asks : HasAsks dpi job (said_for pages)
   pub few : length meaning.commands ≤ most_commands dpi pages
 
 pub written_again : {dpi : Dpi} {job : List ℕ} (texts : List ℕ) {pages : List Sheet} → HasPages dpi job pages
     → PrintEach IsWrittenPage dpi pages texts → IsAgain dpi pages (frame_bytes ++ texts ++ frame_bytes)
 written_again {dpi} texts {pages} h p =
     let fits = job_fits h in
-    elim (texts_taken pages p (record { method = refl; height = refl; asked = refl }) (omega (arith, fits))) [
+    elim (texts_taken pages p begins_between (omega (arith, fits))) [
       | taken deeds again settings count read leads alike same few ↦
           let job = job_accepted settings count read leads (omega (arith, same, fits)) (omega (arith, fits, few, few_commands dpi pages)) in
           record {
             again = again;
             meaning = job.meaning;
             alike = alike;
-            asks = subst (HasAsks dpi (frame_bytes ++ texts ++ frame_bytes)) (nothing_alike again pages same) job.asks;
+            asks = subst (HasAsks dpi (frame_bytes ++ texts ++ frame_bytes)) (said_alike dpi pages again alike) job.asks;
             few = omega (arith, job.counted, few);
           }
     ]

@@ -7,7 +7,7 @@ pub use Rattle.pcl_base.specs.declared.{dpi.Dpi.Dpi, dpi.Dpi.TheVariants.Dpi300,
 pub use Rattle.pcl_bitmap.proofs.{Bytes.bit_of_byte-zero, Pictures.same_dots}
 pub use Rattle.pcl_bitmap.proofs.Names.{Picture, bit_of_byte, dot_of_row, raster_dot}
 pub use Rattle.pcl_bitmap.specs.declared.{page.Page.Page}
-pub use Rattle.pcl_env.specs.{Outcome.before_feed, Outcome.outcome, Outcome.return_carriage, Settings.Settings, Settings.defaults, Settings.nothing_asked, Settings.put, Settings.put_x, Settings.put_y, Settings.to_first_line, Settings.with_size}
+pub use Rattle.pcl_env.specs.{Outcome.before_feed, Outcome.outcome, Outcome.return_carriage, Settings.Settings, Settings.copies_said, Settings.defaults, Settings.size_said, Settings.put, Settings.put_x, Settings.put_y, Settings.to_first_line, Settings.with_size}
 pub use Rattle.pcl_env.specs.declared.{asked.Asked.Asked, effect.Effect.Effect}
 pub use Rattle.pcl_escape.proofs.Names.{ArePieces, IsEnd, IsMiddle, IsPiece, IsPrefix, IsReading, Parameter, PassesChecks, Piece, Said, Spelled, combined, commands_from, commands_of, data_checks, field_value, first_place, in_range, is_exit, is_last, may_go_on, parameter_bytes, parameter_commands, parameter_name, prefix_bytes, spelling, two_character}
 pub use Rattle.pcl_escape.proofs.{Runs.place_further}
@@ -21,6 +21,8 @@ pub use Rattle.pcl_output.proofs.Names.{AreWhite, IsPageText, IsRowOf, IsSpelled
 pub use Rattle.pcl_output.specs.{Tokens.letter}
 pub use Rattle.pcl_output.proofs.{Numbers.decimal_spelled}
 pub use Rattle.pcl_page.proofs.{Keeping.after_adds, Keeping.then_from, Steps.tried_as, Turns.pages_fit}
+pub use Rattle.pcl_page.specs.{Asks.first_page, Asks.next_page, Asks.of_job}
+pub use Rattle.pcl_page.specs.declared.{asks.PageStart.PageStart}
 pub use Rattle.pcl_page.proofs.Names.{AllAlike, AreAlike, Asks, HasAsks, HasPages, Mark, Performance, Raster, Run, Sheet, Shows, Situation, after_all, after_command, after_end, asks_among, at_begin, at_end, bytes_of_width, cleared_past, done, dot_at, end_refusal, ends_raster, first_bits, in_order, is_black, managed, pages_of, performance_of, raster_from, row_mark, row_sent, run_from, run_of, runs, scale_of, step, then_on, unless, with_page}
 pub use Rattle.pcl_writer.proofs.Names.{IsWrittenPage}
-pub use Rattle.pcl_meaning.specs.{JobTexts.IsJobOf, JobTexts.IsLeastJobText, JobTexts.PrintEach, JobTexts.PrintsShortest, JobTexts.most_commands, JobTexts.nothing_for, PageTexts.MeansRows, PageTexts.dot_of_rows, PageTexts.job_of}
+pub use Rattle.pcl_meaning.specs.{JobTexts.IsJobOf, JobTexts.IsLeastJobText, JobTexts.PrintEach, JobTexts.PrintsShortest, JobTexts.most_commands, JobTexts.page_said, JobTexts.said_for, JobTexts.sheet_said, PageTexts.MeansRows, PageTexts.dot_of_rows, PageTexts.job_of}

@@ -1,6 +1,7 @@
 -- Performing the deeds of a page text prints its page.
 use Rattle.std.proofs.Common.{◌≡◌, ℕ, zero, suc, ◌+◌, ◌-◌, ◌*◌, ◌/◌, ◌<◌, ◌≤◌, Bool, true, false, cond, ◌||◌, ◌==◌, nat_le, List, [], ◌∷◌, ◌++◌, length, drop, replicate, Option, Some, None, refl, ◌∙◌, length-append, arith, Ok}
-use Rattle.pcl_meaning.proofs.Names.{not, nat_lt, AllByRecursion, length-replicate, map-append, or-false, nat_tests, Dpi, Dpi300, Dpi600, Method, Plain, Horizontal, Vertical, PclUnit, Operation, FormFeed, PageSize, Copies, TopMargin, Move, RasterResolution, RasterWidth, StartRaster, EndRasterResetMethod, RasterMethod, RasterOffset, RasterRow, Size, Executive, Value, dots_per_inch, method_code, code_of, page_width, units_high, zero_value, Effect, Settings, put, put_x, put_y, to_first_line, nothing_asked, with_size, before_feed, return_carriage, Temporary, FontEvent, control, MacroEvent, Asked, pages_fit, with_page, Mark, is_black, dot_at, Raster, ends_raster, scale_of, raster_from, bytes_of_width, row_sent, row_mark, IsRowData, decoded_is, Token, opening, method, skip, send, IsRowOf, IsPageText, nothing_for, dot_of_rows}
+use Rattle.std.specs.Prelude.{pos}
+use Rattle.pcl_meaning.proofs.Names.{not, nat_lt, AllByRecursion, length-replicate, map-append, or-false, nat_tests, Dpi, Dpi300, Dpi600, Method, Plain, Horizontal, Vertical, PclUnit, Operation, FormFeed, PageSize, Copies, TopMargin, Move, RasterResolution, RasterWidth, StartRaster, EndRasterResetMethod, RasterMethod, RasterOffset, RasterRow, Size, Executive, Value, dots_per_inch, method_code, code_of, page_width, units_high, zero_value, Effect, Settings, put, put_x, put_y, to_first_line, copies_said, size_said, defaults, with_size, before_feed, return_carriage, Temporary, FontEvent, control, MacroEvent, Asked, pages_fit, with_page, Mark, is_black, dot_at, Raster, ends_raster, scale_of, raster_from, bytes_of_width, row_sent, row_mark, IsRowData, decoded_is, Token, opening, method, skip, send, IsRowOf, IsPageText, PageStart, Asks, first_page, next_page, sheet_said, page_said, said_for, dot_of_rows}
 use Rattle.pcl_env.specs.declared.effect.Effect.TheVariants as page
 use Rattle.pcl_env.specs.Outcome.{outcome}
 use Rattle.pcl_macros.specs.declared.table.MacroControl.TheVariants as macros
@@ -16,11 +17,34 @@ use Rattle.pcl_meaning.proofs.Pads.{cleared_is}
 
 -- ---- between texts
 
--- the settings between texts: the first row of a raster is plain, no height is set, and nothing is asked besides dots
+-- no more is asked than what page texts say, and a page length
+pub record AsksForLittle (asked : Asked) : Type 0 where
+  pub sides : asked.sides ≡ None
+  pub bin : asked.output_bin ≡ None
+  pub media : asked.media_type ≡ None
+  pub source : asked.paper_source ≡ None
+
+-- the settings between texts: the first row of a raster is plain, no height is set, and little is asked besides dots
 pub record IsBetween (t : Settings) : Type 0 where
   pub method : t.method ≡ Plain
   pub height : t.raster_height ≡ None
-  pub asked : t.asked ≡ nothing_asked
+  pub asked : AsksForLittle t.asked
+
+pub begins_between : IsBetween defaults
+begins_between = record { method = refl; height = refl; asked = record { sides = refl; bin = refl; media = refl; source = refl } }
+
+-- what is asked once a page text has said its copies and its size
+said_then : (size : Size) (copies : ℕ) (asked : Asked) (marks : List Mark) → AsksForLittle asked
+    → size_said size (copies_said copies asked) ≡ sheet_said (record { size = size; copies = copies; marks = marks })
+said_then size copies asked marks little = λ i. record {
+  copies = Some (pos copies);
+  page_size = Some (pos (code_of size));
+  page_length = None;
+  sides = little.sides i;
+  output_bin = little.bin i;
+  media_type = little.media i;
+  paper_source = little.source i;
+}
 
 -- what a job of page texts does to fonts: the reset at its start deletes the temporary ones
 abbrev pub reset_fonts : List FontEvent
@@ -29,6 +53,15 @@ reset_fonts = control Temporary 0 0 ∷ []
 -- and to macros
 abbrev pub reset_macros : List MacroEvent
 reset_macros = macro_control macros.Temporary 0 ∷ []
+
+-- how the page after these begins
+abbrev pub begins_after : List Sheet → PageStart
+begins_after [] = first_page
+begins_after (sheet ∷ sheets) = next_page
+
+-- what was asked with these pages
+abbrev pub asks_before : List Sheet → Asks
+asks_before pages = record (said_for pages) { next = begins_after pages }
 
 -- an unmarked page with no raster, and no definition
 abbrev pub between : Settings → List Sheet → ℕ → Situation
@@ -40,7 +73,7 @@ between t pages n = record {
   begun = None;
   marks = [];
   pages = pages;
-  asks = nothing_for pages;
+  asks = asks_before pages;
   performed = n;
 }
 
@@ -51,7 +84,7 @@ prepared_is dpi ends = grind arith
 -- ---- what the start of a text sets
 
 copies_out : (dpi : Dpi) (copies : ℕ) (t : Settings) → 0 < copies → copies < 100
-    → outcome dpi Copies (number_value copies) false t ≡ Some (record t { copies = copies }, page.Stay)
+    → outcome dpi Copies (number_value copies) false t ≡ Some (record t { copies = copies; asked = copies_said copies t.asked }, page.Stay)
 unfolding outcome
 copies_out dpi copies t some few =
     let from : nat_le 1 copies ≡ true = grind (arith, nat_tests) in
@@ -95,10 +128,14 @@ unfolding outcome
 width_out size dpi t =
     let some : (page_width size dpi == 0) ≡ false = grind (arith, nat_tests) in rw (whole_is (page_width size dpi), some) refl
 
+-- the settings after the copies
+abbrev with_copies : ℕ → Settings → Settings
+with_copies copies t = record t { copies = copies; asked = copies_said copies t.asked }
+
 -- the settings of a text's raster
 abbrev pub ready : Dpi → Size → ℕ → Settings → Settings
 ready dpi size copies t =
-    record (put_y 0 (put_x 0 (top_zero (with_size size (record t { copies = copies })))))
+    record (put_y 0 (put_x 0 (top_zero (with_size size (with_copies copies t)))))
     { resolution = dots_per_inch dpi; raster_width = Some (page_width size dpi) }
 
 -- the raster of a text: at the page's left edge, as wide as the page, k rows done
@@ -142,7 +179,7 @@ start_leads : (size : Size) (dpi : Dpi) (copies : ℕ) {t : Settings} (pages : L
     → length pages ≤ 256 → AreLeading dpi (start_deeds dpi copies size) (between t pages n)
     (in_body size dpi (ready dpi size copies t) Plain 0 (zeros size dpi) [] pages (n + 1 + 1 + 1 + 1 + 1 + 1 + 1 + 1))
 start_leads size dpi copies {t} pages n b some few fits =
-    let sized = with_size size (record t { copies = copies }) in
+    let sized = with_size size (with_copies copies t) in
     let down = put_y 0 (put_x 0 (top_zero sized)) in
     let m = n + 1 + 1 + 1 + 1 + 1 + 1 + 1 in
     let u = ready dpi size copies t in
@@ -255,17 +292,19 @@ unfolding after outcome
 end_after size dpi t m k seed n = refl
 
 -- one page more
-asks_more : {asked : Asked} (pages : List Sheet) (sheet : Sheet) → asked ≡ nothing_asked
-    → with_page asked (nothing_for pages) ≡ nothing_for (pages ++ sheet ∷ [])
-asks_more pages sheet e = rw (e, map-append (λ (one : Sheet). nothing_asked) pages (sheet ∷ [])) refl
+asks_more : {asked : Asked} (pages : List Sheet) (sheet : Sheet) → asked ≡ sheet_said sheet
+    → with_page asked (asks_before pages) ≡ asks_before (pages ++ sheet ∷ [])
+asks_more [] sheet e = rw e refl
+asks_more (page ∷ pages) sheet e = rw (e, map-append (page_said next_page) pages (sheet ∷ [])) refl
 
-feed_after : (dpi : Dpi) (u : Settings) (marks : List Mark) (pages : List Sheet) (n : ℕ) → u.asked ≡ nothing_asked
+feed_after : (dpi : Dpi) (u : Settings) (marks : List Mark) (pages : List Sheet) (n : ℕ)
+    → u.asked ≡ sheet_said (record { size = u.size; copies = u.copies; marks = marks })
     → does dpi (deed FormFeed zero_value []) (record (between u pages n) { marks = marks })
     ≡ Ok (between (to_first_line (before_feed u)) (pages ++ record { size = u.size; copies = u.copies; marks = marks } ∷ []) (n + 1))
 unfolding after outcome
 feed_after dpi u marks pages n e = rw (asks_more pages (record { size = u.size; copies = u.copies; marks = marks }) e) refl
 
-feed_between : (test : Bool) (u : Settings) → u.method ≡ Plain → u.raster_height ≡ None → u.asked ≡ nothing_asked
+feed_between : (test : Bool) (u : Settings) → u.method ≡ Plain → u.raster_height ≡ None → AsksForLittle u.asked
     → IsBetween (to_first_line (cond test (return_carriage u) u))
 feed_between test u plain none asked = grind arith
 
@@ -274,17 +313,18 @@ abbrev ended_at : Size → Dpi → Settings → Method → ℕ → List ℕ → 
 ended_at size dpi t m k seed = to_first_line (before_feed (behind size dpi t m k seed))
 
 end_leads : (size : Size) (dpi : Dpi) (t : Settings) (m : Method) (k : ℕ) (seed : List ℕ) (marks : List Mark) (pages : List Sheet) (n : ℕ)
-    → t.raster_height ≡ None → t.asked ≡ nothing_asked → length pages < 256 → IsBetween (ended_at size dpi t m k seed)
+    → t.raster_height ≡ None → AsksForLittle t.asked → t.asked ≡ sheet_said (record { size = t.size; copies = t.copies; marks = marks })
+    → length pages < 256 → IsBetween (ended_at size dpi t m k seed)
     × AreLeading dpi end_deeds (in_body size dpi t m k seed marks pages n)
     (between (ended_at size dpi t m k seed) (pages ++ record { size = t.size; copies = t.copies; marks = marks } ∷ []) (n + 1 + 1))
-end_leads size dpi t m k seed marks pages n none asked few =
+end_leads size dpi t m k seed marks pages n none little asked few =
     let u = behind size dpi t m k seed in
     let middle : Situation = record (between u pages (n + 1)) { marks = marks } in
     let sheet : Sheet = record { size = t.size; copies = t.copies; marks = marks } in
     let last = between (to_first_line (before_feed u)) (pages ++ sheet ∷ []) (n + 1 + 1) in
     let fits = pages_fit last (omega (arith, length-append pages (sheet ∷ []))) in
     let fed = lead {s = middle} {next = last} (feed_after dpi u marks pages (n + 1) asked) fits stay in (
-      feed_between u.feed_returns u refl none asked,
+      feed_between u.feed_returns u refl none little,
       lead (end_after size dpi t m k seed n) (pages_fit middle (omega arith)) fed,
     )
 
@@ -318,7 +358,9 @@ text_taken {dpi} {size} {copies} {rows} text {t} {pages} {n} b few =
     let start = start_leads size dpi copies pages n b text.some_copies text.few_copies (omega arith) in
     elim (body_printed false text.tokens u rows 0 [] pages m text.prints text.rows_are (length-replicate _ 0) (omega arith)) [
       | is_printed last k seed inked count body black ↦
-          let end = end_leads size dpi u last k seed inked pages count b.height b.asked few in
+          let little : AsksForLittle u.asked =
+          record { sides = b.asked.sides; bin = b.asked.bin; media = b.asked.media; source = b.asked.source } in
+          let end = end_leads size dpi u last k seed inked pages count b.height little (said_then size copies t.asked inked b.asked) few in
           record {
             settings = _;
             stands = end.0;

@@ -1,12 +1,12 @@
 -- A job written again: page texts of its pages between two resets.
 use Rattle.std.proofs.Common.{◌≡◌, ℕ, List, ◌++◌, sym, subst, append_assoc}
-use Rattle.pcl_meaning.proofs.Names.{Dpi, Sheet, HasPages, HasAsks, frame_bytes, IsWrittenPage, PrintEach, IsJobOf, nothing_for}
+use Rattle.pcl_meaning.proofs.Names.{Dpi, Sheet, HasPages, HasAsks, frame_bytes, IsWrittenPage, PrintEach, IsJobOf, said_for}
 use Rattle.pcl_meaning.proofs.Jobs.{IsAgain, written_again}
 
--- a least raster job asks for nothing
-pub asks_nothing : {dpi : Dpi} {job output : List ℕ} (w : IsJobOf dpi job output) → HasAsks dpi output (nothing_for w.pages)
-asks_nothing {dpi} w =
-    subst (λ (bytes : List ℕ). HasAsks dpi bytes (nothing_for w.pages)) (sym w.spelled) (written_again w.texts w.meaning w.print).asks
+-- a least raster job asks for what its page texts say
+pub asks_as_said : {dpi : Dpi} {job output : List ℕ} (w : IsJobOf dpi job output) → HasAsks dpi output (said_for w.pages)
+asks_as_said {dpi} w =
+    subst (λ (bytes : List ℕ). HasAsks dpi bytes (said_for w.pages)) (sym w.spelled) (written_again w.texts w.meaning w.print).asks
 
 -- page texts of the job's pages between two resets
 unfoldable pub job_of_texts : (dpi : Dpi) (job start body output texts : List ℕ) (pages : List Sheet) → HasPages dpi job pages

@@ -3,8 +3,11 @@ use Rattle.std.specs.Prelude.{◌≡◌, ℕ, ◌+◌, ◌*◌, ◌≤◌, List,
 use Rattle.pcl_base.specs.declared.dpi.Dpi.{Dpi}
 use Rattle.pcl_base.specs.Size.{page_height}
 use Rattle.pcl_bitmap.specs.declared.page.Page.{Page}
-use Rattle.pcl_env.specs.Settings.{nothing_asked}
-use Rattle.pcl_page.specs.Asks.{Asks}
+use Rattle.pcl_env.specs.declared.asked.Asked.{Asked}
+use Rattle.pcl_env.specs.Settings.{nothing_asked, copies_said, size_said}
+use Rattle.pcl_page.specs.declared.asks.AskedPage.{AskedPage}
+use Rattle.pcl_page.specs.declared.asks.PageStart.{PageStart}
+use Rattle.pcl_page.specs.Asks.{Asks, no_asks, first_page, next_page}
 use Rattle.pcl_page.specs.Situation.{Sheet}
 use Rattle.pcl_page.specs.Performing.{Shows}
 use Rattle.pcl_page.specs.Jobs.{HasPages}
@@ -50,9 +53,20 @@ abbrev pub most_commands : Dpi → List Sheet → ℕ
 most_commands dpi [] = 2
 most_commands dpi (sheet ∷ sheets) = 3 * page_height sheet.size dpi + 10 + most_commands dpi sheets
 
--- what a job with these pages asks for that asks for nothing besides dots
-abbrev pub nothing_for : List Sheet → Asks
-nothing_for pages = record { pages = map (λ (sheet : Sheet). nothing_asked) pages; exits = [] }
+-- what a page text says: the copies and the size, and nothing else
+abbrev pub sheet_said : Sheet → Asked
+sheet_said sheet = size_said sheet.size (copies_said sheet.copies nothing_asked)
+
+abbrev pub page_said : PageStart → Sheet → AskedPage
+page_said start sheet = record { said = sheet_said sheet; start = start }
+
+abbrev pub pages_said : List Sheet → List AskedPage
+pages_said [] = []
+pages_said (sheet ∷ sheets) = page_said first_page sheet ∷ map (page_said next_page) sheets
+
+-- what a job text of these pages asks for: what each page text says, without a reset between them, and nothing else
+abbrev pub said_for : List Sheet → Asks
+said_for pages = record no_asks { pages = pages_said pages }
 
 -- a job text whose page texts print the pages of a job. It is accepted by the same rules, in few commands, and its pages are the
 -- same.

@@ -3,7 +3,7 @@
 ghost use Rattle.std.specs.Prelude.{ℕ, List};
 ghost use Rattle.pcl_base.specs.declared.dpi.Dpi.{Dpi};
 ghost use Rattle.pcl_page.specs.Jobs.{HasAsks};
-ghost use Rattle.pcl_meaning.specs.JobTexts.{IsJobOf, nothing_for};
+ghost use Rattle.pcl_meaning.specs.JobTexts.{IsJobOf, said_for};
 ghost use Rattle.pcl_meaning.specs.PageTexts.{PageTextsMeanTheirPages};
 
 /// A page text between two resets is an accepted job that means the page that the text prints and no other.
@@ -13,8 +13,8 @@ pub fn page_texts_mean_their_pages()
     ensures { PageTextsMeanTheirPages }
 {}
 
-/// A job written again asks the printer for nothing besides dots. It asks for no sides, trays or bins, and no
-/// universal exit stands in it.
-pub fn written_jobs_ask_for_nothing()
-    ensures { (dpi : Dpi) (input output : List ℕ) → (written : IsJobOf dpi input output) → HasAsks dpi output (nothing_for written.pages) }
+/// A job written again says the copies and the size of each page and asks the printer for nothing else besides dots. It asks for no
+/// sides, trays or bins; no universal exit stands in it, and no reset between its pages.
+pub fn written_jobs_say_copies_and_sizes()
+    ensures { (dpi : Dpi) (input output : List ℕ) → (written : IsJobOf dpi input output) → HasAsks dpi output (said_for written.pages) }
 {}

@@ -3,4 +3,4 @@
 
 mod laws;
 
-pub use laws::{page_texts_mean_their_pages, written_jobs_ask_for_nothing};
+pub use laws::{page_texts_mean_their_pages, written_jobs_say_copies_and_sizes};

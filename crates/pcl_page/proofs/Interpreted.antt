@@ -1,5 +1,7 @@
 -- The interpreter follows the situation, command by command.
-use Rattle.std.proofs.Common.{◌≡◌, ℕ, ◌+◌, Bool, true, false, cond, List, ◌∷◌, Option, Some, None, Result, Ok, Err, refl, sym, ◌∙◌, append-nil, inl, inr, rules}
+use Rattle.std.proofs.Common.{◌≡◌, ℕ, ◌+◌, Bool, true, false, cond, List, ◌∷◌, Option, Some, None, Result, Ok, Err, refl, sym, ap, ◌∙◌, append-nil, inl, inr, rules}
+use Rattle.pcl_macros.specs.History.{MacroBody}
+use Rattle.pcl_macros.specs.Table.{places_of}
 use Rattle.pcl_page.proofs.Names.{is_some, option_map, Dpi, CallFault, Refused, Memory, JobFault, Kind, Operation, ControlMacros, Value, operation_of, Effect, Stay, Settings, kept, Outcome, Said, MacroControl, MacroEvent, control, Begun, Controls, macro_at, is_begun, Page, Performer, Interpreter, Begin, Execute, Call, Control, Run, acted, managed, counting, run_by, run_from, run_with, macro_now, IsIn, HandsMore, IsTried, EndDone, IsAt, Enters, IsStepped, IsActed, IsEntered, InterpreterEnds}
 use Rattle.pcl_base.specs.declared.fault.JobFault.TheVariants as job
 use Rattle.pcl_env.specs.Outcome.{outcome}
@@ -173,6 +175,25 @@ module _ {dpi : Dpi} {s : Situation} {old : Interpreter} (at : IsAt dpi s old) w
     call_acted {saved} new result k =
         let same : saved ≡ kept s.settings = rw at.is_in.settings at k in
         enter_acted _ (option_map (run_with (Some saved)) (macro_at old.macros id)) new result (rw (found, same) refl)
+
+-- the same from an interpreter in which as much runs
+pub acted_from : (dpi : Dpi) (outcome : Result Situation Kind) (run_after : Situation → Option Run) (result : Result (Unit {0}) CallFault)
+    (old other new : Interpreter) → other.running ≡ old.running → IsActed dpi outcome run_after result old new
+    → IsActed dpi outcome run_after result other new
+acted_from dpi outcome run_after (Ok unit) old other new e a = rw e a
+acted_from dpi outcome run_after (Err (Refused kind)) old other new e a = rw e a
+acted_from dpi outcome run_after (Err Memory) old other new e a = a
+
+-- whether the macro that is meant was defined
+placed : (body : Option MacroBody) → is_some (places_of body) ≡ is_some body
+placed None = refl
+placed (Some body) = refl
+
+pub defined_is : {dpi : Dpi} {s : Situation} {old : Interpreter} {id : ℕ} → IsAt dpi s old → id ≡ old.performer.environment.macro_id
+    → is_some (places_of (macro_at old.macros id)) ≡ is_some (macro_now s)
+defined_is {s = s} {old} {id} at i =
+    let found : macro_at old.macros id ≡ macro_now s = at.macros id ∙ cc (i, at.is_in.settings) in
+    placed (macro_at old.macros id) ∙ ap is_some found
 
 -- ---- the end
 

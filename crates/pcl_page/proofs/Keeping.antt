@@ -46,7 +46,7 @@ adds_turned : (settings : Settings) (effect : Effect) (s : Situation) (test : Bo
     → Adds s (turned settings effect s)
 adds_turned settings effect s true e =
     let one_more : Onward s (turned_page settings s) =
-    (sheet_of s ∷ [], refl, omega (arith, length-append s.asks.pages (s.settings.asked ∷ []))) in
+    (sheet_of s ∷ [], refl, omega (arith, length-append s.asks.pages (record { said = s.settings.asked; start = s.asks.next } ∷ []))) in
     rw e (record { onward = one_more; performed = refl; macros = refl; begun = refl })
 adds_turned settings effect s false e = rw e (record { onward = stays_there s; performed = refl; macros = refl; begun = refl })
 

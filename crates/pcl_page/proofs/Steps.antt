@@ -1,8 +1,8 @@
 -- The performer follows the situation, command by command.
 use Rattle.std.proofs.Common.{◌≡◌, ℕ, ◌+◌, ◌<◌, ◌≤◌, Bool, true, false, cond, nat_le, List, [], ◌∷◌, ◌++◌, length, Option, Some, None, Result, Ok, Err, refl, sym, ap, ◌∙◌, append-nil, length-append, inl, inr, arith, rules, is_some, ◌&&◌}
-use Rattle.pcl_page.proofs.Names.{nat_tests, Dpi, CallFault, Refused, Memory, Kind, TooManyPages, Operation, FillRectangle, ControlFonts, DownloadFont, DownloadCharacter, PrintText, command_limit, operation_of, is_below_zero, Said, Effect, Stay, Settings, defaults, Outcome, stays, Page, Performer, ends_raster, is_ignored_in_raster, Shows, IsIn, IsEjected, Takes, Draws, HandsMore, IsTurned, IsTried, Asked, asks_of}
+use Rattle.pcl_page.proofs.Names.{nat_tests, Dpi, CallFault, Refused, Memory, Kind, TooManyPages, Operation, FillRectangle, ControlFonts, DownloadFont, DownloadCharacter, PrintText, command_limit, operation_of, is_below_zero, Said, Effect, Stay, Settings, defaults, Outcome, stays, Page, Performer, ends_raster, is_ignored_in_raster, Shows, IsIn, IsEjected, Takes, Draws, HandsMore, IsTurned, IsTried, Asked, asks_of, restarted, with_page}
 use Rattle.pcl_env.specs.Outcome.{outcome}
-use Rattle.pcl_page.specs.Situation.{Sheet, Situation, turned_page, without_temporary, draw_refusal, unless_refused, ◌|>◌, drawn_on, end_raster, is_marked, sheet_of, turned, turned_by, drawn, counted, prepared, is_ignored, after, after_named, at_end, page_refusal, within_page_limit, tried}
+use Rattle.pcl_page.specs.Situation.{Sheet, Situation, turned_page, put_back, draw_refusal, unless_refused, ◌|>◌, drawn_on, end_raster, is_marked, sheet_of, turned, turned_by, drawn, counted, prepared, is_ignored, after, after_named, at_end, page_refusal, within_page_limit, tried}
 use Rattle.pcl_page.proofs.Turns.{prepared_page, with_settings, pages_fit, pages_past, handed_sheet, below_same}
 use Rattle.pcl_page.proofs.Keeping.{drawn_keeps}
 
@@ -187,29 +187,32 @@ abbrev EndsAt : {S : Type 0} → (S → Page → S → Type 0) → Dpi → Situa
 EndsAt {S} takes dpi s end new sink later = (page_refusal end ≡ None) × HandsMore takes dpi s end sink later × (asks_of new.asks ≡ end.asks)
 
 pub end_marked : {S : Type 0} (takes : S → Page → S → Type 0) (dpi : Dpi) (s : Situation) (copies : ℕ) (asked : Asked)
-    (old new : Performer) (sink later : S) → IsIn dpi s old
+    (old middle new : Performer) (sink later : S) → IsIn dpi s old
     → old.is_marked ≡ true → old.ejected < 256 → copies ≡ old.environment.copies → asked ≡ old.environment.asked
-    → IsEjected asked old new → Takes takes copies old sink later → EndsAt takes dpi s (at_end dpi s) new sink later
-end_marked takes dpi s copies asked old new sink later i m few c a e t =
+    → IsEjected asked old middle → Takes takes copies old sink later → asks_of new.asks ≡ restarted (asks_of middle.asks)
+    → EndsAt takes dpi s (at_end dpi s) new sink later
+end_marked takes dpi s copies asked old middle new sink later i m few c a e t again =
     let end = end_raster dpi s in
     let is : is_marked s ≡ true = cc in
     let count = length-append s.pages (sheet_of end ∷ []) in
     let below = below_same dpi s.raster s.settings in
+    let said : asked ≡ end.settings.asked = a ∙ ap (λ (t : Settings). t.asked) i.settings ∙ sym below.2 in
     let shows : Shows dpi t.0 (sheet_of end) = rw (below.0, below.1) (handed_sheet i refl c t.1) in
     rw is (
-      pages_fit (without_temporary (turned_page defaults end)) (omega (arith, i.ejected, count)),
+      pages_fit (put_back (turned_page defaults end)) (omega (arith, i.ejected, count)),
       (sheet_of end ∷ [], refl, (t.0, later, shows, t.2, refl)),
-      cc below.2,
+      again ∙ ap restarted (e.asks ∙ ap (λ (x : Asked). with_page x (asks_of old.asks)) said ∙ ap (with_page end.settings.asked) i.asks),
     )
 
-pub end_unmarked : {S : Type 0} (takes : S → Page → S → Type 0) (dpi : Dpi) (s : Situation) (old : Performer) (sink later : S)
-    → IsIn dpi s old → old.is_marked ≡ false → old.ejected ≤ 256 → later ≡ sink → EndsAt takes dpi s (at_end dpi s) old sink later
-end_unmarked takes dpi s old sink later i m few same =
+pub end_unmarked : {S : Type 0} (takes : S → Page → S → Type 0) (dpi : Dpi) (s : Situation) (old new : Performer) (sink later : S)
+    → IsIn dpi s old → old.is_marked ≡ false → old.ejected ≤ 256 → later ≡ sink → asks_of new.asks ≡ restarted (asks_of old.asks)
+    → EndsAt takes dpi s (at_end dpi s) new sink later
+end_unmarked takes dpi s old new sink later i m few same again =
     let is : is_marked s ≡ false = cc in
     rw is (
-      pages_fit (without_temporary (with_settings defaults (end_raster dpi s))) (omega (arith, i.ejected)),
+      pages_fit (put_back (with_settings defaults (end_raster dpi s))) (omega (arith, i.ejected)),
       ([], sym (append-nil s.pages), same),
-      i.asks,
+      again ∙ ap restarted i.asks,
     )
 
 pub end_past : {dpi : Dpi} {s : Situation} {old : Performer} → IsIn dpi s old → old.is_marked ≡ true → 256 ≤ old.ejected
@@ -218,4 +221,4 @@ end_past {dpi} {s} i m many =
     let end = end_raster dpi s in
     let count = length-append s.pages (sheet_of end ∷ []) in
     let is : is_marked s ≡ true = cc in
-    rw is (pages_past (without_temporary (turned_page defaults end)) (omega (arith, i.ejected, count)))
+    rw is (pages_past (put_back (turned_page defaults end)) (omega (arith, i.ejected, count)))

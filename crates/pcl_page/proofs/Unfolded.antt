@@ -1,6 +1,6 @@
 -- Performances of commands and of macros, unfolded.
 use Rattle.std.proofs.Common.{◌≡◌, ℕ, zero, suc, ◌+◌, ◌-◌, ◌<◌, Bool, true, false, cond, List, [], ◌∷◌, ◌++◌, length, Option, Some, None, Result, Ok, Err, refl, sym, ◌∙◌, append-nil, arith, inl, inr, is_some, ◌⊎◌}
-use Rattle.pcl_page.proofs.Names.{Dpi, Kind, MacroDepth, Operation, ControlMacros, Value, macro_limit, operation_of, Settings, Said, Running, Action, Keeping, Situation, tried, Run, action_of, keeping_of, acted, managed, counting, defining, after_command, run_of, macro_ended, Performance, done, stopped, unless, then_on, in_order, concluded, and_run, step, commands_left, runs, run_in, entered, HasLevel, rest_of, resumed, begun_among}
+use Rattle.pcl_page.proofs.Names.{Dpi, Kind, MacroDepth, Operation, ControlMacros, Value, macro_limit, operation_of, Settings, Said, Running, Action, Keeping, Situation, tried, Run, action_of, keeping_of, acted, lasting_by, managed, counting, defining, after_command, run_of, macro_ended, Performance, done, stopped, unless, then_on, in_order, concluded, and_run, step, commands_left, runs, run_in, entered, HasLevel, rest_of, resumed, begun_among}
 use Rattle.pcl_page.proofs.Keeping.{then_from, is_counted}
 use Rattle.pcl_page.proofs.Sinks.{Onward, stays_there, onward_on}
 
@@ -77,7 +77,7 @@ pub record Counts (s later : Situation) : Type 0 where
 pub record ActsOnMacros (s later : Situation) : Type 0 where
   pub pages : later.pages ≡ s.pages
   pub performed : later.performed ≡ s.performed
-  pub asks : later.asks ≡ s.asks
+  pub asked : later.asks.pages ≡ s.asks.pages
 
 same_acts : {s now later : Situation} → ActsOnMacros s now → ◌≡◌ {A = Result Situation Kind} (Ok now) (Ok later) → ActsOnMacros s later
 same_acts {s} {now} {later} a e = let same : now ≡ later = cc in rw same at a
@@ -85,10 +85,16 @@ same_acts {s} {now} {later} a e = let same : now ≡ later = cc in rw same at a
 acted_acts : (place : ℕ) (action : Option Action) {s later : Situation} → acted place action s ≡ Ok later → ActsOnMacros s later
 acted_acts place action e = grind arith
 
+lasting_acts : (action : Option Action) {s : Situation} → ActsOnMacros s (lasting_by action s)
+lasting_acts action = grind arith
+
+acts_on : {s now later : Situation} → ActsOnMacros s now → ActsOnMacros now later → ActsOnMacros s later
+acts_on a b = record { pages = b.pages ∙ a.pages; performed = b.performed ∙ a.performed; asked = b.asked ∙ a.asked }
+
 pub managed_acts : (place : ℕ) (operation : Option Operation) (value : Value) {s later : Situation}
     → managed place operation value s ≡ Ok later → ActsOnMacros s later
-managed_acts place (Some ControlMacros) value e = acted_acts place (action_of value) e
-managed_acts place other value e = same_acts (record { pages = refl; performed = refl; asks = refl }) e
+managed_acts place (Some ControlMacros) value e = acts_on (lasting_acts (action_of value)) (acted_acts place (action_of value) e)
+managed_acts place other value e = same_acts (record { pages = refl; performed = refl; asked = refl }) e
 
 counting_counts : (dpi : Dpi) (place : ℕ) (command : Said) {s later : Situation} → counting dpi place command s ≡ Ok later → Counts s later
 counting_counts dpi place command {s} e =
@@ -96,7 +102,7 @@ counting_counts dpi place command {s} e =
     let c = is_counted dpi command s t.1 in
     let b = managed_acts place (operation_of command.name) command.value t.2 in
     let o = c.adds.onward in
-    record { onward = (o.0, cc (b.pages, o.1), cc (b.asks, o.2)); performed = b.performed ∙ c.adds.performed; few = c.few }
+    record { onward = (o.0, cc (b.pages, o.1), cc (b.asked, o.2)); performed = b.performed ∙ c.adds.performed; few = c.few }
 
 -- a command is kept, and nothing changes, or it counts
 abbrev pub KeptOrCounts : Situation → Situation → Type 0

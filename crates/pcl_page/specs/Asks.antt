@@ -1,29 +1,58 @@
 -- What a job asks of the printer besides dots.
-use Rattle.std.specs.Prelude.{ℕ, List, [], ◌∷◌, ◌++◌, map}
+use Rattle.std.specs.Prelude.{ℕ, ℤ, Bool, true, false, ◌||◌, if◌then◌else◌, List, [], ◌∷◌, ◌++◌, map, Some, None}
 use Rattle.pcl_env.specs.declared.asked.Asked.{Asked}
 use Rattle.pcl_page.specs.declared.asks.Asks.{Asks as AsksOfCode}
+use Rattle.pcl_page.specs.declared.asks.AskedPage.{AskedPage}
 use Rattle.pcl_page.specs.declared.asks.Exit.{Exit as ExitOfCode}
+use Rattle.pcl_page.specs.declared.asks.PageStart.{PageStart}
 
 -- a universal exit: how many pages were ejected before it, its own among them, and its lines one after the other
 pub record Exit : Type 0 where
   pub pages : ℕ
   pub lines : List ℕ
 
--- what each ejected page was asked with, and the universal exits that were performed, both in order
+-- What each ejected page was asked with and the universal exits that were performed, both in order; how the next page would begin; whether
+-- something counts on what stays in the printer or changes it; and where that is so, the bytes of the job.
 pub record Asks : Type 0 where
-  pub pages : List Asked
+  pub pages : List AskedPage
   pub exits : List Exit
+  pub next : PageStart
+  pub lasts : Bool
+  pub whole : List ℕ
+
+-- a page begins a sheet after a reset, and no side of it is asked for yet
+abbrev pub first_page : PageStart
+first_page = record { is_first = true; sheet_side = None }
+
+abbrev pub next_page : PageStart
+next_page = record { is_first = false; sheet_side = None }
 
 abbrev pub no_asks : Asks
-no_asks = record { pages = []; exits = [] }
+no_asks = record { pages = []; exits = []; next = first_page; lasts = false; whole = [] }
 
--- one page more
+-- one page more, of which this was said
 abbrev pub with_page : Asked → Asks → Asks
-with_page asked asks = record asks { pages = asks.pages ++ asked ∷ [] }
+with_page said asks = record asks { pages = asks.pages ++ record { said = said; start = asks.next } ∷ []; next = next_page }
 
 -- one universal exit more
 abbrev pub with_exit : Exit → Asks → Asks
 with_exit exit asks = record asks { exits = asks.exits ++ exit ∷ [] }
+
+-- the printer is put back to its defaults
+abbrev pub restarted : Asks → Asks
+restarted asks = record asks { next = first_page }
+
+-- the next page is asked for on this side of a sheet
+abbrev pub with_side : ℤ → Asks → Asks
+with_side side asks = record asks { next = record asks.next { sheet_side = Some side } }
+
+-- something counts on what stays in the printer or changes it, where the test holds
+abbrev pub lasting_if : Bool → Asks → Asks
+lasting_if test asks = record asks { lasts = asks.lasts || test }
+
+-- the same of a job of these bytes, at its end
+abbrev pub of_job : List ℕ → Asks → Asks
+of_job job asks = record asks { next = first_page; whole = if asks.lasts then job else [] }
 
 -- ---- the same of the code
 
@@ -31,4 +60,10 @@ abbrev pub exit_of : ExitOfCode → Exit
 exit_of exit = record { pages = exit.pages; lines = exit.lines.now }
 
 abbrev pub asks_of : AsksOfCode → Asks
-asks_of asks = record { pages = asks.pages.items; exits = map exit_of asks.exits.items }
+asks_of asks = record {
+  pages = asks.pages.items;
+  exits = map exit_of asks.exits.items;
+  next = asks.next;
+  lasts = asks.lasts;
+  whole = asks.whole.now;
+}

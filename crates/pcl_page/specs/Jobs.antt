@@ -3,7 +3,7 @@ use Rattle.std.specs.Prelude.{◌≡◌, ℕ, List, length, None}
 use Rattle.pcl_base.specs.declared.dpi.Dpi.{Dpi}
 use Rattle.pcl_escape.specs.Said.{Said}
 use Rattle.pcl_escape.specs.Pieces.{IsReading}
-use Rattle.pcl_page.specs.Asks.{Asks}
+use Rattle.pcl_page.specs.Asks.{Asks, of_job}
 use Rattle.pcl_page.specs.Situation.{Sheet}
 use Rattle.pcl_page.specs.Performing.{Performance, performance, pages_of, asks_among}
 
@@ -23,4 +23,4 @@ pub record HasAsks (dpi : Dpi) (job : List ℕ) (asks : Asks) : Type 0 where
   pub commands : List Said
   pub reading : IsReading job commands
   pub accepted : (performance_of dpi job commands).refusal ≡ None
-  pub asked : asks ≡ asks_among (performance_of dpi job commands)
+  pub asked : asks ≡ of_job job (asks_among (performance_of dpi job commands))

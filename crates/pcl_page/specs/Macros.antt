@@ -1,5 +1,5 @@
 -- Macros: what an open definition does with a command, what a macro control does, and which macro it runs.
-use Rattle.std.specs.Prelude.{ℕ, ◌+◌, ◌==◌, is_some, if◌then◌else◌, ◌∷◌, Option, Some, None, Result, Ok, Err}
+use Rattle.std.specs.Prelude.{ℕ, ◌+◌, ◌==◌, Bool, true, false, not, is_some, if◌then◌else◌, ◌∷◌, Option, Some, None, Result, Ok, Err}
 use Rattle.std.specs.Option.{option_map, option_and_then}
 use Rattle.pcl_base.specs.declared.dpi.Dpi.{Dpi}
 use Rattle.pcl_base.specs.declared.kind.Kind.{Kind}
@@ -18,7 +18,7 @@ use Rattle.pcl_page.specs.declared.macros.Action.{Action}
 use Rattle.pcl_page.specs.declared.macros.Action.TheVariants.{Begin, End, Execute, Call, Control}
 use Rattle.pcl_page.specs.declared.macros.Keeping.{Keeping}
 use Rattle.pcl_page.specs.declared.macros.Keeping.TheVariants.{Kept, Ends, Refused}
-use Rattle.pcl_page.specs.Situation.{Situation, end_raster, ◌|>◌, tried}
+use Rattle.pcl_page.specs.Situation.{Situation, end_raster, with_lasting, ◌|>◌, tried}
 
 -- what a macro control does, by its number
 abbrev pub action_of : Value → Option Action
@@ -71,11 +71,33 @@ acted place (Some End) s = definition_ended place s.begun s
 acted place (Some (Control what)) s = Ok (with_macro_event (control what s.settings.macro_id) s)
 acted place other s = Ok s
 
+-- the macro whose ID is set, where it is there
+abbrev pub macro_now : Situation → Option MacroBody
+macro_now s = body_after s.macros s.settings.macro_id
+
+-- a macro control changes what stays in the printer: all macros, one that is made permanent, or one that the job didn't define; and a
+-- macro that the job didn't define may stand in the printer, where it is run
+abbrev pub macro_lasts : Action → Bool → Bool
+macro_lasts Begin is_defined = false
+macro_lasts End is_defined = false
+macro_lasts (Control All) is_defined = true
+macro_lasts (Control Temporary) is_defined = false
+macro_lasts (Control MakePermanent) is_defined = true
+macro_lasts other is_defined = not is_defined
+
+-- the macro whose ID is set was defined
+abbrev pub is_macro_defined : Situation → Bool
+is_macro_defined s = is_some (macro_now s)
+
+abbrev pub lasting_by : Option Action → Situation → Situation
+lasting_by None s = s
+lasting_by (Some action) s = with_lasting (macro_lasts action (is_macro_defined s)) s
+
 -- what the command at a place does to macros and definitions; a reset deletes the temporary macros
 abbrev pub managed : ℕ → Option Operation → Value → Situation → Result Situation Kind
 managed place (Some Reset) value s = Ok (with_macro_event (control Temporary 0) s)
 managed place (Some UniversalExit) value s = Ok (with_macro_event (control Temporary 0) s)
-managed place (Some ControlMacros) value s = acted place (action_of value) s
+managed place (Some ControlMacros) value s = acted place (action_of value) (lasting_by (action_of value) s)
 managed place other value s = Ok s
 
 -- ---- one command
@@ -107,10 +129,6 @@ pub record Run : Type 0 where
 
 abbrev pub run_with : Option Settings → MacroBody → Run
 run_with saved body = record { next = body.from; end = body.to; saved = saved }
-
--- the macro whose ID is set, where it is there
-abbrev pub macro_now : Situation → Option MacroBody
-macro_now s = body_after s.macros s.settings.macro_id
 
 -- a call keeps the settings
 abbrev pub run_by : Option Action → Situation → Option Run

@@ -1,17 +1,18 @@
 -- Where a job stands, and what a command outside of macros makes of that.
-use Rattle.std.specs.Prelude.{ℕ, ◌+◌, ◌*◌, ◌==◌, ◌&&◌, ◌||◌, is_some, Bool, true, false, nat_le, if◌then◌else◌, length, List, [], ◌∷◌, ◌++◌, Option, Some, None, Result, Ok, Err}
+use Rattle.std.specs.Prelude.{ℕ, ℤ, ◌+◌, ◌*◌, ◌==◌, ◌&&◌, ◌||◌, not, is_some, Bool, true, false, nat_le, if◌then◌else◌, length, List, [], ◌∷◌, ◌++◌, Option, Some, None, Result, Ok, Err}
 use Rattle.std.specs.Option.{option_and_then}
 use Rattle.pcl_base.specs.declared.dpi.Dpi.{Dpi}
 use Rattle.pcl_base.specs.declared.kind.Kind.{Kind}
 use Rattle.pcl_base.specs.declared.kind.Kind.TheVariants.{UnsupportedCommand, UnsupportedValue, TooManyCommands, TooManyPages}
+use Rattle.pcl_base.specs.declared.operation.Asking.TheVariants.{SheetSide}
 use Rattle.pcl_base.specs.declared.operation.Operation.{Operation}
-use Rattle.pcl_base.specs.declared.operation.Operation.TheVariants.{Reset, UniversalExit, FillRectangle, ControlFonts, DownloadFont, DownloadCharacter, SelectFont, PrintText, StartRaster, RasterOffset, RasterRow}
+use Rattle.pcl_base.specs.declared.operation.Operation.TheVariants.{Reset, UniversalExit, Ask, FillRectangle, ControlFonts, DownloadFont, DownloadCharacter, SelectFont, PrintText, StartRaster, RasterOffset, RasterRow}
 use Rattle.pcl_base.specs.declared.size.Size.{Size}
 use Rattle.pcl_base.specs.declared.value.Value.{Value}
 use Rattle.pcl_base.specs.Dpi.{units_per_dot}
 use Rattle.pcl_base.specs.Limits.{command_limit, page_limit}
 use Rattle.pcl_base.specs.Operation.{operation_of}
-use Rattle.pcl_base.specs.Value.{whole_of, count_of}
+use Rattle.pcl_base.specs.Value.{whole_of, signed_whole, count_of}
 use Rattle.pcl_bitmap.specs.declared.ink.Ink.{Ink}
 use Rattle.pcl_bitmap.specs.declared.ink.Ink.TheVariants.{Black, White}
 use Rattle.pcl_bitmap.specs.Dots.{rectangle_dot}
@@ -21,12 +22,12 @@ use Rattle.pcl_env.specs.declared.effect.Effect.TheVariants.{Stay, Eject, EjectM
 use Rattle.pcl_env.specs.Settings.{Position, Settings, defaults, put, to_first_line, font_in_use}
 use Rattle.pcl_env.specs.Outcome.{Outcome, outcome}
 use Rattle.pcl_fonts.specs.declared.fonts.FontControl.{FontControl}
-use Rattle.pcl_fonts.specs.declared.fonts.FontControl.TheVariants.{Temporary}
+use Rattle.pcl_fonts.specs.declared.fonts.FontControl.TheVariants.{All, Temporary, MakePermanent}
 use Rattle.pcl_fonts.specs.Fields.{Font, Character}
 use Rattle.pcl_fonts.specs.History.{FontEvent, header, character, control, font_after}
 use Rattle.pcl_macros.specs.History.{MacroEvent}
 use Rattle.pcl_macros.specs.Table.{Begun}
-use Rattle.pcl_page.specs.Asks.{Asks, no_asks, with_page, with_exit}
+use Rattle.pcl_page.specs.Asks.{Asks, no_asks, with_page, with_exit, restarted, with_side, lasting_if}
 use Rattle.pcl_page.specs.Marks.{Mark, are_marked, dot_at, dots_of}
 use Rattle.pcl_page.specs.Text.{selected_font, control_of, select_by_id, header_refusal, character_refusal, text_refusal, prints, character_mark, is_proportional, behind_character, behind_blank}
 use Rattle.pcl_page.specs.Raster.{Raster, raster_from, skipped, row_sent, with_row, row_mark, is_ignored_in_raster, ends_raster}
@@ -149,9 +150,24 @@ abbrev pub with_character : List ℕ → Situation → Situation
 with_character [] s = s
 with_character (byte ∷ bytes) s = with_event (character s.settings.font_id s.settings.character_code (byte ∷ bytes)) s
 
+-- a font control changes what stays in the printer: all fonts, one that is made permanent, or one that the job didn't send
+abbrev pub font_lasts : FontControl → Bool → Bool
+font_lasts All is_sent = true
+font_lasts Temporary is_sent = false
+font_lasts MakePermanent is_sent = true
+font_lasts other is_sent = not is_sent
+
+abbrev pub with_lasting : Bool → Situation → Situation
+with_lasting test s = record s { asks = lasting_if test s.asks }
+
+-- the font of the ID that is set was sent
+abbrev pub is_font_sent : Situation → Bool
+is_font_sent s = is_some (font_after s.fonts s.settings.font_id)
+
 abbrev pub fonts_controlled : Option FontControl → Situation → Situation
 fonts_controlled None s = s
-fonts_controlled (Some what) s = with_event (control what s.settings.font_id s.settings.character_code) s
+fonts_controlled (Some what) s =
+    with_event (control what s.settings.font_id s.settings.character_code) (with_lasting (font_lasts what (is_font_sent s)) s)
 
 -- a reset deletes the temporary fonts
 abbrev pub without_temporary : Situation → Situation
@@ -183,12 +199,21 @@ text_printed dpi codes s =
 abbrev pub exited : List ℕ → Situation → Situation
 exited lines s = record s { asks = with_exit (record { pages = length s.pages; lines = lines }) s.asks }
 
+-- the printer is put back to its defaults, besides what is set
+abbrev pub put_back : Situation → Situation
+put_back s = without_temporary (record s { asks = restarted s.asks })
+
+-- the next page is asked for on this side of a sheet
+abbrev pub asked_on : ℤ → Situation → Situation
+asked_on side s = record s { asks = with_side side s.asks }
+
 -- ---- what a command draws
 
 -- what a command draws, or does to the raster and to fonts
 abbrev pub drawn : Dpi → Operation → Said → Situation → Situation
-drawn dpi Reset command s = without_temporary s
-drawn dpi UniversalExit command s = without_temporary (exited command.bytes s)
+drawn dpi Reset command s = put_back s
+drawn dpi UniversalExit command s = put_back (exited command.bytes s)
+drawn dpi (Ask SheetSide) command s = asked_on (signed_whole command.value) s
 drawn dpi ControlFonts command s = fonts_controlled (control_of command.value) s
 drawn dpi DownloadFont command s = with_font command.bytes s
 drawn dpi DownloadCharacter command s = with_character command.bytes s
@@ -274,4 +299,4 @@ tried dpi command s = counted_in_limit s |> after_named dpi (operation_of comman
 
 -- the end of the input acts as a reset that counts nothing; no macro runs after it
 abbrev pub at_end : Dpi → Situation → Situation
-at_end dpi s = without_temporary (turned defaults EjectMarked (end_raster dpi s))
+at_end dpi s = put_back (turned defaults EjectMarked (end_raster dpi s))

@@ -1,10 +1,42 @@
 //! What a job asks of the printer besides dots.
 
 ghost use Rattle.std.specs.Prelude.{◌≡◌, OnOk};
-ghost use Rattle.pcl_page.specs.Asks.{no_asks, with_page, with_exit, asks_of};
+ghost use Rattle.pcl_page.specs.Asks.{no_asks, with_page, with_exit, restarted, with_side, lasting_if, of_job, asks_of};
 
 use pcl_env::Asked;
 use std::alloc::{AllocError, Global};
+
+/// How a page begins (docs/LANGUAGE.md, "What a page is asked with").
+#[derive(Clone, Copy, Debug, PartialEq, Eq)]
+pub struct PageStart {
+    /// Whether it is the first page of the job, or the first since a reset or a universal exit: it begins a sheet.
+    pub is_first: bool,
+    /// The side of the sheet that was asked for since the page before it, `&aG`, if one was: the last one.
+    pub sheet_side: Option<i64>,
+}
+
+impl PageStart {
+    /// The start of a job, and what a reset leaves.
+    pub const FIRST: PageStart = PageStart {
+        is_first: true,
+        sheet_side: None,
+    };
+
+    /// What an ejected page leaves.
+    pub const NEXT: PageStart = PageStart {
+        is_first: false,
+        sheet_side: None,
+    };
+}
+
+/// What a page was asked with.
+#[derive(Clone, Copy, Debug, PartialEq, Eq)]
+pub struct AskedPage {
+    /// What was said since the last reset, before the command that ejected the page.
+    pub said: Asked,
+    /// How it began.
+    pub start: PageStart,
+}
 
 /// A universal exit that was performed (docs/LANGUAGE.md, "What a page is asked with").
 #[derive(Clone, Copy, Debug)]
@@ -19,9 +51,16 @@ pub struct Exit<'a> {
 #[derive(Debug, Drop)]
 pub struct Asks<'a> {
     /// What each page was asked with, in the order of the pages.
-    pub pages: Vec<Asked>,
+    pub pages: Vec<AskedPage>,
     /// The universal exits, in order.
     pub exits: Vec<Exit<'a>>,
+    /// How the next page would begin.
+    pub next: PageStart,
+    /// Whether a command counts on fonts or macros that stay in the printer, or changes these (docs/LANGUAGE.md, "What stays in the
+    /// printer").
+    pub lasts: bool,
+    /// Where it does, the bytes of the job, as far as these are known; else none.
+    pub whole: &'a [u8],
 }
 
 impl<'a> Asks<'a> {
@@ -32,14 +71,21 @@ impl<'a> Asks<'a> {
         Asks {
             pages: Vec::new(alloc),
             exits: Vec::new(alloc),
+            next: PageStart::FIRST,
+            lasts: false,
+            whole: &[],
         }
     }
 
     /// One page more was asked with this.
-    pub(crate) fn push_page(&mut self, asked: Asked) -> Result<(), AllocError>
-        ensures { OnOk result (asks_of self.new ≡ with_page asked (asks_of self.old)) }
+    pub(crate) fn push_page(&mut self, said: Asked) -> Result<(), AllocError>
+        ensures { OnOk result (asks_of self.new ≡ with_page said (asks_of self.old)) }
     {
-        self.pages.push(asked)?;
+        self.pages.push(AskedPage {
+            said,
+            start: self.next,
+        })?;
+        self.next = PageStart::NEXT;
         Ok(())
     }
 
@@ -49,5 +95,38 @@ impl<'a> Asks<'a> {
     {
         self.exits.push(Exit { pages, lines })?;
         Ok(())
+    }
+
+    /// The printer was put back to its defaults.
+    pub(crate) fn restart(&mut self)
+        ensures { asks_of self.new ≡ restarted (asks_of self.old) }
+    {
+        self.next = PageStart::FIRST;
+    }
+
+    /// The next page is asked for on this side of a sheet.
+    pub(crate) fn ask_side(&mut self, side: i64)
+        ensures { asks_of self.new ≡ with_side side (asks_of self.old) }
+    {
+        self.next.sheet_side = Some(side);
+    }
+
+    /// Where the test holds, a command counts on what stays in the printer, or changes it.
+    pub(crate) fn last_if(&mut self, test: bool)
+        ensures { asks_of self.new ≡ lasting_if test (asks_of self.old) }
+    {
+        self.lasts = self.lasts || test;
+    }
+
+    /// The same of a job of these bytes, at its end.
+    pub(crate) fn of_job(self, job: &'a [u8]) -> Asks<'a>
+        ensures { asks_of result ≡ of_job job.now (asks_of self.entry) }
+    {
+        let whole: &'a [u8] = if self.lasts { job } else { &[] };
+        Asks {
+            next: PageStart::FIRST,
+            whole,
+            ..self
+        }
     }
 }

@@ -14,7 +14,7 @@ impl<'a> Performer<'a> {
     ghost use Rattle.pcl_base.specs.declared.dpi.Dpi.{Dpi};
     ghost use Rattle.pcl_fonts.specs.History.{control, font_after};
     ghost use Rattle.pcl_page.specs.Text.{select_by_id, header_refusal, character_refusal};
-    ghost use Rattle.pcl_page.specs.Situation.{Situation, with_font, with_character, fonts_controlled};
+    ghost use Rattle.pcl_page.specs.Situation.{Situation, with_font, with_character, with_lasting, font_lasts, is_font_sent, fonts_controlled};
     ghost use Rattle.pcl_page.specs.inner.Reflecting.{IsIn, HasEvent, HasSettings, Draws};
 
     /// Takes the header of a font for the ID that is meant. Without data nothing happens.
@@ -50,9 +50,19 @@ impl<'a> Performer<'a> {
         let Some(what) = control_of(value) else {
             return Err(CallFault::Refused(Kind::UnsupportedValue));
         };
+        self.note_control(what);
         let code = self.environment.character_code();
         self.fonts.control(self.environment.font_id(), code, what);
         Ok(())
+    }
+
+    /// Notes whether a font control changes what stays in the printer.
+    fn note_control(&mut self, what: FontControl)
+        ensures { (dpi : Dpi) (s : Situation) → IsIn dpi s self.old
+            → IsIn dpi (with_lasting (font_lasts what (is_font_sent s)) s) self.new }
+    {
+        let is_sent = self.fonts.font(self.environment.font_id()).is_some();
+        self.last_if(font_lasts(what, is_sent));
     }
 
     /// Deletes the temporary fonts, as a reset does.
@@ -73,6 +83,19 @@ impl<'a> Performer<'a> {
         if let Some(font) = self.fonts.font(id) {
             self.environment.select(side, id, font.pitch);
         }
+    }
+}
+
+ghost use Rattle.pcl_page.specs.Situation.{font_lasts};
+
+/// Whether a font control changes fonts that stay in the printer, by whether the job sent the font of the ID.
+fn font_lasts(what: FontControl, is_sent: bool) -> bool
+    ensures { result ≡ font_lasts what is_sent }
+{
+    match what {
+        FontControl::Temporary => false,
+        FontControl::All | FontControl::MakePermanent => true,
+        FontControl::One | FontControl::Character | FontControl::MakeTemporary => !is_sent,
     }
 }
 

@@ -3,7 +3,7 @@
 ghost use Rattle.std.specs.Prelude.{◌≡◌};
 
 use crate::PageSink;
-use crate::macros::{Action, Keeping, action_of, keeping_of};
+use crate::macros::{Action, Keeping, action_of, keeping_of, macro_lasts};
 use crate::performer::Performer;
 use arrayvec::ArrayVec;
 use pcl_base::{CallFault, Dpi, JobFault, Kind, MACRO_LIMIT, Name, Operation, Refusal, Value};
@@ -45,7 +45,7 @@ impl<'a> Interpreter<'a> {
     ghost use Rattle.pcl_page.specs.Performing.{performance};
     ghost use Rattle.pcl_page.specs.Delivering.{HandsOver};
     ghost use Rattle.pcl_page.specs.Situation.{Situation, at_begin};
-    ghost use Rattle.pcl_page.specs.Macros.{action_of, keeping_of, acted, managed, counting, after_command, run_by, run_from, run_of, run_with, macro_ended};
+    ghost use Rattle.pcl_page.specs.Macros.{action_of, keeping_of, lasting_by, acted, managed, counting, after_command, run_by, run_from, run_of, run_with, macro_ended};
     ghost use Rattle.pcl_page.specs.inner.Reflecting.{EndDone};
     ghost use Rattle.pcl_page.specs.inner.Unfolding.{IsAt, IsSomewhere, resumed, begun_among, work_left, GoesOn, IsStepped, IsActed, IsEntered, InterpreterEnds, IsAsking};
 
@@ -228,13 +228,26 @@ impl<'a> Interpreter<'a> {
                 .control(0, MacroControl::Temporary),
             Operation::ControlMacros => {
                 return match action_of(value) {
-                    Some(action) => self.act(action, place),
+                    Some(action) => {
+                        self.note(action);
+                        self.act(action, place)
+                    }
                     None => Err(CallFault::Refused(Kind::UnsupportedValue)),
                 };
             }
             _ => {}
         }
         Ok(())
+    }
+
+    /// Notes whether a macro control counts on what stays in the printer, or changes it.
+    fn note(&mut self, action: Action)
+        ensures situation { (dpi : Dpi) (s : Situation) → IsAt dpi s self.old → IsAt dpi (lasting_by (Some action) s) self.new }
+        ensures rest { (self.new.running ≡ self.old.running) × (self.new.macros ≡ self.old.macros) }
+    {
+        let id = self.performer.environment.macro_id();
+        let is_defined = self.macros.body(id).is_some();
+        self.performer.last_if(macro_lasts(action, is_defined));
     }
 
     /// Does what a macro control at a place does. None begins a definition while one is open.

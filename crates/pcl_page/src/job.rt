@@ -80,7 +80,7 @@ pub fn perform<S: PageSink>(
 }
 
 /// The same as [`perform`]; where the job is accepted it gives what the job asks of the printer besides dots: what each page
-/// is asked with, and the universal exits with their lines.
+/// is asked with, the universal exits with their lines, and where something counts on what stays in the printer, the job's bytes.
 pub fn perform_asked<'a, S: PageSink>(
     alloc: Global,
     job: &'a [u8],
@@ -90,7 +90,8 @@ pub fn perform_asked<'a, S: PageSink>(
     ensures { DeliversAsked S.takes dpi job.now result sink.old sink.new }
 {
     let commands = read_commands(alloc, job)?;
-    run_list(alloc, &commands, job.len(), dpi, sink)
+    let asks = run_list(alloc, &commands, job.len(), dpi, sink)?;
+    Ok(asks.of_job(job))
 }
 
 /// The pages of a job, in order.

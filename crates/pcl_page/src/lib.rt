@@ -12,7 +12,7 @@ mod raster;
 mod text;
 
 pub use accepting::{first_accepted, is_accepted, page_count};
-pub use asks::{Asks, Exit};
+pub use asks::{AskedPage, Asks, Exit, PageStart};
 pub use job::{one_meaning, perform, perform_asked, read_pages, run, run_asked};
 pub use pcl_bitmap::{Page, PageSink};
 pub use pcl_env::Asked;

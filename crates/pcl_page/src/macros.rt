@@ -3,7 +3,7 @@
 ghost use Rattle.std.specs.Prelude.{◌≡◌};
 ghost use Rattle.pcl_base.specs.Operation.{operation_of};
 ghost use Rattle.pcl_escape.specs.Said.{view};
-ghost use Rattle.pcl_page.specs.Macros.{action_of, keeping_of};
+ghost use Rattle.pcl_page.specs.Macros.{action_of, macro_lasts, keeping_of};
 
 use pcl_base::{Kind, Operation, Value};
 use pcl_escape::Command;
@@ -51,6 +51,20 @@ pub fn action_of(value: Value) -> Option<Action>
         10 => Action::Control(MacroControl::MakePermanent),
         _ => return None,
     })
+}
+
+/// Whether a macro control changes macros that stay in the printer, or counts on one there, by whether the job defined the macro of the
+/// ID.
+pub fn macro_lasts(action: Action, is_defined: bool) -> bool
+    ensures { result ≡ macro_lasts action is_defined }
+{
+    match action {
+        Action::Begin | Action::End | Action::Control(MacroControl::Temporary) => false,
+        Action::Control(MacroControl::All | MacroControl::MakePermanent) => true,
+        Action::Execute
+        | Action::Call
+        | Action::Control(MacroControl::One | MacroControl::MakeTemporary) => !is_defined,
+    }
 }
 
 /// What a definition that is open does with a command.

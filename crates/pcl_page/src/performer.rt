@@ -8,8 +8,8 @@ use crate::asks::Asks;
 use crate::raster::{Raster, ends_raster, is_ignored_in_raster};
 use crate::{Page, PageSink};
 use pcl_base::{
-    COMMAND_LIMIT, CallFault, Dpi, JobFault, Kind, Name, Operation, PAGE_LIMIT, Refusal, Size,
-    Value,
+    Asking, COMMAND_LIMIT, CallFault, Dpi, JobFault, Kind, Name, Operation, PAGE_LIMIT, Refusal,
+    Size, Value,
 };
 use pcl_bitmap::{Bitmap, Ink};
 use pcl_env::{Asked, Effect, Env, Saved};
@@ -52,7 +52,7 @@ impl<'a> Performer<'a> {
     ghost use Rattle.pcl_base.specs.declared.dpi.Dpi.{Dpi};
     ghost use Rattle.pcl_escape.specs.Said.{Said, view};
     ghost use Rattle.pcl_env.specs.Outcome.{outcome};
-    ghost use Rattle.pcl_page.specs.Situation.{Situation, at_begin, is_marked, drawn, draw_refusal, ink_of, filled_with, rectangle_mark, skipped_in, exited, without_temporary};
+    ghost use Rattle.pcl_page.specs.Situation.{Situation, at_begin, is_marked, drawn, draw_refusal, ink_of, filled_with, rectangle_mark, skipped_in, exited, put_back, with_lasting};
     ghost use Rattle.pcl_page.specs.Macros.{macro_ended};
     ghost use Rattle.pcl_bitmap.specs.declared.page.Page.{Page};
     ghost use Rattle.pcl_page.specs.inner.Reflecting.{IsIn, IsPrepared, HasRaster, Takes, IsFollowed, IsEjected, IsDrawn, Draws, IsSent, IsTurned, IsTried, EndDone};
@@ -219,8 +219,11 @@ impl<'a> Performer<'a> {
             → Draws dpi (draw_refusal operation (view command.now) s) (drawn dpi operation (view command.now) s) result self.new }
     {
         match operation {
-            Operation::Reset => self.delete_temporary_fonts(),
+            Operation::Reset => self.put_back(),
             Operation::UniversalExit => self.leave(command.bytes)?,
+            Operation::Ask(Asking::SheetSide) => {
+                self.asks.ask_side(i64::from(command.value.whole()));
+            }
             Operation::ControlFonts => return self.control_fonts(command.value),
             Operation::DownloadFont => return self.download_font(command.bytes),
             Operation::DownloadCharacter => return self.download_character(command.bytes),
@@ -238,11 +241,27 @@ impl<'a> Performer<'a> {
     /// Does what a universal exit with these lines does but for the reset of the settings.
     fn leave(&mut self, lines: &'a [u8]) -> Result<(), AllocError>
         ensures { (dpi : Dpi) (s : Situation) → IsIn dpi s self.old
-            → OnOk result (IsIn dpi (without_temporary (exited lines.now s)) self.new) }
+            → OnOk result (IsIn dpi (put_back (exited lines.now s)) self.new) }
     {
         self.asks.push_exit(self.ejected, lines)?;
-        self.delete_temporary_fonts();
+        self.put_back();
         Ok(())
+    }
+
+    /// Does what a reset does but for that of the settings.
+    fn put_back(&mut self)
+        ensures { (dpi : Dpi) (s : Situation) → IsIn dpi s self.old → IsIn dpi (put_back s) self.new }
+    {
+        self.asks.restart();
+        self.delete_temporary_fonts();
+    }
+
+    /// Notes that a command counts on what stays in the printer or changes it, where the test holds.
+    pub fn last_if(&mut self, test: bool)
+        ensures situation { (dpi : Dpi) (s : Situation) → IsIn dpi s self.old → IsIn dpi (with_lasting test s) self.new }
+        ensures rest { self.new.performed ≡ self.old.performed }
+    {
+        self.asks.last_if(test);
     }
 
     /// Fills a rectangle. A number that names no ink is refused.
@@ -321,7 +340,10 @@ impl<'a> Performer<'a> {
             let copies = self.environment.copies();
             let asked = self.environment.asked();
             self.eject(copies, asked, sink)?;
+            self.asks.restart();
+            return Ok(());
         }
+        self.asks.restart();
         Ok(())
     }
 }

@@ -1,9 +1,8 @@
 //! What is known of the pages of a job.
 
 use pcl_base::{Dpi, Method, Size};
-use pcl_env::Asked;
 use pcl_output::Step;
-use pcl_page::{Asks, Exit, Page};
+use pcl_page::{AskedPage, Asks, Exit, Page};
 use pcl_plan::{Plan, plan};
 use pcl_writer::write_page;
 use serde::Serialize;
@@ -79,15 +78,15 @@ pub struct PageFacts {
     pub size: &'static str,
     pub copies: u8,
     /// One side or both, where the job asks for it (`&lS`).
-    pub sides: Option<i32>,
+    pub sides: Option<i64>,
     /// Where the paper comes from, where the job asks for it (`&lH`).
-    pub source: Option<i32>,
+    pub source: Option<i64>,
     /// Where printed sheets go, where the job asks for it (`&lG`).
-    pub output_bin: Option<i32>,
+    pub output_bin: Option<i64>,
     /// The kind of paper, where the job asks for it (`&lM`).
-    pub media_type: Option<i32>,
+    pub media_type: Option<i64>,
     /// The front or the back of a sheet, where the job asks for it (`&aG`).
-    pub sheet_side: Option<i32>,
+    pub sheet_side: Option<i64>,
     pub dots: u64,
     pub black_dots: u64,
     /// The bytes of its least page text (docs/OUTPUT.md).
@@ -119,13 +118,13 @@ impl PageFacts {
     }
 
     /// The same with what the page is asked with.
-    pub fn asked(self, asked: &Asked) -> PageFacts {
+    pub fn asked(self, asked: &AskedPage) -> PageFacts {
         PageFacts {
-            sides: asked.sides,
-            source: asked.paper_source,
-            output_bin: asked.output_bin,
-            media_type: asked.media_type,
-            sheet_side: asked.sheet_side,
+            sides: asked.said.sides,
+            source: asked.said.paper_source,
+            output_bin: asked.said.output_bin,
+            media_type: asked.said.media_type,
+            sheet_side: asked.start.sheet_side,
             ..self
         }
     }
@@ -219,7 +218,7 @@ impl JobFacts {
 }
 
 /// Gives each page what it is asked with, and sums the pages up.
-fn total_asked(pages: &mut [PageFacts], asks: &[Asked]) -> Total {
+fn total_asked(pages: &mut [PageFacts], asks: &[AskedPage]) -> Total {
     let mut total = Total::NOTHING;
     for (page, asked) in pages.iter_mut().zip(asks.iter()) {
         *page = page.asked(asked);

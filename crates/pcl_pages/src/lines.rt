@@ -60,7 +60,7 @@ fn append_bytes(bytes: usize, data: DataBytes, text: &mut String) -> Result<(), 
 }
 
 /// Appends the column of what is asked, or of a dash.
-fn append_asked(value: Option<i32>, text: &mut String) -> Result<(), AllocError> {
+fn append_asked(value: Option<i64>, text: &mut String) -> Result<(), AllocError> {
     match value {
         Some(value) => write!(text, "{value}\t"),
         None => text.push_str("-\t"),

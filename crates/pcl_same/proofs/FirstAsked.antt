@@ -1,13 +1,14 @@
 -- The first difference of what two jobs ask of the printer.
 use Rattle.std.proofs.Common.{◌≡◌, ℕ, suc, ◌+◌, ◌<◌, List, length, map, take, drop, get_or, Option, Some, None, refl, arith}
-use Rattle.pcl_same.proofs.Names.{MatchOption, option_or, take-append-drop, length-take-le, length-map, take_more_same, get_or-map, drop-cons, Asking, Sides, OutputBin, MediaType, PaperSource, SheetSide, Asked, exit_of, ExitDifference, SettingDifference, DifferAt, setting_of, order_of, IsFirstSetting, ExitsDifferBy, IsSettingDifference, IsExitDifference}
+use Rattle.pcl_same.proofs.Names.{MatchOption, option_or, take-append-drop, length-take-le, length-map, take_more_same, get_or-map, drop-cons, AskedPage, exit_of, ExitDifference, Setting, SettingDifference, DifferAt, HaveSameSettings, setting_of, order_of, IsFirstSetting, ExitsDifferBy, IsSettingDifference, IsExitDifference}
 use Rattle.pcl_page.specs.declared.asks.Exit.{Exit as ExitOfCode}
+use Rattle.pcl_same.specs.declared.comparison.Setting.TheVariants.{Copies, PageSize, PageLength, Sides, OutputBin, MediaType, PaperSource, SheetSide}
 use Rattle.pcl_same.specs.declared.comparison.AsksDifference.TheVariants as exits
 
 -- ---- settings
 
-first_here : {one other : Asked} {d : SettingDifference} (setting : Asking)
-    → ((before : Asking) → order_of before < order_of setting → setting_of before one ≡ setting_of before other)
+first_here : {one other : AskedPage} {d : SettingDifference} (setting : Setting)
+    → ((before : Setting) → order_of before < order_of setting → setting_of before one ≡ setting_of before other)
     → IsSettingDifference setting (setting_of setting one) (setting_of setting other) d → IsFirstSetting one other d
 first_here setting same is = record {
   first = rw is.setting_is is.first_is;
@@ -17,22 +18,65 @@ first_here setting same is = record {
 }
 
 -- a setting is the same, or differs so
-abbrev pub SaysOfSetting : Asking → Asked → Asked → Option SettingDifference → Type 0
-SaysOfSetting setting one other found =
+abbrev pub SaysOfSetting : AskedPage → AskedPage → Setting → Option SettingDifference → Type 0
+SaysOfSetting one other setting found =
     MatchOption found (setting_of setting one ≡ setting_of setting other)
     (IsSettingDifference setting (setting_of setting one) (setting_of setting other))
 
-pub first_setting : (one other : Asked) (a b c d e : Option SettingDifference) → SaysOfSetting Sides one other a
-    → SaysOfSetting OutputBin one other b → SaysOfSetting MediaType one other c → SaysOfSetting PaperSource one other d
-    → SaysOfSetting SheetSide one other e
-    → MatchOption (option_or (option_or (option_or (option_or a b) c) d) e) (one ≡ other) (IsFirstSetting one other)
-first_setting one other (Some x) b c d e p q r s t = first_here Sides (λ before lt. absurd (omega arith)) p
-first_setting one other None (Some x) c d e p q r s t = first_here OutputBin (λ before lt. grind arith) q
-first_setting one other None None (Some x) d e p q r s t = first_here MediaType (λ before lt. grind arith) r
-first_setting one other None None None (Some x) e p q r s t = first_here PaperSource (λ before lt. grind arith) s
-first_setting one other None None None None (Some x) p q r s t = first_here SheetSide (λ before lt. grind arith) t
-first_setting one other None None None None None p q r s t =
-    λ i. record { sides = p i; output_bin = q i; media_type = r i; paper_source = s i; sheet_side = t i }
+-- all settings before one are the same
+abbrev SameBelow : AskedPage → AskedPage → ℕ → Type 0
+SameBelow one other n = (setting : Setting) → order_of setting < n → setting_of setting one ≡ setting_of setting other
+
+-- what is found of the settings before this one
+abbrev pub SaysBelow : AskedPage → AskedPage → ℕ → Option SettingDifference → Type 0
+SaysBelow one other n found = MatchOption found (SameBelow one other n) (IsFirstSetting one other)
+
+one_more : (one other : AskedPage) (setting : Setting) → SameBelow one other (order_of setting)
+    → setting_of setting one ≡ setting_of setting other → SameBelow one other (order_of setting + 1)
+one_more one other setting below here before lt = grind (arith, below before, here)
+
+pub then_setting : (one other : AskedPage) (setting : Setting) (found next : Option SettingDifference)
+    → SaysBelow one other (order_of setting) found → SaysOfSetting one other setting next
+    → SaysBelow one other (order_of setting + 1) (option_or found next)
+then_setting one other setting (Some d) next below here = below
+then_setting one other setting None (Some d) below here = first_here setting below here
+then_setting one other setting None None below here = one_more one other setting below here
+
+pub none_below : (one other : AskedPage) → SaysBelow one other 0 None
+none_below one other setting lt = absurd (omega arith)
+
+pub all_same : (one other : AskedPage) (found : Option SettingDifference) → SaysBelow one other 8 found
+    → MatchOption found (HaveSameSettings one other) (IsFirstSetting one other)
+all_same one other (Some d) says = says
+all_same one other None says = λ setting. says setting (small setting)
+  where
+    small : (setting : Setting) → order_of setting < 8
+    small setting = grind arith
+
+-- ---- a page
+
+pub same_page : {one other : AskedPage} → one.start.is_first ≡ other.start.is_first → HaveSameSettings one other → one ≡ other
+same_page first same =
+    let copies = same Copies in
+    let size = same PageSize in
+    let len = same PageLength in
+    let sides = same Sides in
+    let bin = same OutputBin in
+    let media = same MediaType in
+    let source = same PaperSource in
+    let side = same SheetSide in
+    λ i. record {
+      said = record {
+        copies = copies i;
+        page_size = size i;
+        page_length = len i;
+        sides = sides i;
+        output_bin = bin i;
+        media_type = media i;
+        paper_source = source i;
+      };
+      start = record { is_first = first i; sheet_side = side i };
+    }
 
 -- ---- lists
 

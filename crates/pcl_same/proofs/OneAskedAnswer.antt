@@ -1,9 +1,10 @@
 -- Two jobs have one answer, what they ask of the printer with it.
 use Rattle.std.proofs.Common.{◌≡◌, ◌≢◌, ℕ, List, [], ◌∷◌, ◌++◌, length, Result, Err, refl, sym, ap, ◌∙◌, arith}
-use Rattle.pcl_same.proofs.Names.{append_cancel_left, Dpi, Asking, Asked, Asks, HasAsks, AskedComparison, AsksDifference, ExitCount, Exit, ExitDifference, SettingDifference, SameFault, Memory, Compare, of_pages, CompareAsks, IsAskedComparison, IsComparedAsked, DifferAt, setting_of, order_of, IsFirstSetting, ExitsDifferBy, AsksDifferBy}
+use Rattle.pcl_same.proofs.Names.{append_cancel_left, Dpi, AskedPage, Asks, HasAsks, AskedComparison, AskedDifference, AsksDifference, ExitCount, Exit, Lasting, ExitDifference, Setting, SettingDifference, SameFault, Memory, Compare, of_pages, CompareAsks, IsAskedComparison, IsComparedAsked, DifferAt, setting_of, order_of, IsFirstSetting, IsAskedBy, ExitsDifferBy, AsksDifferBy}
 use Rattle.pcl_page.specs.Asks.{Exit as UniversalExit}
 use Rattle.pcl_same.specs.declared.comparison.AskedComparison.TheVariants as asked
 use Rattle.pcl_same.specs.declared.comparison.AsksDifference.TheVariants.{Page}
+use Rattle.pcl_same.specs.declared.comparison.AskedDifference.TheVariants.{Reset, Setting as BySetting}
 use Rattle.pcl_same.proofs.OneAnswer.{neither_below, IsAt, one_place, HasOneMeaning, one_comparison, one_result}
 
 -- ---- lists
@@ -30,20 +31,30 @@ module _ {A D : Type 0} (by : A → A → D → Type 0) (strict : (x y : A) (d :
 
 -- ---- a page
 
-same_order : (one other : Asking) → order_of one ≡ order_of other → one ≡ other
+same_order : (one other : Setting) → order_of one ≡ order_of other → one ≡ other
 same_order one other e = grind arith
 
-one_setting : (one other : Asked) (d e : SettingDifference) → IsFirstSetting one other d → IsFirstSetting one other e → d ≡ e
+one_setting : (one other : AskedPage) (d e : SettingDifference) → IsFirstSetting one other d → IsFirstSetting one other e → d ≡ e
 one_setting one other d e p q =
     let setting : d.setting ≡ e.setting = same_order d.setting e.setting (neither_below (order_of d.setting) (order_of e.setting)
     (λ lt. p.differ (p.first ∙ q.same_before d.setting lt ∙ sym p.second))
     (λ lt. q.differ (q.first ∙ p.same_before e.setting lt ∙ sym q.second))) in
-    let first : d.first ≡ e.first = p.first ∙ ap (λ (s : Asking). setting_of s one) setting ∙ sym q.first in
-    let second : d.second ≡ e.second = p.second ∙ ap (λ (s : Asking). setting_of s other) setting ∙ sym q.second in
+    let first : d.first ≡ e.first = p.first ∙ ap (λ (s : Setting). setting_of s one) setting ∙ sym q.first in
+    let second : d.second ≡ e.second = p.second ∙ ap (λ (s : Setting). setting_of s other) setting ∙ sym q.second in
     λ i. record { setting = setting i; first = first i; second = second i }
 
-settings_differ : (one other : Asked) (d : SettingDifference) → one ≡ other → IsFirstSetting one other d → ⊥
+settings_differ : (one other : AskedPage) (d : SettingDifference) → one ≡ other → IsFirstSetting one other d → ⊥
 settings_differ one other d same p = p.differ (p.first ∙ ap (setting_of d.setting) same ∙ sym p.second)
+
+one_asked_by : (one other : AskedPage) (d e : AskedDifference) → IsAskedBy one other d → IsAskedBy one other e → d ≡ e
+one_asked_by one other Reset Reset p q = refl
+one_asked_by one other (BySetting d) (BySetting e) p q = ap BySetting (one_setting one other d e p.1 q.1)
+one_asked_by one other Reset (BySetting e) p q = absurd (p q.0)
+one_asked_by one other (BySetting d) Reset p q = absurd (q p.0)
+
+asked_differ : (one other : AskedPage) (d : AskedDifference) → one ≡ other → IsAskedBy one other d → ⊥
+asked_differ one other Reset same p = p (ap (λ (page : AskedPage). page.start.is_first) same)
+asked_differ one other (BySetting d) same p = settings_differ one other d same p.1
 
 -- ---- a universal exit
 
@@ -56,22 +67,28 @@ exits_differ one other d same p = grind arith
 -- ---- what is asked
 
 module _ (asks others : Asks) where
-  pages_unlike : (n : ℕ) (d : SettingDifference) → AsksDifferBy asks others (Page n d) → asks.pages ≢ others.pages
-  pages_unlike = lists_differ IsFirstSetting settings_differ asks.pages others.pages
+  pages_unlike : (n : ℕ) (d : AskedDifference) → AsksDifferBy asks others (Page n d) → asks.pages ≢ others.pages
+  pages_unlike = lists_differ IsAskedBy asked_differ asks.pages others.pages
+
+  exits_unlike : (n : ℕ) (d : ExitDifference) → AsksDifferBy asks others (Exit n d) → asks.exits ≢ others.exits
+  exits_unlike n d p = lists_differ ExitsDifferBy exits_differ asks.exits others.exits n d p.2
 
   one_difference : (d e : AsksDifference) → AsksDifferBy asks others d → AsksDifferBy asks others e → d ≡ e
   one_difference (Page n d) (Page m e) p q =
-      let one = one_number IsFirstSetting settings_differ one_setting asks.pages others.pages n m d e p q in cc
+      let one = one_number IsAskedBy asked_differ one_asked_by asks.pages others.pages n m d e p q in cc
   one_difference (Page n d) e p q = absurd (pages_unlike n d p q.0)
   one_difference d (Page m e) p q = absurd (pages_unlike m e q p.0)
   one_difference (Exit n d) (Exit m e) p q =
       let one = one_number ExitsDifferBy exits_differ one_exit asks.exits others.exits n m d e p.2 q.2 in cc
+  one_difference (Exit n d) Lasting p q = absurd (exits_unlike n d p q.1)
+  one_difference Lasting (Exit m e) p q = absurd (exits_unlike m e q p.1)
   one_difference _ _ p q = grind arith
 
   asks_unlike : (d : AsksDifference) → AsksDifferBy asks others d → asks ≢ others
   asks_unlike (Page n d) p = λ same. pages_unlike n d p cc
   asks_unlike (ExitCount a b) p = λ same. p.3 cc
-  asks_unlike (Exit n d) p = λ same. lists_differ ExitsDifferBy exits_differ asks.exits others.exits n d p.2 cc
+  asks_unlike (Exit n d) p = λ same. exits_unlike n d p cc
+  asks_unlike Lasting p = λ same. p.2 (ap (λ (a : Asks). a.lasts) same, ap (λ (a : Asks). a.whole) same)
 
   one_asked : (a b : AskedComparison) → of_pages a ≡ of_pages b → CompareAsks asks others a → CompareAsks asks others b → a ≡ b
   one_asked asked.Same (asked.Asks d) e p q = absurd (asks_unlike d q p)

@@ -1,14 +1,16 @@
 -- Where what two jobs ask of the printer differs.
 use Rattle.std.specs.Prelude.{◌≡◌, ◌≢◌, ℕ, ◌+◌, ◌<◌, List, ◌∷◌, ◌++◌, length, Option}
 use Rattle.std.specs.Prelude.{ℤ}
-use Rattle.pcl_base.specs.declared.operation.Asking.{Asking}
-use Rattle.pcl_base.specs.declared.operation.Asking.TheVariants.{Sides, OutputBin, MediaType, PaperSource, SheetSide}
-use Rattle.pcl_env.specs.declared.asked.Asked.{Asked}
+use Rattle.pcl_page.specs.declared.asks.AskedPage.{AskedPage}
 use Rattle.pcl_page.specs.Asks.{Asks, Exit as UniversalExit}
+use Rattle.pcl_same.specs.declared.comparison.AskedDifference.{AskedDifference}
+use Rattle.pcl_same.specs.declared.comparison.AskedDifference.TheVariants.{Reset, Setting as BySetting}
 use Rattle.pcl_same.specs.declared.comparison.AsksDifference.{AsksDifference}
-use Rattle.pcl_same.specs.declared.comparison.AsksDifference.TheVariants.{Page, ExitCount, Exit}
+use Rattle.pcl_same.specs.declared.comparison.AsksDifference.TheVariants.{Page, ExitCount, Exit, Lasting}
 use Rattle.pcl_same.specs.declared.comparison.ExitDifference.{ExitDifference}
 use Rattle.pcl_same.specs.declared.comparison.ExitDifference.TheVariants.{Place, Lines}
+use Rattle.pcl_same.specs.declared.comparison.Setting.{Setting}
+use Rattle.pcl_same.specs.declared.comparison.Setting.TheVariants.{Copies, PageSize, PageLength, Sides, OutputBin, MediaType, PaperSource, SheetSide}
 use Rattle.pcl_same.specs.declared.comparison.SettingDifference.{SettingDifference}
 
 -- what has this number in two lists, counted from 1, differs so, and what is before it is the same
@@ -26,27 +28,41 @@ pub record DifferAt {A : Type 0} (differ : A → A → Type 0) (ones others : Li
 -- ---- a page
 
 -- what a page is asked with, setting by setting
-abbrev pub setting_of : Asking → Asked → Option ℤ
-setting_of Sides asked = asked.sides
-setting_of OutputBin asked = asked.output_bin
-setting_of MediaType asked = asked.media_type
-setting_of PaperSource asked = asked.paper_source
-setting_of SheetSide asked = asked.sheet_side
+abbrev pub setting_of : Setting → AskedPage → Option ℤ
+setting_of Copies page = page.said.copies
+setting_of PageSize page = page.said.page_size
+setting_of PageLength page = page.said.page_length
+setting_of Sides page = page.said.sides
+setting_of OutputBin page = page.said.output_bin
+setting_of MediaType page = page.said.media_type
+setting_of PaperSource page = page.said.paper_source
+setting_of SheetSide page = page.start.sheet_side
 
 -- the order in which settings are compared
-abbrev pub order_of : Asking → ℕ
-order_of Sides = 0
-order_of OutputBin = 1
-order_of MediaType = 2
-order_of PaperSource = 3
-order_of SheetSide = 4
+abbrev pub order_of : Setting → ℕ
+order_of Copies = 0
+order_of PageSize = 1
+order_of PageLength = 2
+order_of Sides = 3
+order_of OutputBin = 4
+order_of MediaType = 5
+order_of PaperSource = 6
+order_of SheetSide = 7
+
+abbrev pub HaveSameSettings : AskedPage → AskedPage → Type 0
+HaveSameSettings one other = (setting : Setting) → setting_of setting one ≡ setting_of setting other
 
 -- two pages are asked with different values of this setting, these, and with the same of all settings before it
-pub record IsFirstSetting (one other : Asked) (difference : SettingDifference) : Type 0 where
+pub record IsFirstSetting (one other : AskedPage) (difference : SettingDifference) : Type 0 where
   pub first : difference.first ≡ setting_of difference.setting one
   pub second : difference.second ≡ setting_of difference.setting other
   pub differ : difference.first ≢ difference.second
-  pub same_before : (setting : Asking) → order_of setting < order_of difference.setting → setting_of setting one ≡ setting_of setting other
+  pub same_before : (setting : Setting) → order_of setting < order_of difference.setting → setting_of setting one ≡ setting_of setting other
+
+-- two pages are asked with different things: one begins a sheet and the other doesn't; else in a setting
+abbrev pub IsAskedBy : AskedPage → AskedPage → AskedDifference → Type 0
+IsAskedBy one other Reset = one.start.is_first ≢ other.start.is_first
+IsAskedBy one other (BySetting difference) = (one.start.is_first ≡ other.start.is_first) × IsFirstSetting one other difference
 
 -- ---- a universal exit
 
@@ -57,12 +73,18 @@ ExitsDifferBy one other Lines = (one.pages ≡ other.pages) × (one.lines ≢ ot
 
 -- ---- jobs
 
--- what is asked differs so: for a page, the first; else in how many exits there are; else in an exit, the first
+-- what stays in the printer is the same: nothing of either lasts, or both are one job, byte for byte
+abbrev pub LeaveTheSame : Asks → Asks → Type 0
+LeaveTheSame asks others = (asks.lasts ≡ others.lasts) × (asks.whole ≡ others.whole)
+
+-- what is asked differs so: for a page, the first; else in how many exits there are; else in an exit, the first; else in what stays
 abbrev pub AsksDifferBy : Asks → Asks → AsksDifference → Type 0
 AsksDifferBy asks others (Page number difference) =
-    DifferAt (λ one other. IsFirstSetting one other difference) asks.pages others.pages number
+    DifferAt (λ one other. IsAskedBy one other difference) asks.pages others.pages number
 AsksDifferBy asks others (ExitCount first second) =
     (asks.pages ≡ others.pages) × (length asks.exits ≡ first) × (length others.exits ≡ second) × (first ≢ second)
 AsksDifferBy asks others (Exit number difference) =
     (asks.pages ≡ others.pages) × (length asks.exits ≡ length others.exits)
     × DifferAt (λ one other. ExitsDifferBy one other difference) asks.exits others.exits number
+AsksDifferBy asks others Lasting =
+    (asks.pages ≡ others.pages) × (asks.exits ≡ others.exits) × (LeaveTheSame asks others → ⊥)

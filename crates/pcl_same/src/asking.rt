@@ -2,32 +2,33 @@
 
 ghost use Rattle.std.specs.Prelude.{◌≡◌, ◌≢◌, MatchOption, length, map};
 ghost use Rattle.pcl_page.specs.Asks.{asks_of, exit_of};
-ghost use Rattle.pcl_same.specs.DifferingAsks.{IsFirstSetting, ExitsDifferBy, AsksDifferBy};
+ghost use Rattle.pcl_same.specs.DifferingAsks.{IsFirstSetting, HaveSameSettings, IsAskedBy, ExitsDifferBy, AsksDifferBy};
 ghost use Rattle.pcl_same.specs.inner.Asking.{IsSettingDifference, IsPageDifference, IsExitDifference};
 
-use crate::{AsksDifference, ExitDifference, SettingDifference};
-use pcl_base::Asking;
-use pcl_env::Asked;
-use pcl_page::{Asks, Exit};
+use crate::{AskedDifference, AsksDifference, ExitDifference, Setting, SettingDifference};
+use pcl_page::{AskedPage, Asks, Exit};
 
-/// How what two jobs with as many pages ask of the printer differs.
+/// How what two jobs with as many pages ask of the printer differs, both at their end.
 pub fn asks_difference(first: &Asks<'_>, second: &Asks<'_>) -> Option<AsksDifference>
-    ensures { length first.now.pages.items ≡ length second.now.pages.items
+    ensures { length first.now.pages.items ≡ length second.now.pages.items → first.now.next ≡ second.now.next
         → MatchOption result (asks_of first.now ≡ asks_of second.now) (AsksDifferBy (asks_of first.now) (asks_of second.now)) }
 {
-    match page_difference(&first.pages, &second.pages) {
-        Some(difference) => Some(difference),
-        None => exits_difference(&first.exits, &second.exits),
+    if let Some(difference) = page_difference(&first.pages, &second.pages) {
+        return Some(difference);
     }
+    if let Some(difference) = exits_difference(&first.exits, &second.exits) {
+        return Some(difference);
+    }
+    lasting_difference(first, second)
 }
 
 /// How what pages are asked with differs, first of those that both have.
-fn page_difference(first: &[Asked], second: &[Asked]) -> Option<AsksDifference>
+fn page_difference(first: &[AskedPage], second: &[AskedPage]) -> Option<AsksDifference>
     ensures { length first.now ≡ length second.now
         → MatchOption result (first.now ≡ second.now) (IsPageDifference first.now second.now) }
 {
     for place in 0..first.len().min(second.len()) {
-        if let Some(difference) = setting_difference(&first[place], &second[place]) {
+        if let Some(difference) = asked_difference(&first[place], &second[place]) {
             let number = place + 1;
             return Some(AsksDifference::Page { number, difference });
         }
@@ -35,19 +36,40 @@ fn page_difference(first: &[Asked], second: &[Asked]) -> Option<AsksDifference>
     None
 }
 
-/// The first setting that differs.
-fn setting_difference(one: &Asked, other: &Asked) -> Option<SettingDifference>
-    ensures { MatchOption result (one.now ≡ other.now) (IsFirstSetting one.now other.now) }
+/// How what two pages are asked with differs.
+fn asked_difference(one: &AskedPage, other: &AskedPage) -> Option<AskedDifference>
+    ensures { MatchOption result (one.now ≡ other.now) (IsAskedBy one.now other.now) }
 {
-    differing(Asking::Sides, one.sides, other.sides)
-        .or(differing(Asking::OutputBin, one.output_bin, other.output_bin))
-        .or(differing(Asking::MediaType, one.media_type, other.media_type))
-        .or(differing(Asking::PaperSource, one.paper_source, other.paper_source))
-        .or(differing(Asking::SheetSide, one.sheet_side, other.sheet_side))
+    if one.start.is_first != other.start.is_first {
+        return Some(AskedDifference::Reset);
+    }
+    match setting_difference(one, other) {
+        Some(difference) => Some(AskedDifference::Setting(difference)),
+        None => None,
+    }
+}
+
+/// The first setting that differs.
+fn setting_difference(one: &AskedPage, other: &AskedPage) -> Option<SettingDifference>
+    ensures { MatchOption result (HaveSameSettings one.now other.now) (IsFirstSetting one.now other.now) }
+{
+    let (said, others) = (one.said, other.said);
+    differing(Setting::Copies, said.copies, others.copies)
+        .or(differing(Setting::PageSize, said.page_size, others.page_size))
+        .or(differing(Setting::PageLength, said.page_length, others.page_length))
+        .or(differing(Setting::Sides, said.sides, others.sides))
+        .or(differing(Setting::OutputBin, said.output_bin, others.output_bin))
+        .or(differing(Setting::MediaType, said.media_type, others.media_type))
+        .or(differing(Setting::PaperSource, said.paper_source, others.paper_source))
+        .or(differing(
+            Setting::SheetSide,
+            one.start.sheet_side,
+            other.start.sheet_side,
+        ))
 }
 
 /// The values of a setting, where they differ.
-fn differing(setting: Asking, first: Option<i32>, second: Option<i32>) -> Option<SettingDifference>
+fn differing(setting: Setting, first: Option<i64>, second: Option<i64>) -> Option<SettingDifference>
     ensures { MatchOption result (first ≡ second) (IsSettingDifference setting first second) }
 {
     if first == second {
@@ -58,6 +80,18 @@ fn differing(setting: Asking, first: Option<i32>, second: Option<i32>) -> Option
         first,
         second,
     })
+}
+
+/// How two jobs differ in what stays in the printer.
+fn lasting_difference(first: &Asks<'_>, second: &Asks<'_>) -> Option<AsksDifference>
+    ensures { MatchOption result ((first.now.lasts ≡ second.now.lasts) × (first.now.whole.now ≡ second.now.whole.now))
+        (λ difference. (difference ≡ AsksDifference.Lasting)
+        × ((first.now.lasts ≡ second.now.lasts) × (first.now.whole.now ≡ second.now.whole.now) → ⊥)) }
+{
+    if first.lasts == second.lasts && first.whole == second.whole {
+        return None;
+    }
+    Some(AsksDifference::Lasting)
 }
 
 /// How universal exits differ: in their number, else at the first that differs.

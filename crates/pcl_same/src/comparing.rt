@@ -38,7 +38,7 @@ pub fn compare_kept(
 /// What two jobs are found to be whose pages differ so, if they do, and which ask for this.
 fn conclude(pages: Option<PagesDifference>, first: &Asks<'_>, second: &Asks<'_>) -> AskedComparison
     ensures pages { of_pages result ≡ comparison_of pages }
-    ensures asks { (pages ≡ None → length first.now.pages.items ≡ length second.now.pages.items)
+    ensures asks { (pages ≡ None → length first.now.pages.items ≡ length second.now.pages.items) → first.now.next ≡ second.now.next
         → CompareAsks (asks_of first.now) (asks_of second.now) result }
 {
     if let Some(difference) = pages {

@@ -5,7 +5,7 @@ ghost use Rattle.std.specs.Bool.{Decides};
 ghost use Rattle.pcl_same.specs.Comparing.{of_pages};
 ghost use Rattle.pcl_same.specs.declared.comparison.AskedComparison.TheVariants.{Same};
 
-use pcl_base::{Asking, Size};
+use pcl_base::Size;
 
 /// What two accepted jobs are found to be.
 #[derive(Clone, Copy, Debug, PartialEq, Eq)]
@@ -86,13 +86,14 @@ pub enum Difference {
     Dot { x: u32, y: u32 },
 }
 
-/// How what two jobs with as many pages ask of the printer differs: for a page, else in the universal exits.
+/// How what two jobs with as many pages ask of the printer differs: for a page, else in the universal exits, else in what stays in the
+/// printer.
 #[derive(Clone, Copy, Debug, PartialEq, Eq)]
 pub enum AsksDifference {
     /// The first page for which they ask different things is the one of this number, counted from 1.
     Page {
         number: usize,
-        difference: SettingDifference,
+        difference: AskedDifference,
     },
     /// They have different numbers of universal exits.
     ExitCount {
@@ -104,15 +105,46 @@ pub enum AsksDifference {
         number: usize,
         difference: ExitDifference,
     },
+    /// One of them counts on fonts or macros that stay in the printer, or changes these, and the other isn't the same job byte for byte.
+    Lasting,
 }
 
-/// The first setting in which what two pages are asked with differs, of sides, output bin, media type, paper source and side of
-/// the sheet, and its values: `None` where nothing is asked.
+/// How what two pages are asked with differs: in whether they begin a sheet, else in a setting.
+#[derive(Clone, Copy, Debug, PartialEq, Eq)]
+pub enum AskedDifference {
+    /// One of them is the first page since a reset, and the other isn't.
+    Reset,
+    /// They have different values of a setting.
+    Setting(SettingDifference),
+}
+
+/// What a page is asked with by a value, in the order in which pages are compared.
+#[derive(Clone, Copy, Debug, PartialEq, Eq)]
+pub enum Setting {
+    /// How many copies, `&lX`.
+    Copies,
+    /// The number of the page size, `&lA`.
+    PageSize,
+    /// The length of the page, `&lP`, in units of 1/7200 inch.
+    PageLength,
+    /// One side or both, `&lS`.
+    Sides,
+    /// Where printed sheets go, `&lG`.
+    OutputBin,
+    /// The kind of paper, `&lM`.
+    MediaType,
+    /// Where the paper comes from, `&lH`.
+    PaperSource,
+    /// The front or the back of a sheet, `&aG`.
+    SheetSide,
+}
+
+/// The first setting in which what two pages are asked with differs, and its values: `None` where nothing is asked.
 #[derive(Clone, Copy, Debug, PartialEq, Eq)]
 pub struct SettingDifference {
-    pub setting: Asking,
-    pub first: Option<i32>,
-    pub second: Option<i32>,
+    pub setting: Setting,
+    pub first: Option<i64>,
+    pub second: Option<i64>,
 }
 
 /// How a universal exit of one job differs from that of another: in its place, else in its lines.

@@ -19,8 +19,8 @@ mod laws;
 
 pub use comparing::compare_kept;
 pub use comparison::{
-    AskedComparison, AsksDifference, Comparison, Difference, ExitDifference, PagesDifference,
-    SettingDifference,
+    AskedComparison, AskedDifference, AsksDifference, Comparison, Difference, ExitDifference,
+    PagesDifference, Setting, SettingDifference,
 };
 pub use fault::{Job, SameFault};
 pub use images::differing_dots;

@@ -1,6 +1,6 @@
 -- What a job asks for, written around the texts of its pages, one exit or page more.
 use Rattle.std.proofs.Common.{◌≡◌, ◌≢◌, ℕ, suc, ◌+◌, Bool, true, false, ◌==◌, ◌||◌, if◌then◌else◌, List, [], ◌∷◌, ◌++◌, length, map, take, get_or, ◌<◌, ◌≤◌, refl, sym, ap, subst, append_assoc, append-nil, arith}
-use Rattle.pcl_shrink.proofs.Names.{nat_tests, length-append, length-map, length-take-le, map_more, flat_map-cons, flat_map-append, Asked, nothing_asked, Asks, Exit, exit_of, Text, least_of, exit_bytes, exit_text, exits_after, is_exit_after, drops, change_text, asked_at, page_start, is_reset_before, asked_pages}
+use Rattle.pcl_shrink.proofs.Names.{nat_tests, length-append, length-map, length-take-le, map_more, flat_map-cons, flat_map-append, Asks, Exit, exit_of, Text, least_of, exit_bytes, exit_text, exits_after, is_exit_after, asked_text, side_text, reset_text, asked_before, fitted, asked_at, page_start, asked_pages}
 use Rattle.pcl_page.specs.declared.asks.Exit.{Exit as ExitOfCode}
 
 -- ---- exits
@@ -51,45 +51,31 @@ writes_elsewhere number exits {i} d old mid before lt here so_far stays same =
       rw (same, so_far.1, more, found_more number front exit, other_number here) refl,
     )
 
--- ---- what stands before a page but the first
+-- ---- what stands before a page
 
-later_start : (asks : Asks) (before : ℕ) → page_start asks (suc before) ≡ exits_after (suc before) asks.exits
-    ++ change_text (if is_exit_after (suc before) asks.exits then nothing_asked else asked_at asks before) (asked_at asks (suc before))
-later_start asks before = rw (append-nil (exits_after (suc before) asks.exits)) refl
-
-pub starts_later : (asks : Asks) (page before : ℕ) (is_left : Bool) (old : List ℕ) {mid new : List ℕ} (already asked : Asked)
-    → suc before ≡ page → is_left ≡ is_exit_after page asks.exits → mid ≡ old ++ exits_after page asks.exits
-    → already ≡ (if is_left then nothing_asked else asked_at asks before) → asked ≡ asked_at asks page
-    → new ≡ mid ++ change_text already asked → new ≡ old ++ page_start asks page
-starts_later asks page before is_left old already asked place left exits already_is asked_is written =
-    let start = subst (λ (n : ℕ). page_start asks n ≡ exits_after n asks.exits
-    ++ change_text (if is_exit_after n asks.exits then nothing_asked else asked_at asks before) (asked_at asks n)) place
-    (later_start asks before) in
-    rw (written, already_is, asked_is, exits, left, start) (append_assoc old (exits_after page asks.exits) _)
-
--- whether that puts the printer back to its defaults
-pub resets_later : (asks : Asks) (page before : ℕ) {is_left is_reset : Bool} (already asked : Asked) → suc before ≡ page
-    → is_left ≡ is_exit_after page asks.exits → already ≡ (if is_left then nothing_asked else asked_at asks before)
-    → asked ≡ asked_at asks page → is_reset ≡ drops already asked → (is_left || is_reset) ≡ is_reset_before asks page
-resets_later asks page before already asked place left already_is asked_is reset =
-    rw (reset, already_is, asked_is, left) (subst (λ (n : ℕ). (is_exit_after n asks.exits
-    || drops (if is_exit_after n asks.exits then nothing_asked else asked_at asks before) (asked_at asks n)) ≡ is_reset_before asks n)
-    place refl)
+pub starts_page : (asks : Asks) (page : ℕ) (old : List ℕ) {left again asked new : List ℕ} → left ≡ old ++ exits_after page asks.exits
+    → again ≡ left ++ reset_text asks page → asked ≡ again ++ asked_text (asked_before asks page) (asked_at asks page).said
+    → new ≡ asked ++ side_text (asked_at asks page).start.sheet_side → new ≡ old ++ page_start asks page
+starts_page asks page old exits reset said side = rw (side, said, reset, exits) (simp append_assoc)
 
 -- ---- pages
 
+-- a page with what stands before its text
+abbrev pub page_text : Asks → ℕ → List ℕ → List ℕ
+page_text asks number text = page_start asks number ++ fitted (asked_at asks number).said text
+
 pub pages_more : (asks : Asks) (number : ℕ) (texts : List (List ℕ)) (text : List ℕ)
-    → asked_pages asks number (texts ++ text ∷ []) ≡ asked_pages asks number texts ++ (page_start asks (number + length texts) ++ text)
+    → asked_pages asks number (texts ++ text ∷ []) ≡ asked_pages asks number texts ++ page_text asks (number + length texts) text
 pages_more asks number [] text =
-    let last : number + 0 ≡ number = omega arith in rw (append-nil (page_start asks number ++ text), last) refl
+    let last : number + 0 ≡ number = omega arith in rw (last, append-nil (page_text asks number text)) refl
 pages_more asks number (t ∷ texts) text =
     let place : suc number + length texts ≡ number + suc (length texts) = omega arith in
     rw (pages_more asks (suc number) texts text, place)
-    (sym (append_assoc (page_start asks number ++ t) (asked_pages asks (suc number) texts) _))
+    (sym (append_assoc (page_text asks number t) (asked_pages asks (suc number) texts) _))
 
 -- one page more of a job's texts
 pub next_page : (asks : Asks) (texts : List Text) {i : ℕ} (d : Text) → i < length texts → asked_pages asks 0 (least_of (take (i + 1) texts))
-    ≡ asked_pages asks 0 (least_of (take i texts)) ++ (page_start asks i ++ (get_or texts i d).least.items)
+    ≡ asked_pages asks 0 (least_of (take i texts)) ++ page_text asks i (get_or texts i d).least.items
 next_page asks texts {i} d lt =
     let so_far = least_of (take i texts) in
     let place : 0 + length so_far ≡ i =
@@ -98,13 +84,17 @@ next_page asks texts {i} d lt =
 
 pub appended_page : (asks : Asks) (texts : List Text) {i : ℕ} (d : Text) {old start new : List ℕ} → i < length texts
     → old ≡ asked_pages asks 0 (least_of (take i texts)) → start ≡ old ++ page_start asks i
-    → new ≡ start ++ (get_or texts i d).least.items → new ≡ asked_pages asks 0 (least_of (take (i + 1) texts))
+    → new ≡ start ++ fitted (asked_at asks i).said (get_or texts i d).least.items
+    → new ≡ asked_pages asks 0 (least_of (take (i + 1) texts))
 appended_page asks texts {i} d lt so_far begun written =
-    rw (written, begun, so_far, next_page asks texts d lt) (append_assoc _ (page_start asks i) (get_or texts i d).least.items)
+    rw (written, begun, so_far, next_page asks texts d lt) (append_assoc _ (page_start asks i) _)
 
 -- bytes that are counted, in place of bytes that are written
-pub counted_page : (asks : Asks) (texts : List Text) {i : ℕ} (d : Text) (old start new : ℕ) → i < length texts
-    → old ≤ length (asked_pages asks 0 (least_of (take i texts))) → start ≡ length (page_start asks i)
-    → new ≤ old + start + length (get_or texts i d).least.items → new ≤ length (asked_pages asks 0 (least_of (take (i + 1) texts)))
-counted_page asks texts d old start new lt so_far begun counted =
-    omega (arith, ap length (next_page asks texts d lt), length-append {A = ℕ}, so_far, begun, counted)
+pub counted_page : (asks : Asks) (texts : List Text) {i : ℕ} (d : Text) (old new : ℕ) {start around : List ℕ} → i < length texts
+    → old ≤ length (asked_pages asks 0 (least_of (take i texts))) → start ≡ page_start asks i
+    → around ≡ start ++ fitted (asked_at asks i).said (get_or texts i d).least.items
+    → new ≤ old + length around → new ≤ length (asked_pages asks 0 (least_of (take (i + 1) texts)))
+counted_page asks texts {i} d old new {around = around} lt so_far begun written counted =
+    let page : around ≡ page_text asks i (get_or texts i d).least.items = rw (written, begun) refl in
+    let joined = length-append (asked_pages asks 0 (least_of (take i texts))) (page_text asks i (get_or texts i d).least.items) in
+    omega (arith, ap length (next_page asks texts d lt), ap length page, joined, so_far, counted)

@@ -1,6 +1,6 @@
--- A job of least page texts that asks for nothing is a least raster job.
-use Rattle.std.proofs.Common.{◌≡◌, ℕ, zero, suc, List, [], ◌∷◌, ◌++◌, refl, ap, ◌∙◌, append_assoc}
-use Rattle.pcl_shrink.proofs.Names.{Dpi, nothing_asked, Sheet, frame_bytes, IsWrittenPage, PrintEach, nothing_for, asked_at, page_start, asked_pages, asked_job, AreLeastTexts}
+-- A job of least page texts that says no more than these is a least raster job.
+use Rattle.std.proofs.Common.{◌≡◌, ℕ, zero, suc, ◌+◌, ◌<◌, true, false, List, [], ◌∷◌, ◌++◌, length, map, get_or, None, refl, ap, append_assoc, arith}
+use Rattle.pcl_shrink.proofs.Names.{Dpi, AskedPage, Sheet, frame_bytes, IsWrittenPage, PrintEach, page_said, said_for, next_page, plain_page, is_usual, page_start, asked_pages, asked_job, AreLeastTexts}
 
 abbrev pub joined : List (List ℕ) → List ℕ
 joined [] = []
@@ -12,24 +12,49 @@ print_each dpi [] [] a = refl
 print_each dpi (sheet ∷ sheets) (text ∷ texts) a = (text, joined texts, a.0, refl, print_each dpi sheets texts a.1)
 print_each dpi sheets texts a = absurd a
 
-asked_nothing : (pages : List Sheet) (number : ℕ) → asked_at (nothing_for pages) number ≡ nothing_asked
-asked_nothing [] zero = refl
-asked_nothing (sheet ∷ pages) (suc number) = asked_nothing pages number
-asked_nothing pages number = refl
+pub texts_count : (dpi : Dpi) (sheets : List Sheet) (texts : List (List ℕ)) → AreLeastTexts dpi sheets texts
+    → length texts ≡ length sheets
+texts_count dpi [] [] a = refl
+texts_count dpi (sheet ∷ sheets) (text ∷ texts) a = ap suc (texts_count dpi sheets texts a.1)
+texts_count dpi sheets texts a = absurd a
 
-first_start : (pages : List Sheet) → page_start (nothing_for pages) 0 ≡ frame_bytes
-first_start pages = rw (asked_nothing pages 0) refl
+-- a page of which no more is asked than what its text says, after another page
+record AsksLittle (page : AskedPage) : Type 0 where
+  sides : page.said.sides ≡ None
+  bin : page.said.output_bin ≡ None
+  media : page.said.media_type ≡ None
+  source : page.said.paper_source ≡ None
+  side : page.start.sheet_side ≡ None
+  later : page.start.is_first ≡ false
 
-no_start : (pages : List Sheet) (before : ℕ) → page_start (nothing_for pages) (suc before) ≡ []
-no_start pages before = rw (asked_nothing pages before, asked_nothing pages (suc before)) refl
+-- the pages after the first
+abbrev said_later : List Sheet → ℕ → AskedPage
+said_later sheets k = get_or (map (page_said next_page) sheets) k plain_page
 
-later_texts : (pages : List Sheet) (texts : List (List ℕ)) (before : ℕ) → asked_pages (nothing_for pages) (suc before) texts ≡ joined texts
-later_texts pages [] before = refl
-later_texts pages (text ∷ texts) before = rw (no_start pages before, later_texts pages texts (suc before)) refl
+little_later : (sheets : List Sheet) (k : ℕ) → AsksLittle (said_later sheets k)
+little_later [] k = record { sides = refl; bin = refl; media = refl; source = refl; side = refl; later = refl }
+little_later (sheet ∷ sheets) zero = record { sides = refl; bin = refl; media = refl; source = refl; side = refl; later = refl }
+little_later (sheet ∷ sheets) (suc k) = little_later sheets k
 
-pub job_of_nothing : (pages : List Sheet) (texts : List (List ℕ))
-    → asked_job (nothing_for pages) texts ≡ frame_bytes ++ joined texts ++ frame_bytes
-job_of_nothing pages [] = refl
-job_of_nothing pages (text ∷ texts) =
-    ap (λ (start : List ℕ). start ++ text ++ asked_pages (nothing_for pages) 1 texts ++ frame_bytes) (first_start pages)
-    ∙ rw (later_texts pages texts 0) (ap (λ (bytes : List ℕ). bytes ++ frame_bytes) (append_assoc frame_bytes text (joined texts)))
+usual_later : (sheets : List Sheet) (k : ℕ) → k < length sheets → is_usual (said_later sheets k).said ≡ true
+usual_later [] k lt = absurd (omega arith)
+usual_later (sheet ∷ sheets) zero lt = refl
+usual_later (sheet ∷ sheets) (suc k) lt = usual_later sheets k (omega arith)
+
+no_start : (first : Sheet) (sheets : List Sheet) (k : ℕ) → page_start (said_for (first ∷ sheets)) (suc k) ≡ []
+no_start first sheets k =
+    let l = little_later sheets k in rw (l.later, l.sides, l.bin, l.media, l.source, l.side) refl
+
+later_texts : (first : Sheet) (sheets : List Sheet) (texts : List (List ℕ)) (k : ℕ) → k + length texts ≡ length sheets
+    → asked_pages (said_for (first ∷ sheets)) (suc k) texts ≡ joined texts
+later_texts first sheets [] k count = refl
+later_texts first sheets (text ∷ texts) k count =
+    rw (no_start first sheets k, usual_later sheets k (omega arith), later_texts first sheets texts (suc k) (omega arith)) refl
+
+pub job_as_said : (pages : List Sheet) (texts : List (List ℕ)) → length texts ≡ length pages
+    → asked_job (said_for pages) texts ≡ frame_bytes ++ joined texts ++ frame_bytes
+job_as_said [] [] count = refl
+job_as_said (sheet ∷ sheets) (text ∷ texts) count =
+    rw (later_texts sheet sheets texts 0 (omega arith))
+    (ap (λ (bytes : List ℕ). bytes ++ frame_bytes) (append_assoc frame_bytes text (joined texts)))
+job_as_said pages texts count = absurd (grind arith)

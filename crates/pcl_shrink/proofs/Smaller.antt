@@ -1,6 +1,6 @@
 -- Smaller jobs with the same pages, which ask for the same.
 use Rattle.std.proofs.Common.{◌≡◌, ℕ, ◌<◌, List, [], ◌∷◌, length, refl, sym, subst, arith}
-use Rattle.pcl_shrink.proofs.Names.{Dpi, Asks, asks_of, Sheet, HasPages, HasAsks, AllAlike, Same, KeptJob, IsAskedComparison, IsKept, nothing_for, IsJobOf, PrintsAlike, IsSmallerJob, IsBest, IsLimit}
+use Rattle.pcl_shrink.proofs.Names.{Dpi, Asks, asks_of, Sheet, HasPages, HasAsks, AllAlike, Same, KeptJob, IsAskedComparison, IsKept, said_for, IsJobOf, PrintsAlike, IsSmallerJob, IsBest, IsLimit}
 
 -- a job has one list of pages, and asks for one thing
 abbrev pub OnePages : Type 0
@@ -9,9 +9,9 @@ OnePages = (dpi : Dpi) (job : List ℕ) (pages others : List Sheet) → HasPages
 abbrev pub OneAsks : Type 0
 OneAsks = (dpi : Dpi) (job : List ℕ) (asks others : Asks) → HasAsks dpi job asks → HasAsks dpi job others → asks ≡ others
 
--- a least raster job asks for nothing
-abbrev pub AskNothing : Type 0
-AskNothing = (dpi : Dpi) (job output : List ℕ) → (w : IsJobOf dpi job output) → HasAsks dpi output (nothing_for w.pages)
+-- a least raster job asks for what its page texts say
+abbrev pub SayTheSame : Type 0
+SayTheSame = (dpi : Dpi) (job output : List ℕ) → (w : IsJobOf dpi job output) → HasAsks dpi output (said_for w.pages)
 
 -- pages are like themselves
 same_pages : (dpi : Dpi) (pages : List Sheet) → AllAlike dpi pages pages
@@ -41,10 +41,10 @@ limit_best {dpi} k = record {
   within_input = omega arith;
 }
 
--- a least raster job is the same as a job that asks for nothing
-pub same_as_raster : AskNothing → {dpi : Dpi} {job raster : List ℕ} (w : IsJobOf dpi job raster) (asks : Asks) → HasAsks dpi job asks
-    → asks ≡ nothing_for w.pages → IsAskedComparison dpi job raster Same
-same_as_raster ask_nothing {dpi} {job} {raster} w asks asked nothing = record {
+-- a least raster job is the same as a job that asks for no more
+pub same_as_raster : SayTheSame → {dpi : Dpi} {job raster : List ℕ} (w : IsJobOf dpi job raster) (asks : Asks) → HasAsks dpi job asks
+    → asks ≡ said_for w.pages → IsAskedComparison dpi job raster Same
+same_as_raster say_the_same {dpi} {job} {raster} w asks asked nothing = record {
   pages = w.pages;
   meaning = w.meaning;
   asks = asks;
@@ -52,7 +52,7 @@ same_as_raster ask_nothing {dpi} {job} {raster} w asks asked nothing = record {
   others = w.again;
   other_meaning = w.accepted;
   other_asks = asks;
-  other_asked = subst (HasAsks dpi raster) (sym nothing) (ask_nothing dpi job raster w);
+  other_asked = subst (HasAsks dpi raster) (sym nothing) (say_the_same dpi job raster w);
   compare = w.alike;
   compare_asks = refl;
 }

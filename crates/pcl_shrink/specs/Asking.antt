@@ -1,10 +1,12 @@
 -- What a job asks of the printer, written around the texts of its pages.
-use Rattle.std.specs.Prelude.{ℕ, zero, suc, ◌==◌, Bool, true, false, ◌&&◌, ◌||◌, is_some, is_none, if◌then◌else◌, List, [], ◌∷◌, ◌++◌, length, get_or, flat_map, codes, Option, Some, None, ℤ}
+use Rattle.std.specs.Prelude.{ℕ, zero, suc, ◌-◌, ◌==◌, Bool, true, false, not, ◌&&◌, ◌||◌, is_some, is_none, if◌then◌else◌, List, [], ◌∷◌, ◌++◌, length, drop, get_or, flat_map, codes, Option, Some, None, unwrap_or, ℤ, pos, int_div}
+use Rattle.std.specs.Option.{option_map}
 use Rattle.std.specs.Fmt.{signed_decimal}
 use Rattle.std.specs.Ordering.{int_eq}
 use Rattle.pcl_env.specs.declared.asked.Asked.{Asked}
 use Rattle.pcl_env.specs.Settings.{nothing_asked}
-use Rattle.pcl_page.specs.Asks.{Asks, Exit}
+use Rattle.pcl_page.specs.declared.asks.AskedPage.{AskedPage}
+use Rattle.pcl_page.specs.Asks.{Asks, Exit, next_page}
 use Rattle.pcl_output.specs.Tokens.{frame_bytes}
 
 -- ---- universal exits
@@ -31,51 +33,78 @@ value_text start letter old None = []
 value_text start letter None (Some value) = start ++ signed_decimal value ++ letter
 value_text start letter (Some before) (Some value) = if int_eq before value then [] else start ++ signed_decimal value ++ letter
 
--- what asks for something where something else is asked for already
+-- what asks for sides, bins, media and sources where others are asked for already
 abbrev pub asked_text : Asked → Asked → List ℕ
 asked_text old new =
     value_text (27 ∷ codes "&l") (codes "S") old.sides new.sides
     ++ value_text (27 ∷ codes "&l") (codes "G") old.output_bin new.output_bin
     ++ value_text (27 ∷ codes "&l") (codes "M") old.media_type new.media_type
     ++ value_text (27 ∷ codes "&l") (codes "H") old.paper_source new.paper_source
-    ++ value_text (27 ∷ codes "&a") (codes "G") old.sheet_side new.sheet_side
 
--- something is asked for that is to be asked for no longer
-abbrev pub drops : Asked → Asked → Bool
-drops old new =
-    (is_some old.sides && is_none new.sides) || (is_some old.output_bin && is_none new.output_bin)
-    || (is_some old.media_type && is_none new.media_type) || (is_some old.paper_source && is_none new.paper_source)
-    || (is_some old.sheet_side && is_none new.sheet_side)
+-- the side of the sheet that the next page is asked for
+abbrev pub side_text : Option ℤ → List ℕ
+side_text side = value_text (27 ∷ codes "&a") (codes "G") None side
 
--- a reset first, where something is asked for no longer
-abbrev pub change_text : Asked → Asked → List ℕ
-change_text old new = if drops old new then frame_bytes ++ asked_text nothing_asked new else asked_text old new
+-- ---- the start of a page text
+
+-- a parameter of a sequence, where it has a value
+abbrev pub parameter_text : List ℕ → Option ℤ → List ℕ
+parameter_text letter None = []
+parameter_text letter (Some value) = signed_decimal value ++ letter
+
+-- the lines of the default spacing that make a length in units of 1/7200 inch
+abbrev pub lines_of : ℤ → ℤ
+lines_of length = int_div length (pos 1200)
+
+-- a page text starts with the copies, the size and a top margin of 0
+abbrev pub usual_start : Asked → List ℕ
+usual_start said =
+    27 ∷ codes "&l" ++ signed_decimal (unwrap_or said.copies (pos 1)) ++ codes "x" ++ signed_decimal (unwrap_or said.page_size (pos 2))
+    ++ codes "a0E"
+
+-- the same with what was said alone, and with the page length
+abbrev pub start_as_said : Asked → List ℕ
+start_as_said said =
+    27 ∷ codes "&l" ++ parameter_text (codes "x") said.copies ++ parameter_text (codes "a") said.page_size
+    ++ parameter_text (codes "p") (option_map lines_of said.page_length) ++ codes "0E"
+
+-- copies and a size were said, and no length
+abbrev pub is_usual : Asked → Bool
+is_usual said = is_some said.copies && (is_some said.page_size && is_none said.page_length)
+
+-- a page text that says what was said
+abbrev pub fitted : Asked → List ℕ → List ℕ
+fitted said text = if is_usual said then text else start_as_said said ++ drop (length (usual_start said)) text
 
 -- ---- a job
 
-abbrev pub asked_at : Asks → ℕ → Asked
-asked_at asks number = get_or asks.pages number nothing_asked
+-- a page of which nothing was asked
+abbrev pub plain_page : AskedPage
+plain_page = record { said = nothing_asked; start = next_page }
 
--- what is asked for already before a page: what the page before it asks for, where no exit stands between
+abbrev pub asked_at : Asks → ℕ → AskedPage
+asked_at asks number = get_or asks.pages number plain_page
+
+-- something puts the printer back to its defaults before the page of this number, from 0
+abbrev pub is_reset_before : Asks → ℕ → Bool
+is_reset_before asks number = number == 0 || (is_exit_after number asks.exits || (asked_at asks number).start.is_first)
+
+-- a reset before the first page, and before one where nothing else puts the printer back
+abbrev pub has_reset : Asks → ℕ → Bool
+has_reset asks number = number == 0 || (not (is_exit_after number asks.exits) && (asked_at asks number).start.is_first)
+
+abbrev pub reset_text : Asks → ℕ → List ℕ
+reset_text asks number = if has_reset asks number then frame_bytes else []
+
+-- what is asked for already before a page: what the page before it asks for, unless the printer is put back between them
 abbrev pub asked_before : Asks → ℕ → Asked
-asked_before asks zero = nothing_asked
-asked_before asks (suc before) = if is_exit_after (suc before) asks.exits then nothing_asked else asked_at asks before
-
--- a reset stands before the first page
-abbrev pub first_reset : ℕ → List ℕ
-first_reset zero = frame_bytes
-first_reset (suc before) = []
+asked_before asks number = if is_reset_before asks number then nothing_asked else (asked_at asks (number - 1)).said
 
 -- what stands before the text of the page of this number, from 0
 abbrev pub page_start : Asks → ℕ → List ℕ
 page_start asks number =
-    exits_after number asks.exits ++ first_reset number ++ change_text (asked_before asks number) (asked_at asks number)
-
--- something that stands before that text puts the printer back to its defaults, as it does before the first page
-abbrev pub is_reset_before : Asks → ℕ → Bool
-is_reset_before asks zero = true
-is_reset_before asks (suc before) =
-    is_exit_after (suc before) asks.exits || drops (asked_before asks (suc before)) (asked_at asks (suc before))
+    exits_after number asks.exits ++ reset_text asks number ++ asked_text (asked_before asks number) (asked_at asks number).said
+    ++ side_text (asked_at asks number).start.sheet_side
 
 -- what stands after the last of so many pages
 abbrev pub job_end : Asks → ℕ → List ℕ
@@ -85,7 +114,8 @@ job_end asks (suc before) = frame_bytes ++ exits_after (suc before) asks.exits
 -- texts of the pages from a number on
 abbrev pub asked_pages : Asks → ℕ → List (List ℕ) → List ℕ
 asked_pages asks number [] = []
-asked_pages asks number (text ∷ texts) = page_start asks number ++ text ++ asked_pages asks (suc number) texts
+asked_pages asks number (text ∷ texts) =
+    page_start asks number ++ fitted (asked_at asks number).said text ++ asked_pages asks (suc number) texts
 
 -- a job that asks for this, with these texts of its pages
 abbrev pub asked_job : Asks → List (List ℕ) → List ℕ

@@ -10,7 +10,7 @@ use Rattle.pcl_page.specs.Delivering.{IsRefusal}
 use Rattle.pcl_page.specs.Alike.{AllAlike}
 use Rattle.pcl_same.specs.declared.comparison.AskedComparison.TheVariants.{Same}
 use Rattle.pcl_same.specs.Comparing.{IsAskedComparison}
-use Rattle.pcl_meaning.specs.JobTexts.{nothing_for, IsJobOf}
+use Rattle.pcl_meaning.specs.JobTexts.{said_for, IsJobOf}
 use Rattle.pcl_shrink.specs.Asking.{asked_job}
 use Rattle.pcl_shrink.specs.Texts.{AreLeastTexts}
 use Rattle.pcl_shrink.specs.declared.candidate.Shrunk.{Shrunk}
@@ -22,8 +22,8 @@ pub record PrintsAlike (dpi : Dpi) (pages : List Sheet) (job : List ℕ) : Type 
   pub alike : AllAlike dpi pages again
 
 -- The input is accepted, and the output prints its pages and asks for what it asks for. The output is no longer than the input, nor
--- than a least raster job of the input where that asks for nothing, nor than least page texts with what it asks for around them,
--- where these have the same pages and ask for the same.
+-- than a least raster job of the input where it asks for no more than that says, nor than least page texts with what it asks for
+-- around them, where these have the same pages and ask for the same.
 pub record IsSmallerJob (dpi : Dpi) (job output : List ℕ) : Type 0 where
   pub pages : List Sheet
   pub meaning : HasPages dpi job pages
@@ -34,7 +34,7 @@ pub record IsSmallerJob (dpi : Dpi) (job output : List ℕ) : Type 0 where
   pub within_input : length output ≤ length job
   pub raster : List ℕ
   pub raster_is : IsJobOf dpi job raster
-  pub within_raster : asks ≡ nothing_for pages → length output ≤ length raster
+  pub within_raster : asks ≡ said_for pages → length output ≤ length raster
   pub texts : List (List ℕ)
   pub least : AreLeastTexts dpi pages texts
   pub within_asked : IsAskedComparison dpi job (asked_job asks texts) Same → length output ≤ length (asked_job asks texts)

@@ -1,6 +1,8 @@
 //! What a job asks of the printer, written again.
 
-ghost use Rattle.std.specs.Prelude.{◌≡◌, ◌++◌, OnOk, IfOk, if◌then◌else◌};
+ghost use Rattle.std.specs.Prelude.{◌≡◌, ◌++◌, ◌-◌, [], OnOk, IfOk, if◌then◌else◌};
+ghost use Rattle.pcl_output.specs.Tokens.{frame_bytes};
+ghost use Rattle.std.specs.Option.{option_map};
 ghost use Rattle.std.specs.Fmt.{signed_decimal};
 ghost use Rattle.pcl_env.specs.Settings.{nothing_asked};
 ghost use Rattle.pcl_page.specs.Asks.{asks_of, exit_of};
@@ -10,8 +12,12 @@ ghost use Rattle.pcl_shrink.specs.Asking.{
   is_exit_after,
   value_text,
   asked_text,
-  drops,
-  change_text,
+  parameter_text,
+  lines_of,
+  usual_start,
+  start_as_said,
+  is_usual,
+  fitted,
   asked_at,
   page_start,
   is_reset_before,
@@ -20,7 +26,7 @@ ghost use Rattle.pcl_shrink.specs.Asking.{
 
 use itoa::Buffer;
 use pcl_env::Asked;
-use pcl_page::{Asks, Exit};
+use pcl_page::{AskedPage, Asks, Exit, PageStart};
 use std::alloc::AllocError;
 
 /// Ends a job in the printer's job language, and begins another ("Universal Exit Language").
@@ -29,9 +35,12 @@ const UNIVERSAL_EXIT: &[u8] = b"\x1b%-12345X";
 /// Puts everything back to its default.
 const RESET: &[u8] = b"\x1bE";
 
+/// A line of the default spacing, six to the inch, in units of 1/7200 inch.
+const LINE: i64 = 1_200;
+
 /// Appends what stands before the text of the page of this number, from 0, after all that stands before the text of the page
-/// before it: the universal exits there with their lines, and what the page is asked with as far as it isn't asked already.
-/// Before the first page a reset follows the exits. Says whether anything of this puts the printer back to its defaults.
+/// before it: the universal exits there with their lines, a reset where the page is the first since one and no exit stands there, and
+/// what the page is asked with as far as it isn't asked already. Says whether anything of this puts the printer back to its defaults.
 pub fn append_page_start(
     asks: &Asks<'_>,
     page: usize,
@@ -40,15 +49,13 @@ pub fn append_page_start(
     ensures text { OnOk result (out.new.items ≡ out.old.items ++ page_start (asks_of asks.now) page) }
     ensures reset { IfOk result (λ is_reset. is_reset ≡ is_reset_before (asks_of asks.now) page) }
 {
+    let asked = asked_at(asks, page);
     let is_left = append_exits(asks, page, out)?;
-    let Some(before) = page.checked_sub(1) else {
-        out.extend_from_slice(RESET)?;
-        append_change(Asked::NOTHING, asked_at(asks, page), out)?;
-        return Ok(true);
-    };
-    let old = asked_already(asks, before, is_left);
-    let is_reset = append_change(old, asked_at(asks, page), out)?;
-    Ok(is_left || is_reset)
+    let is_reset = page == 0 || (is_left || asked.start.is_first);
+    append_reset(page == 0 || (!is_left && asked.start.is_first), out)?;
+    append_asked(asked_already(asks, page, is_reset), asked.said, out)?;
+    append_value(b"\x1b&a", None, asked.start.sheet_side, b"G", out)?;
+    Ok(is_reset)
 }
 
 /// Appends what stands after the last of so many pages: a reset, and the universal exits there.
@@ -66,23 +73,26 @@ pub fn append_end(asks: &Asks<'_>, pages: usize, out: &mut Vec<u8>) -> Result<()
 }
 
 /// What the page of a number, from 0, is asked with.
-fn asked_at(asks: &Asks<'_>, page: usize) -> Asked
+fn asked_at(asks: &Asks<'_>, page: usize) -> AskedPage
     ensures { result ≡ asked_at (asks_of asks.now) page }
 {
     match asks.pages.get(page) {
         Some(asked) => *asked,
-        None => Asked::NOTHING,
+        None => AskedPage {
+            said: Asked::NOTHING,
+            start: PageStart::NEXT,
+        },
     }
 }
 
-/// What is asked for already after the page of a number: nothing where a universal exit follows.
-fn asked_already(asks: &Asks<'_>, page: usize, is_left: bool) -> Asked
-    ensures { result ≡ (if is_left then nothing_asked else asked_at (asks_of asks.now) page) }
+/// What is asked for already before the page of a number: nothing where the printer is put back to its defaults there.
+fn asked_already(asks: &Asks<'_>, page: usize, is_reset: bool) -> Asked
+    ensures { result ≡ (if is_reset then nothing_asked else (asked_at (asks_of asks.now) (page - 1)).said) }
 {
-    if is_left {
+    if is_reset {
         return Asked::NOTHING;
     }
-    asked_at(asks, page)
+    asked_at(asks, page.saturating_sub(1)).said
 }
 
 /// Appends the universal exits that stand after so many pages, and says whether there is one.
@@ -108,48 +118,31 @@ fn append_exit(exit: &Exit<'_>, out: &mut Vec<u8>) -> Result<(), AllocError>
     out.extend_from_slice(exit.lines)
 }
 
-/// Appends what asks for something where something else is asked for: a reset first where what is asked for no longer is. Says
-/// whether there is one.
-fn append_change(old: Asked, new: Asked, out: &mut Vec<u8>) -> Result<bool, AllocError>
-    ensures text { OnOk result (out.new.items ≡ out.old.items ++ change_text old new) }
-    ensures reset { IfOk result (λ is_reset. is_reset ≡ drops old new) }
+/// Appends a reset, where it is wanted.
+fn append_reset(is_wanted: bool, out: &mut Vec<u8>) -> Result<(), AllocError>
+    ensures { OnOk result (out.new.items ≡ out.old.items ++ (if is_wanted then frame_bytes else [])) }
 {
-    if drops(old, new) {
-        out.extend_from_slice(RESET)?;
-        append_asked(Asked::NOTHING, new, out)?;
-        return Ok(true);
+    if is_wanted {
+        return out.extend_from_slice(RESET);
     }
-    append_asked(old, new, out)?;
-    Ok(false)
+    Ok(())
 }
 
-/// Whether something is asked for that is to be asked for no longer.
-fn drops(old: Asked, new: Asked) -> bool
-    ensures { result ≡ drops old new }
-{
-    (old.sides.is_some() && new.sides.is_none())
-        || (old.output_bin.is_some() && new.output_bin.is_none())
-        || (old.media_type.is_some() && new.media_type.is_none())
-        || (old.paper_source.is_some() && new.paper_source.is_none())
-        || (old.sheet_side.is_some() && new.sheet_side.is_none())
-}
-
-/// Appends what asks for something, as far as it isn't asked for already.
+/// Appends what asks for sides, bins, media and sources, as far as they aren't asked for already.
 fn append_asked(old: Asked, new: Asked, out: &mut Vec<u8>) -> Result<(), AllocError>
     ensures { OnOk result (out.new.items ≡ out.old.items ++ asked_text old new) }
 {
     append_value(b"\x1b&l", old.sides, new.sides, b"S", out)?;
     append_value(b"\x1b&l", old.output_bin, new.output_bin, b"G", out)?;
     append_value(b"\x1b&l", old.media_type, new.media_type, b"M", out)?;
-    append_value(b"\x1b&l", old.paper_source, new.paper_source, b"H", out)?;
-    append_value(b"\x1b&a", old.sheet_side, new.sheet_side, b"G", out)
+    append_value(b"\x1b&l", old.paper_source, new.paper_source, b"H", out)
 }
 
 /// Appends a command with a value, where that is another than before.
 fn append_value(
     start: &[u8],
-    old: Option<i32>,
-    new: Option<i32>,
+    old: Option<i64>,
+    new: Option<i64>,
     letter: &[u8],
     out: &mut Vec<u8>,
 ) -> Result<(), AllocError>
@@ -170,7 +163,7 @@ fn append_value(
 /// Appends a command with a value.
 fn append_command(
     start: &[u8],
-    value: i32,
+    value: i64,
     letter: &[u8],
     out: &mut Vec<u8>,
 ) -> Result<(), AllocError>
@@ -180,4 +173,75 @@ fn append_command(
     out.extend_from_slice(start)?;
     out.extend_from_slice(digits.format(value).as_bytes())?;
     out.extend_from_slice(letter)
+}
+
+/// Appends a text of the page of this number, from 0, so that it says what was said of it.
+pub fn append_page_text(
+    asks: &Asks<'_>,
+    page: usize,
+    text: &[u8],
+    out: &mut Vec<u8>,
+) -> Result<(), AllocError>
+    ensures { OnOk result (out.new.items ≡ out.old.items ++ fitted (asked_at (asks_of asks.now) page).said text.now) }
+{
+    append_fitted(asked_at(asks, page).said, text, out)
+}
+
+/// Appends a page text: itself where its copies and its size were said and no length, else with another start.
+fn append_fitted(said: Asked, text: &[u8], out: &mut Vec<u8>) -> Result<(), AllocError>
+    ensures { OnOk result (out.new.items ≡ out.old.items ++ fitted said text.now) }
+{
+    if is_usual(said) {
+        return out.extend_from_slice(text);
+    }
+    let mut usual = Vec::new(*out.allocator());
+    append_usual_start(said, &mut usual)?;
+    append_start(said, out)?;
+    out.extend_from_slice(&text[usual.len().min(text.len())..])
+}
+
+/// Whether copies and a size were said, and no page length.
+fn is_usual(said: Asked) -> bool
+    ensures { result ≡ is_usual said }
+{
+    said.copies.is_some() && said.page_size.is_some() && said.page_length.is_none()
+}
+
+/// Appends the start of a page text of the copies and the size that were said, or else of one copy and Letter.
+fn append_usual_start(said: Asked, out: &mut Vec<u8>) -> Result<(), AllocError>
+    ensures { OnOk result (out.new.items ≡ out.old.items ++ usual_start said) }
+{
+    append_command(b"\x1b&l", said.copies.unwrap_or(1), b"x", out)?;
+    append_command(b"", said.page_size.unwrap_or(2), b"a0E", out)
+}
+
+/// Appends the start of a page text with what was said.
+fn append_start(said: Asked, out: &mut Vec<u8>) -> Result<(), AllocError>
+    ensures { OnOk result (out.new.items ≡ out.old.items ++ start_as_said said) }
+{
+    out.extend_from_slice(b"\x1b&l")?;
+    append_parameter(said.copies, b"x", out)?;
+    append_parameter(said.page_size, b"a", out)?;
+    append_parameter(lines_of(said.page_length), b"p", out)?;
+    out.extend_from_slice(b"0E")
+}
+
+/// The lines of the default spacing that make a page length.
+fn lines_of(length: Option<i64>) -> Option<i64>
+    ensures { result ≡ option_map lines_of length }
+{
+    match length {
+        Some(length) => Some(length / LINE),
+        None => None,
+    }
+}
+
+/// Appends a parameter of a sequence, where it has a value.
+fn append_parameter(value: Option<i64>, letter: &[u8], out: &mut Vec<u8>) -> Result<(), AllocError>
+    ensures { OnOk result (out.new.items ≡ out.old.items ++ parameter_text letter.now value) }
+{
+    match value {
+        Some(value) => append_command(b"", value, letter, out),
+        None => Ok(()),
+    }
 }

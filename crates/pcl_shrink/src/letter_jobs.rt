@@ -2,9 +2,9 @@
 
 ghost use Rattle.pcl_shrink.specs.Outcome.{IsOutcome};
 
-use crate::asking::{append_end, append_page_start};
+use crate::asking::{append_end, append_page_start, append_page_text};
 use pcl_base::{Dpi, JobFault};
-use pcl_lettering::{Lettering, PageWriter};
+use pcl_lettering::{END_RASTER, Lettering, PageWriter};
 use pcl_page::{Asks, Page, PageSink, perform};
 use std::alloc::{AllocError, Global};
 use std::marker::Model;
@@ -141,7 +141,7 @@ impl<'a, 'b> LetterWriter<'a, 'b> {
         for (number, text) in self.texts.iter().enumerate() {
             if self.first <= number && number < self.pages {
                 append_page_start(self.asks, number, &mut self.out)?;
-                self.out.extend_from_slice(text)?;
+                append_page_text(self.asks, number, text, &mut self.out)?;
             }
         }
         Ok(())
@@ -161,11 +161,28 @@ impl<'a, 'b> LetterWriter<'a, 'b> {
         Ok((writer.out.len() < writer.limit).then_some(writer.out))
     }
 
+    /// Appends what was written of a page, so that it says what was said of it. The end of a raster may stand before it, where macros of
+    /// the page before left a method.
+    fn append_written(&mut self, written: &[u8]) -> Result<(), AllocError> {
+        let text = match written.strip_prefix(END_RASTER) {
+            Some(text) => {
+                self.out.extend_from_slice(END_RASTER)?;
+                text
+            }
+            None => written,
+        };
+        append_page_text(self.asks, self.pages, text, &mut self.out)
+    }
+
     /// Appends a page, of which this is a text without letters.
     fn append_page(&mut self, page: &Page, text: &[u8]) -> Result<(), AllocError> {
         self.begin_page()?;
-        self.plain = self.plain.saturating_add(text.len());
-        self.writer.append_page(page, text, &mut self.out)?;
+        let mut written = Vec::new(*self.out.allocator());
+        append_page_text(self.asks, self.pages, text, &mut written)?;
+        self.plain = self.plain.saturating_add(written.len());
+        written.clear();
+        self.writer.append_page(page, text, &mut written)?;
+        self.append_written(&written)?;
         self.pages = self.pages.saturating_add(1);
         self.give_up_if_too_long();
         Ok(())

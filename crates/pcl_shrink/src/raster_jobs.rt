@@ -5,7 +5,7 @@ ghost use Rattle.pcl_page.specs.Asks.{asks_of};
 ghost use Rattle.pcl_shrink.specs.Asking.{asked_job};
 ghost use Rattle.pcl_shrink.specs.Texts.{least_of};
 
-use crate::asking::{append_end, append_page_start};
+use crate::asking::{append_end, append_page_start, append_page_text};
 use crate::rasters::Text;
 use pcl_page::Asks;
 use std::alloc::{AllocError, Global};
@@ -17,7 +17,7 @@ pub fn asked_job(alloc: Global, asks: &Asks<'_>, texts: &[Text]) -> Result<Vec<u
     let mut out = Vec::new(alloc);
     for (number, text) in texts.iter().enumerate() {
         append_page_start(asks, number, &mut out)?;
-        out.extend_from_slice(&text.least)?;
+        append_page_text(asks, number, &text.least, &mut out)?;
     }
     append_end(asks, texts.len(), &mut out)?;
     Ok(out)
@@ -32,9 +32,8 @@ pub fn asked_len(alloc: Global, asks: &Asks<'_>, texts: &[Text]) -> Result<usize
     for (number, text) in texts.iter().enumerate() {
         around.clear();
         append_page_start(asks, number, &mut around)?;
-        len = len
-            .saturating_add(around.len())
-            .saturating_add(text.least.len());
+        append_page_text(asks, number, &text.least, &mut around)?;
+        len = len.saturating_add(around.len());
     }
     around.clear();
     append_end(asks, texts.len(), &mut around)?;
@@ -56,7 +55,7 @@ pub fn plain_job(
     let mut out = Vec::new(alloc);
     for (number, text) in texts.into_iter().enumerate() {
         append_page_start(asks, number, &mut out)?;
-        out.extend_from_slice(&text)?;
+        append_page_text(asks, number, &text, &mut out)?;
     }
     append_end(asks, pages, &mut out)?;
     Ok((out.len() < limit).then_some(out))

@@ -13,7 +13,7 @@ use crate::raster_jobs::asked_job;
 use crate::texts::texts_alone;
 use crate::{Candidate, Shrunk};
 use pcl_base::{Dpi, JobFault};
-use pcl_meaning::written_jobs_ask_for_nothing;
+use pcl_meaning::written_jobs_say_copies_and_sizes;
 use pcl_page::one_meaning;
 use pcl_same::{KeptJob, keep_job};
 use std::alloc::{AllocError, Global};
@@ -45,7 +45,7 @@ fn best_of(
     ensures { IsLimit dpi job.now limit → IsBestWithin dpi job.now result }
 {
     one_meaning();
-    written_jobs_ask_for_nothing();
+    written_jobs_say_copies_and_sizes();
     if proposal.is_none() && job.len() <= limit {
         return Ok(None);
     }
@@ -83,7 +83,7 @@ fn within(
     ensures { IsKept dpi job.now kept.now → IsLimit dpi job.now limit → IsWithin dpi job.now best result }
 {
     one_meaning();
-    written_jobs_ask_for_nothing();
+    written_jobs_say_copies_and_sizes();
     if best_len(job, &best) <= limit {
         return Ok(best);
     }

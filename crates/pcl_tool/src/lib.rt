@@ -20,7 +20,7 @@ pub use minimizing::{
     minimize_watched,
 };
 pub use pcl_base::INPUT_LIMIT;
-pub use pcl_meaning::{page_texts_mean_their_pages, written_jobs_ask_for_nothing};
+pub use pcl_meaning::{page_texts_mean_their_pages, written_jobs_say_copies_and_sizes};
 pub use pcl_streams::{
     Fault, PageChoice, Unwatched, Watcher, page_dots, perform_watched, preview, preview_pages,
     read_all, write_all, write_bytes, write_image,

@@ -1,7 +1,8 @@
 //! How two jobs compare, as the table has it.
 
 use pcl_same::{
-    AskedComparison, AsksDifference, Difference, ExitDifference, Job, PagesDifference, SameFault,
+    AskedComparison, AskedDifference, AsksDifference, Difference, ExitDifference, Job,
+    PagesDifference, SameFault,
 };
 use std::alloc::{AllocError, Global};
 
@@ -53,15 +54,28 @@ fn say_page(difference: Difference, words: &mut String) -> Result<(), AllocError
 fn say_asks(difference: AsksDifference, words: &mut String) -> Result<(), AllocError> {
     match difference {
         AsksDifference::Page { number, difference } => {
-            let setting = difference.setting;
-            let first = difference.first;
-            let second = difference.second;
-            write!(words, "page {number}: {setting:?} {first:?} {second:?}")?;
+            write!(words, "page {number}: ")?;
+            say_asked(difference, words)?;
         }
         AsksDifference::ExitCount { first, second } => write!(words, "exits {first} {second}")?,
         AsksDifference::Exit { number, difference } => {
             write!(words, "exit {number}: ")?;
             say_exit(difference, words)?;
+        }
+        AsksDifference::Lasting => words.push_str("what stays")?,
+    }
+    Ok(())
+}
+
+/// Says how what a page is asked with differs.
+fn say_asked(difference: AskedDifference, words: &mut String) -> Result<(), AllocError> {
+    match difference {
+        AskedDifference::Reset => words.push_str("reset")?,
+        AskedDifference::Setting(difference) => {
+            let setting = difference.setting;
+            let first = difference.first;
+            let second = difference.second;
+            write!(words, "{setting:?} {first:?} {second:?}")?;
         }
     }
     Ok(())

@@ -290,15 +290,29 @@ fn askings(rt: HostRuntime) {
         say(&mut env, Ask(Asking::MediaType), 3),
         say(&mut env, Ask(Asking::PaperSource), 4),
         say(&mut env, Ask(Asking::PaperSource), 5),
+        say(&mut env, Ask(Asking::PaperSource), 0),
+        say(&mut env, Ask(Asking::SheetSide), 1),
+        say(&mut env, Ask(Asking::PageLength), 66),
     );
-    let wanted = (STAY, STAY, STAY, EJECT_MARKED, EJECT_MARKED);
+    let wanted = (
+        STAY,
+        STAY,
+        STAY,
+        EJECT_MARKED,
+        EJECT_MARKED,
+        EJECT_MARKED,
+        EJECT_MARKED,
+        STAY,
+    );
     assert_gives(&rt, &"answers", &answers, &wanted);
     let asked = Asked {
+        copies: None,
+        page_size: None,
+        page_length: Some(79_200),
         sides: Some(1),
         output_bin: Some(2),
         media_type: Some(3),
         paper_source: Some(5),
-        sheet_side: None,
     };
     assert_gives(&rt, &"asked", &env.asked(), &asked);
     let _answer = say(&mut env, Reset, 0);

@@ -62,6 +62,7 @@ impl Env {
         match value.count() {
             Some(copies @ 1..=MOST_COPIES) => {
                 self.setup.copies = copies as u8;
+                self.setup.asked = self.setup.asked.with_copies(copies as u8);
                 Ok(Effect::Stay)
             }
             _ => Err(Unsupported),
@@ -74,9 +75,11 @@ impl Env {
     pub fn ask(&mut self, what: Asking, value: Value) -> Result<Effect, Unsupported>
         ensures { Answers (outcome Dpi300 (Ask what) value false self.old) result self.old self.new }
     {
-        self.setup.asked = self.setup.asked.with(what, value);
+        self.setup.asked = self.setup.asked.with(what, value, self.setup.vmi);
         Ok(match what {
-            Asking::Sides | Asking::OutputBin | Asking::MediaType => Effect::Stay,
+            Asking::Sides | Asking::OutputBin | Asking::MediaType | Asking::PageLength => {
+                Effect::Stay
+            }
             Asking::PaperSource | Asking::SheetSide => Effect::EjectMarked,
         })
     }
@@ -97,6 +100,7 @@ impl Env {
         self.setup.top = MARGIN;
         self.setup.bottom = size.units_high() - MARGIN;
         self.setup.left = 0;
+        self.setup.asked = self.setup.asked.with_size(size);
         self.new_page();
     }
 }

@@ -3,7 +3,7 @@
 use super::assert_gives;
 use pcl_base::{Dpi, JobFault, Kind, Name, Refusal, Value};
 use pcl_escape::{Command, read_job};
-use pcl_page::{Asked, Page, PageSink, one_meaning, perform_asked, run};
+use pcl_page::{Asked, AskedPage, Page, PageSink, PageStart, one_meaning, perform_asked, run};
 use std::alloc::{AllocError, Global};
 use std::process::Abort;
 use std::test::Fail;
@@ -84,13 +84,20 @@ fn assert_asks(rt: &impl Abort, alloc: Global) -> Result<(), Fail> {
     let mut count = Count { pages: 0 };
     let performed = perform_asked(alloc, ASKING, Dpi::Dpi300, &mut count);
     let asks = performed.ok().ok_or("the job is right")?;
-    let first = Asked {
+    let said = Asked {
         sides: Some(1),
         ..Asked::NOTHING
     };
-    let second = Asked {
-        paper_source: Some(2),
-        ..first
+    let first = AskedPage {
+        said,
+        start: PageStart::FIRST,
+    };
+    let second = AskedPage {
+        said: Asked {
+            paper_source: Some(2),
+            ..said
+        },
+        start: PageStart::NEXT,
     };
     assert_gives(
         rt,

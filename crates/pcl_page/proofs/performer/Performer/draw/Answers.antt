@@ -20,3 +20,6 @@ returns-in-SelectFont c = λ s i. rw c.in-SelectFont.is (refl, settings_in i (c.
 pub returns-in_ok-send_row-in-RasterRow : goal.returns-in_ok-send_row-in-RasterRow
 returns-in_ok-send_row-in-RasterRow c = λ s i. rw c.in-RasterRow.is
     (refl, row_in (view c.args.command.now) i c.in_ok-send_row-in-RasterRow.ensures)
+
+pub returns-in-Reset : goal.returns-in-Reset
+returns-in-Reset c = λ s i. rw c.in-Reset.is (refl, c.put_back.ensures c.args.dpi s i)
