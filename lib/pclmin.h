@@ -15,7 +15,7 @@ enum pclmin_fault {
     PCLMIN_NO_PAGE = 2,        /* the job is right and has fewer pages */
     PCLMIN_WRONG_ARGUMENT = 3, /* a number or a pointer that the call doesn't take */
     PCLMIN_TOO_LONG = 4,       /* an input has more than 2,147,483,647 bytes */
-    PCLMIN_NO_MEMORY = 5       /* memory ran out */
+    PCLMIN_NO_MEMORY = 5       /* memory ran out, or a certificate has more bytes than pclmin_check takes */
 };
 
 /* Why a job is refused (docs/LANGUAGE.md). */

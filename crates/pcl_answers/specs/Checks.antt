@@ -6,7 +6,7 @@ use Rattle.pcl_base.specs.declared.dpi.Dpi.{Dpi}
 use Rattle.pcl_base.specs.declared.refusal.Refusal.{Refusal}
 use Rattle.pcl_page.specs.Delivering.{IsRefusal}
 use Rattle.pcl_streams.specs.declared.fault.Fault.{Fault}
-use Rattle.pcl_streams.specs.declared.fault.Fault.TheVariants.{Refused, Memory, ReadFault, TooLong, WriteFault, NoSuchPage}
+use Rattle.pcl_streams.specs.declared.fault.Fault.TheVariants.{Refused, Memory, ReadFault, TooLong, CertificateTooLong, WriteFault, NoSuchPage}
 use Rattle.pcl_tool.specs.declared.job_verdict.JobVerdict.{JobVerdict}
 use Rattle.pcl_tool.specs.declared.job_verdict.JobVerdict.TheVariants as job
 use Rattle.pcl_tool.specs.declared.job_verdict.CheckAnswer.{CheckAnswer}
@@ -74,6 +74,7 @@ IsCheckRun acts files asked old new (Err (Refused refusal)) = IsRefused acts fil
 IsCheckRun acts files asked old new (Err ReadFault) = IsUnread acts files asked ReadFault × Keeps old new
 IsCheckRun acts files asked old new (Err TooLong) = IsUnread acts files asked TooLong × Keeps old new
 IsCheckRun acts files asked old new (Err Memory) = Keeps old new
+IsCheckRun acts files asked old new (Err CertificateTooLong) = ⊥
 IsCheckRun acts files asked old new (Err NoSuchPage) = ⊥
 
 -- 0 where the job is proved, else 1

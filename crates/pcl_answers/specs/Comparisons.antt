@@ -87,4 +87,5 @@ IsCompareRun acts asked files kept old new (Err (Failed fault.Memory)) =
     ((kept ≡ files) ⊎ ((comparison : AskedComparison) × IsComparedAndDrawn acts asked files kept comparison (Err fault.Memory)))
     × Keeps old new
 IsCompareRun acts asked files kept old new (Err (Failed (fault.Refused refusal))) = ⊥
+IsCompareRun acts asked files kept old new (Err (Failed fault.CertificateTooLong)) = ⊥
 IsCompareRun acts asked files kept old new (Err (Failed fault.NoSuchPage)) = ⊥

@@ -4,7 +4,7 @@ use Rattle.std.specs.Borrow.{Bor}
 use Rattle.pcl_base.specs.declared.dpi.Dpi.{Dpi}
 use Rattle.pcl_bitmap.specs.Bitmap.{Picture}
 use Rattle.pcl_streams.specs.declared.fault.Fault.{Fault}
-use Rattle.pcl_streams.specs.declared.fault.Fault.TheVariants.{Refused, Memory, ReadFault, TooLong, WriteFault, NoSuchPage}
+use Rattle.pcl_streams.specs.declared.fault.Fault.TheVariants.{Refused, Memory, ReadFault, TooLong, CertificateTooLong, WriteFault, NoSuchPage}
 use Rattle.pcl_streams.specs.Image.{IsImageWritten}
 use Rattle.pcl_streams.specs.Preview.{HasPage}
 use Rattle.pcl_same.specs.declared.comparison.Comparison.{Comparison}
@@ -39,6 +39,7 @@ IsDifferingPage dpi first second number (Ok image) = IsDifferenceOf dpi first se
 IsDifferingPage dpi first second number (Err Memory) = Unit {0}
 IsDifferingPage dpi first second number (Err ReadFault) = ⊥
 IsDifferingPage dpi first second number (Err TooLong) = ⊥
+IsDifferingPage dpi first second number (Err CertificateTooLong) = ⊥
 IsDifferingPage dpi first second number (Err WriteFault) = ⊥
 IsDifferingPage dpi first second number (Err NoSuchPage) = ⊥
 IsDifferingPage dpi first second number (Err (Refused refusal)) = ⊥

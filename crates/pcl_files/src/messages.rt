@@ -32,6 +32,7 @@ pub fn fault_line(alloc: Global, fault: &Fault, page: usize) -> Result<Vec<u8>, 
         }
         Fault::ReadFault => line.extend_from_slice(b"cannot read")?,
         Fault::TooLong => line.extend_from_slice(b"input too long")?,
+        Fault::CertificateTooLong => line.extend_from_slice(b"certificate too long")?,
         Fault::WriteFault => line.extend_from_slice(b"cannot write")?,
         Fault::Memory => line.extend_from_slice(b"out of memory")?,
     }
@@ -46,6 +47,7 @@ pub fn status_of(fault: &Fault) -> u8
     match fault {
         Fault::Refused(_) | Fault::NoSuchPage => 1,
         Fault::ReadFault | Fault::TooLong | Fault::WriteFault => FILE_STATUS,
+        Fault::CertificateTooLong => FILE_STATUS,
         Fault::Memory => MEMORY_STATUS,
     }
 }

@@ -1,5 +1,5 @@
 -- What an answer tells.
-use Rattle.std.specs.Prelude.{◌≡◌, ◌≢◌, ◌⊎◌, ◌↔◌, ℕ, false, List, [], ◌∷◌, ◌++◌, length, IsTrue}
+use Rattle.std.specs.Prelude.{◌≡◌, ◌≢◌, ◌⊎◌, ◌↔◌, ℕ, ◌≤◌, false, List, [], ◌∷◌, ◌++◌, length, IsTrue}
 use Rattle.std.specs.Prelude.{Option, Some, None, Result, Ok, Err}
 use Rattle.std.specs.declared.alloc.AllocError.{AllocError}
 use Rattle.std.specs.Global.{Vec}
@@ -18,7 +18,7 @@ use Rattle.pcl_tool.specs.declared.job_verdict.JobVerdict.{JobVerdict}
 use Rattle.pcl_tool.specs.declared.job_verdict.JobVerdict.TheVariants as verdicts
 use Rattle.pcl_streams.specs.declared.page_images.PageChoice.{PageChoice}
 use Rattle.pcl_streams.specs.PageImages.{AreImagesOf, LacksPage}
-use Rattle.pcl_tool.specs.Minimizing.{IsCertifiedJobOf}
+use Rattle.pcl_tool.specs.Minimizing.{IsCertifiedJobOf, input_limit}
 use Rattle.pcl_tool.specs.JobVerdicts.{IsJobVerdict}
 use Rattle.pcl_same.specs.declared.comparison.AskedComparison.{AskedComparison}
 use Rattle.pcl_same.specs.declared.comparison.AskedComparison.TheVariants as comparisons
@@ -123,10 +123,11 @@ pub record Shows (number : ℕ) (job : List ℕ) (Done : Dpi → Answer → Type
       → (dpi : Dpi) × IsSeen number job dpi × ((refusal : Refusal) × IsRefusal dpi job refusal × TellsRefusal refusal answer)
   pub missing : answer.outcome ≡ 2 → Missing answer
 
--- a least raster job of the job's pages, and its certificate where one of a format is asked for
+-- a least raster job of the job's pages, and where one of a format is asked for its certificate, which a check reads
 abbrev pub HasLeastJob : List ℕ → Option Format → Dpi → Answer → Type 0
 HasLeastJob job None dpi answer = IsJobOf dpi job answer.made.now
-HasLeastJob job (Some format) dpi answer = IsCertifiedJobOf dpi format job answer.made.now answer.certificate.now
+HasLeastJob job (Some format) dpi answer =
+    IsCertifiedJobOf dpi format job answer.made.now answer.certificate.now × (length answer.certificate.now ≤ input_limit)
 
 -- the same with the format of a number
 abbrev pub HasWrittenJob : List ℕ → ℕ → Dpi → Answer → Type 0

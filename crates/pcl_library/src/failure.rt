@@ -58,6 +58,7 @@ impl Failure {
             Failure::Wrong(_) => 3,
             Failure::Run(Fault::TooLong) => 4,
             Failure::Run(Fault::Memory | Fault::ReadFault | Fault::WriteFault) => 5,
+            Failure::Run(Fault::CertificateTooLong) => 5,
         }
     }
 

@@ -10,7 +10,7 @@ use crate::failure::Failure;
 use pcl_base::Dpi;
 use pcl_cert::Format;
 use pcl_shrink::shrink;
-use pcl_tool::{Unwatched, least_job, minimize};
+use pcl_tool::{Fault, INPUT_LIMIT, Unwatched, least_job, minimize};
 use std::alloc::Global;
 
 /// `pclmin_min`: a least raster job of the job's pages. It has a certificate of format 1 or 2, or by 0 none.
@@ -62,12 +62,17 @@ fn least_answer(alloc: Global, job: &[u8], dpi: Dpi) -> Answer
     }
 }
 
-/// A least raster job and its certificate.
+/// A least raster job and its certificate, where that has no more bytes than a check reads.
 fn certified_answer(alloc: Global, job: &[u8], format: Format, dpi: Dpi) -> Answer
     ensures { AnswersAt dpi job.now (HasLeastJob job.now (Some format) dpi) result }
 {
     match minimize(alloc, job, dpi, format) {
-        Ok(output) => Answer::of_output(output, dpi),
+        Ok(output) => {
+            if output.certificate.len() > INPUT_LIMIT {
+                return Answer::of_failure(alloc, &Failure::Run(Fault::CertificateTooLong), 0);
+            }
+            Answer::of_output(output, dpi)
+        }
         Err(fault) => Answer::of_failure(alloc, &Failure::Run(fault), 0),
     }
 }

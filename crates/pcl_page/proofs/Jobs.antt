@@ -1,6 +1,6 @@
 -- Performing a job, place by place, up to the whole.
 use Rattle.std.proofs.Common.{◌≡◌, ℕ, ◌+◌, List, [], ◌∷◌, ◌++◌, Some, None, Result, Ok, Err, refl, sym, ap, ◌∙◌, append_assoc, append-nil, rules}
-use Rattle.pcl_page.proofs.Names.{Dpi, JobFault, macro_limit, refusal, Said, Page, Performer, Interpreter, Running, Sheet, Situation, at_end, HasPages, performance_of, AllShow, IsPerformed, Hands, HandsOver, Shows, Performance, done, then_on, step, runs, after_all, end_refusal, ended, after_end, pages_of, IsSamePage, IsAt, resumed, begun_among, GoesOn, InterpreterEnds, IsAsking}
+use Rattle.pcl_page.proofs.Names.{Dpi, JobFault, macro_limit, Said, Page, Performer, Interpreter, Running, Sheet, Situation, at_end, HasPages, performance_of, AllShow, IsPerformed, Hands, HandsOver, Shows, Performance, done, then_on, step, runs, after_all, end_refusal, ended, after_end, pages_of, IsSamePage, IsAt, resumed, begun_among, GoesOn, InterpreterEnds, IsAsking}
 use Rattle.pcl_base.specs.declared.fault.JobFault.TheVariants.{Refused, Memory}
 use Rattle.pcl_page.proofs.Keeping.{end_adds}
 use Rattle.pcl_page.proofs.Sinks.{Onward, stays_there, hands_append, hands_further, goes_from, goes_to}

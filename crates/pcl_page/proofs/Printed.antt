@@ -1,33 +1,35 @@
 -- What is drawn, text and fonts: the performer follows the situation.
 use Rattle.std.proofs.Common.{◌≡◌, ℕ, suc, ◌+◌, ◌-◌, Bool, true, false, cond, List, ◌∷◌, Option, Some, None, ℤ, pos, negsuc, refl, sym, subst, ◌∙◌, rules, arith, ◌==◌}
-use Rattle.pcl_page.proofs.Names.{Dpi, Side, NoFont, Black, Said, Font, Character, FontInfo, info_of, Settings, put_x, advance, font_of, font_in_use, Performer, Printed, Mark, prints, character_mark, are_spaces, is_proportional, text_refusal, behind_character, behind_blank, Situation, with_row_in, raster_for_row, code_printed, codes_printed, character_at, IsIn, IsDrawn, IsInked, IsAtCursor, IsLastInked, IsSent, HasSettings}
-use Rattle.pcl_page.proofs.Turns.{drawn_in}
+use Rattle.pcl_page.proofs.Names.{Dpi, Side, NoFont, Black, Said, Font, Character, FontInfo, info_of, Settings, put_x, advance, font_of, font_in_use, Performer, Printed, Mark, prints, character_mark, are_spaces, is_proportional, text_refusal, behind_character, behind_blank, Situation, with_row_in, raster_for_row, code_printed, codes_printed, character_at, IsIn, IsFollowed, IsDrawn, IsInked, IsAtCursor, IsLastInked, IsSent, HasSettings}
+use Rattle.pcl_page.proofs.Turns.{still_sized, drawn_in}
 
 pub settings_in : {dpi : Dpi} {settings : Settings} {s : Situation} {old new : Performer} → IsIn dpi s old → HasSettings settings old new
     → IsIn dpi (record s { settings = settings }) new
-settings_in {settings} {s} i h =
-    let size : settings.size ≡ s.settings.size = cc (h.size, i.settings) in search (rules, h.fonts, h.bitmap, size)
+settings_in {settings = settings} {s} {new = new} i h =
+    let size : settings.size ≡ s.settings.size = cc (h.size, i.settings) in
+    search (rules, h.fonts, h.bitmap, size, still_sized (record s { settings = settings }) new i refl h.bitmap size)
 
 -- ---- rectangles and rows
 
 pub row_in : {dpi : Dpi} {s : Situation} {old new : Performer} (command : Said) → IsIn dpi s old → IsSent dpi command.bytes old new
     → IsIn dpi (with_row_in dpi command (raster_for_row dpi s.raster s.settings) s) new
 row_in {dpi} {s} command i m =
-    let raster : m.raster ≡ raster_for_row dpi s.raster s.settings = cc in rw (raster, i.settings) at (drawn_in i m.drawn m.sent)
+    let raster : m.raster ≡ raster_for_row dpi s.raster s.settings = cc in
+    rw (raster, i.settings) at (drawn_in i m.followed m.drawn m.sent)
 
 -- ---- one code
 
 -- a character is drawn at the cursor
-cursor_drawn : {dpi : Dpi} {here : Printed} {old new : Performer} (c : Character) → IsAtCursor dpi here old.environment
-    → IsDrawn (character_at dpi c here.x here.y) old new → IsDrawn (character_mark dpi c old.environment) old new
-cursor_drawn c at d = rw (at.x, at.y) at d
+cursor_drawn : {dpi : Dpi} {here : Printed} (old : Performer) {begun new : Performer} (c : Character) → IsAtCursor dpi here old.environment
+    → IsDrawn (character_at dpi c here.x here.y) begun new → IsDrawn (character_mark dpi c old.environment) begun new
+cursor_drawn old c at d = rw (at.x, at.y) at d
 
-pub character_printed : {dpi : Dpi} {here : Printed} {s : Situation} {old middle new : Performer} (proportional : Bool) (c : Character)
-    (code : ℕ) → IsIn dpi s old → IsAtCursor dpi here old.environment → IsDrawn (character_at dpi c here.x here.y) old middle
-    → middle.raster ≡ old.raster → HasSettings (behind_character proportional c middle.environment) middle new
+pub character_printed : {dpi : Dpi} {here : Printed} {s : Situation} {old begun middle new : Performer} (proportional : Bool)
+    (c : Character) (code : ℕ) → IsIn dpi s old → IsAtCursor dpi here old.environment → IsFollowed old.environment.size old begun
+    → IsDrawn (character_at dpi c here.x here.y) begun middle → middle.raster ≡ begun.raster → HasSettings (behind_character proportional c middle.environment) middle new
     → IsIn dpi (code_printed dpi proportional (Some c) code s) new
-character_printed {middle = middle} {new} proportional c code i at d r h =
-    let inked = rw i.settings at (drawn_in i (cursor_drawn c at d) (r ∙ i.raster)) in
+character_printed {old = old} {middle = middle} {new} proportional c code i at f d r h =
+    let inked = rw i.settings at (drawn_in i f (cursor_drawn old c at d) (r ∙ f.raster ∙ i.raster)) in
     settings_in inked (subst (λ (t : Settings). HasSettings (behind_character proportional c t) middle new) inked.settings h)
 
 pub blank_printed : {dpi : Dpi} {s : Situation} {old new : Performer} (proportional : Bool) (code : ℕ) → IsIn dpi s old

@@ -153,11 +153,7 @@ module _ {S : Type 0} (takes : S → Page → S → Type 0) (dpi : Dpi) (operati
         let free = past_why _ is t.0 refl in
         (tried_by (turned_with done) (tried_at is) free ∙ drawn_fits (turned_with done) t.0, t.1)
     refused_by new sink later None Memory is t = inl t
-    refused_by new sink later (Some done) Memory is t =
-        elim t [
-          | inl same ↦ inl same
-          | inr h ↦ gone_short (turned_with done) new sink later _ (gone_with done sink later is h.0 h.1) refl
-        ]
+    refused_by new sink later (Some done) Memory is t = inl t
 
     pub tried_drawn : (middle new : Performer) (sink later : S) (o : Outcome) → set_to ≡ o
         → IsTurned takes dpi o before (Ok tt) middle sink later → DrawsOn middle (Ok tt) new
@@ -197,7 +193,8 @@ end_marked takes dpi s copies asked old middle new sink later i m few c a e t ag
     let count = length-append s.pages (sheet_of end ∷ []) in
     let below = below_same dpi s.raster s.settings in
     let said : asked ≡ end.settings.asked = a ∙ ap (λ (t : Settings). t.asked) i.settings ∙ sym below.2 in
-    let shows : Shows dpi t.0 (sheet_of end) = rw (below.0, below.1) (handed_sheet i refl c t.1) in
+    let copied : copies ≡ s.settings.copies = cc (c, i.settings) in
+    let shows : Shows dpi t.0 (sheet_of end) = rw (below.0, below.1) (handed_sheet s i.painted (i.sized is) copied t.1) in
     rw is (
       pages_fit (put_back (turned_page defaults end)) (omega (arith, i.ejected, count)),
       (sheet_of end ∷ [], refl, (t.0, later, shows, t.2, refl)),

@@ -26,7 +26,8 @@ pub struct Performer<'a> {
     pub raster: Option<Raster>,
     /// The soft fonts that are there.
     pub fonts: Fonts<'a>,
-    /// The page that is being painted. Its copies are those of the page before until it is ejected.
+    /// The page that is being painted. Its copies are those of the page before until it is ejected, and so may its size be until
+    /// something marks it.
     pub page: Page,
     /// Whether something on the page marks it.
     pub is_marked: bool,
@@ -138,7 +139,7 @@ impl<'a> Performer<'a> {
     }
 
     /// Sets what a command sets, and ejects the page where it says so: the page has the size and the
-    /// copies from before. After a refusal the sink is as before.
+    /// copies from before. After a refusal or where memory runs out the sink is as before.
     fn turn<S: PageSink>(
         &mut self,
         operation: Operation,
@@ -150,6 +151,7 @@ impl<'a> Performer<'a> {
             → IsTurned S.takes dpi (outcome dpi operation value (is_marked s) s.settings) s result self.new sink.old sink.new }
         ensures rest { OnOk result ((self.new.performed ≡ self.old.performed) × (self.new.raster ≡ self.old.raster)) }
     {
+        let size = self.environment.size();
         let copies = self.environment.copies();
         let asked = self.environment.asked();
         let Ok(effect) = self
@@ -162,9 +164,10 @@ impl<'a> Performer<'a> {
             if self.ejected >= PAGE_LIMIT {
                 return Err(CallFault::Refused(Kind::TooManyPages));
             }
+            self.follow_size(size)?;
             self.eject(copies, asked, sink)?;
         }
-        Ok(self.follow_size()?)
+        Ok(())
     }
 
     /// Hands over the page with these copies, which was asked with this, and begins a white one, with the cursor on the first
@@ -190,11 +193,11 @@ impl<'a> Performer<'a> {
         Ok(())
     }
 
-    /// Makes the page one of the size that is set, where it isn't yet.
-    fn follow_size(&mut self) -> Result<(), AllocError>
-        ensures { OnOk result (IsFollowed self.old self.new) }
+    /// Makes the page one of this size, where it isn't yet. A page that nothing was painted on is as good as new, so it follows
+    /// the size that is set once something is painted, or it is ejected, and not with each command that sets one.
+    pub fn follow_size(&mut self, size: Size) -> Result<(), AllocError>
+        ensures { OnOk result (IsFollowed size self.old self.new) }
     {
-        let size = self.environment.size();
         if size != self.page.size {
             let dpi = self.page.dpi;
             self.page = Page {
@@ -273,6 +276,8 @@ impl<'a> Performer<'a> {
         let Some(ink) = ink_of(value) else {
             return Err(CallFault::Refused(Kind::UnsupportedValue));
         };
+        let size = self.environment.size();
+        self.follow_size(size)?;
         self.ink_rectangle(ink, dpi);
         Ok(())
     }
@@ -319,6 +324,8 @@ impl<'a> Performer<'a> {
         requires rows { rows_in self.old.raster + 2 ^ 20 ≤ 2 ^ 20 * self.old.performed }
         ensures { OnOk result (IsSent dpi bytes.now self.old self.new) }
     {
+        let size = self.environment.size();
+        self.follow_size(size)?;
         let mut raster = match self.raster.take() {
             Some(raster) => raster,
             None => Raster::start(self.alloc, 0, &self.environment, dpi)?,

@@ -5,6 +5,7 @@ ghost use Rattle.std.specs.Prelude.{◌≡◌, ◌<◌, ◌≤◌, ◌^◌, pos,
 use crate::performer::Performer;
 use pcl_base::{CallFault, Dpi, Kind};
 use pcl_fonts::{FontInfo, Glyph};
+use std::alloc::AllocError;
 
 /// The code of a space.
 const SPACE: u8 = b' ';
@@ -21,7 +22,7 @@ pub struct Printed {
 }
 
 impl<'a> Performer<'a> {
-    ghost use Rattle.std.specs.Prelude.{ℕ, Some, IsTrue};
+    ghost use Rattle.std.specs.Prelude.{ℕ, Some, IsTrue, OnOk};
     ghost use Rattle.std.specs.Option.{option_map};
     ghost use Rattle.pcl_env.specs.Settings.{font_in_use};
     ghost use Rattle.pcl_fonts.specs.Table.{character_in, info_of};
@@ -35,11 +36,10 @@ impl<'a> Performer<'a> {
             → Draws dpi (text_refusal codes.now (font_now s)) (text_printed dpi codes.now s) result self.new }
     {
         match self.font_in_use() {
-            Some(font) => self.print_codes(codes, font.proportional, dpi),
-            None if are_spaces(codes) => self.print_codes(codes, false, dpi),
-            None => return Err(CallFault::Refused(Kind::NoFont)),
+            Some(font) => Ok(self.print_codes(codes, font.proportional, dpi)?),
+            None if are_spaces(codes) => Ok(self.print_codes(codes, false, dpi)?),
+            None => Err(CallFault::Refused(Kind::NoFont)),
         }
-        Ok(())
     }
 
     /// The font that is selected and in use, if it is there.
@@ -53,21 +53,22 @@ impl<'a> Performer<'a> {
     }
 
     /// Prints one code after the other. A character that is printed once more at its dot is inked there already.
-    fn print_codes(&mut self, codes: &[u8], proportional: bool, dpi: Dpi)
-        ensures { (s : Situation) → IsIn dpi s self.old
-            → IsIn dpi (codes_printed dpi proportional (prints s.fonts (font_in_use s.settings)) codes.now s) self.new }
+    fn print_codes(&mut self, codes: &[u8], proportional: bool, dpi: Dpi) -> Result<(), AllocError>
+        ensures { (s : Situation) → IsIn dpi s self.old → OnOk result
+            (IsIn dpi (codes_printed dpi proportional (prints s.fonts (font_in_use s.settings)) codes.now s) self.new) }
     {
         let mut last = None;
         for code in codes {
             match self.glyph(*code) {
                 Some(glyph) => {
                     let here = self.at_cursor(*code, dpi);
-                    self.print_glyph(&glyph, here, last == Some(here), proportional, dpi);
+                    self.print_glyph(&glyph, here, last == Some(here), proportional, dpi)?;
                     last = Some(here);
                 }
                 None => self.pass_blank(*code),
             }
         }
+        Ok(())
     }
 
     /// A code at the cursor's dot.
@@ -101,18 +102,21 @@ impl<'a> Performer<'a> {
         is_inked: bool,
         proportional: bool,
         dpi: Dpi,
-    )
+    ) -> Result<(), AllocError>
         requires { IsAtCursor dpi here self.old.environment }
         ensures printed { (s : Situation) (code : ℕ) → IsIn dpi s self.old
             → (IsTrue is_inked → IsInked (character_at dpi (character_in glyph.now) here.x here.y) self.old)
-            → IsIn dpi (code_printed dpi proportional (Some (character_in glyph.now)) code s) self.new }
+            → OnOk result (IsIn dpi (code_printed dpi proportional (Some (character_in glyph.now)) code s) self.new) }
         ensures inked { (IsTrue is_inked → IsInked (character_at dpi (character_in glyph.now) here.x here.y) self.old)
-            → IsInked (character_at dpi (character_in glyph.now) here.x here.y) self.new }
+            → OnOk result (IsInked (character_at dpi (character_in glyph.now) here.x here.y) self.new) }
     {
         if !is_inked {
+            let size = self.environment.size();
+            self.follow_size(size)?;
             self.ink_glyph(glyph, here, dpi);
         }
         self.pass_glyph(glyph, proportional);
+        Ok(())
     }
 
     /// Inks a character at the dot where it is printed.

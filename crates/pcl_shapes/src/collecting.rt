@@ -49,9 +49,9 @@ pub struct Collection {
     /// The patterns of the shapes, each once.
     pub patterns: Patterns,
     pub items: Vec<Item>,
-    /// The rows of the pages in turn, each page's with a white one below them.
+    /// The rows of the pages in turn, each page's with a white one below them. Pages in a row whose rows are the same have them once.
     pub rows: Vec<Row>,
-    /// For each page, how many rows come before it.
+    /// For each page, how many rows come before its own.
     pub starts: Vec<usize>,
     /// How many shapes may be kept before a page is looked at.
     item_limit: usize,
@@ -104,6 +104,18 @@ impl Collection {
             self.rows.truncate(first);
         }
         Ok(())
+    }
+
+    /// Where the rows of a page begin that were appended from this place on: where those of the page before do, if they are the same.
+    fn place_rows(&mut self, first: usize) -> usize {
+        let before = self.starts.last().copied().unwrap_or(first);
+        let (above, rows) = self.rows.split_at(first.min(self.rows.len()));
+        let above = above.get(before..).unwrap_or(&[]);
+        if !are_same(above, rows) {
+            return first;
+        }
+        self.rows.truncate(first);
+        before
     }
 
     /// Collects the shapes of a page that were found, unless none of them can be a letter. The first row of the page is in this place.
@@ -234,6 +246,19 @@ fn draw_row(
     }
 }
 
+/// Whether rows are the same, one by one.
+fn are_same(rows: &[Row], others: &[Row]) -> bool {
+    if rows.len() != others.len() {
+        return false;
+    }
+    for (row, other) in rows.iter().zip(others) {
+        if row.bytes != other.bytes || row.others != other.others {
+            return false;
+        }
+    }
+    true
+}
+
 /// Counts other runs of the row in a place.
 fn count_others(rows: &mut [Row], place: usize, others: u16) {
     if let Some(row) = rows.get_mut(place) {
@@ -253,10 +278,12 @@ impl PageSink for Collection {
     ghost takes = { λ old page new. Unit {0} };
 
     fn page(&mut self, page: &Page) -> Result<(), AllocError> {
-        self.starts.push(self.rows.len())?;
+        let first = self.rows.len();
         if self.items.len() < self.item_limit {
             self.collect(page)?;
         }
+        let start = self.place_rows(first);
+        self.starts.push(start)?;
         self.widths.push(page.size.width(page.dpi))?;
         self.heights.push(page.size.height(page.dpi))?;
         Ok(())

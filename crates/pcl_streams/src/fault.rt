@@ -23,6 +23,9 @@ pub enum Fault {
     /// The input is longer than the limit.
     #[error("the input is too long")]
     TooLong,
+    /// The certificate is longer than the limit of inputs, so that no check would read it.
+    #[error("the certificate is too long")]
+    CertificateTooLong,
     /// A write failed, or took nothing.
     #[error("a write failed")]
     WriteFault,

@@ -1,6 +1,6 @@
 -- What writers hold after a filter.
 use Rattle.std.proofs.Common.{ℕ, ◌≤◌, List, length, Option, Result, Ok, Err, inl, inr, arith}
-use Rattle.pcl_tool.proofs.Names.{Appends, Keeps-refl, Dpi, IsJobOf, Format, Fault, Refused, Memory, ReadFault, TooLong, WriteFault, IsReadAll, IsWritten, IsCertifiedJobOf, IsRead, IsFiltered, IsFilteredCert, input_limit, IsJobWritten}
+use Rattle.pcl_tool.proofs.Names.{Appends, Keeps-refl, Dpi, IsJobOf, Format, Fault, Refused, Memory, ReadFault, TooLong, CertificateTooLong, WriteFault, IsReadAll, IsWritten, IsCertifiedJobOf, IsRead, IsFiltered, IsFilteredCert, IsOutputWritten, input_limit, IsJobWritten}
 
 -- the job wasn't read whole, and nothing was written
 pub not_read : (dpi : Dpi) (given left out : Option (List ℕ)) (fault : Fault)
@@ -26,18 +26,27 @@ filtered old new {job} {output} (Err WriteFault) r j w = (job, output, r, j, w)
 filtered old new result r j w = absurd w
 
 -- the job wasn't written whole
-pub stopped_in_job : {dpi : Dpi} {format : Format} {given left : Option (List ℕ)} (old new cert : Option (List ℕ))
-    {job output certificate : List ℕ} (fault : Fault)
-    → IsRead given left job → IsCertifiedJobOf dpi format job output certificate → IsWritten old new output (Err fault)
-    → IsFilteredCert dpi format given left old new cert cert (Err fault)
-stopped_in_job old new cert WriteFault r j w = (_, _, _, r, j, inl (w, Keeps-refl cert))
-stopped_in_job old new cert fault r j w = absurd w
+pub stopped_in_job : {limit : ℕ} (output certificate : List ℕ) (old new cert : Option (List ℕ)) (fault : Fault)
+    → length certificate ≤ limit → IsWritten old new output (Err fault)
+    → IsOutputWritten limit output certificate old new cert cert (Err fault)
+stopped_in_job output certificate old new cert WriteFault short w = (short, inl (w, Keeps-refl cert))
+stopped_in_job output certificate old new cert fault short w = absurd w
 
 -- it was, and then the certificate or a prefix of it
+pub output_written : {limit : ℕ} (output certificate : List ℕ) (old new cert_old cert_new : Option (List ℕ))
+    (result : Result (Unit {0}) Fault) → length certificate ≤ limit → Appends old new output
+    → IsWritten cert_old cert_new certificate result → IsOutputWritten limit output certificate old new cert_old cert_new result
+output_written output certificate old new cert_old cert_new (Ok done) short a w = (short, a, w)
+output_written output certificate old new cert_old cert_new (Err WriteFault) short a w = (short, inr (a, w))
+output_written output certificate old new cert_old cert_new result short a w = absurd w
+
+-- the job was written with its certificate, or what happened then
 pub filtered_cert : {dpi : Dpi} {format : Format} {given left : Option (List ℕ)} (old new cert_old cert_new : Option (List ℕ))
     {job output certificate : List ℕ} (result : Result (Unit {0}) Fault) → IsRead given left job
-    → IsCertifiedJobOf dpi format job output certificate → Appends old new output → IsWritten cert_old cert_new certificate result
+    → IsCertifiedJobOf dpi format job output certificate
+    → IsOutputWritten input_limit output certificate old new cert_old cert_new result
     → IsFilteredCert dpi format given left old new cert_old cert_new result
-filtered_cert old new cert_old cert_new (Ok done) r j a w = (_, _, _, r, j, a, w)
-filtered_cert old new cert_old cert_new (Err WriteFault) r j a w = (_, _, _, r, j, inr (a, w))
-filtered_cert old new cert_old cert_new result r j a w = absurd w
+filtered_cert old new cert_old cert_new (Ok done) r j w = (_, _, _, r, j, w)
+filtered_cert old new cert_old cert_new (Err WriteFault) r j w = (_, _, _, r, j, w)
+filtered_cert old new cert_old cert_new (Err CertificateTooLong) r j w = (_, _, _, r, j, w)
+filtered_cert old new cert_old cert_new result r j w = absurd w

@@ -17,7 +17,7 @@ pub use laws::{
 };
 pub use minimizing::{
     Output, filter, filter_cert, filter_cert_watched, filter_watched, least_job, minimize,
-    minimize_watched,
+    minimize_watched, write_output,
 };
 pub use pcl_base::INPUT_LIMIT;
 pub use pcl_meaning::{page_texts_mean_their_pages, written_jobs_say_copies_and_sizes};

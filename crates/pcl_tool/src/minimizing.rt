@@ -1,7 +1,7 @@
 //! A job written again.
 
 ghost use Rattle.std.specs.Prelude.{IfOk};
-ghost use Rattle.pcl_tool.specs.Minimizing.{IsMinimized, IsFiltered, IsFilteredCert};
+ghost use Rattle.pcl_tool.specs.Minimizing.{IsMinimized, IsFiltered, IsFilteredCert, IsOutputWritten};
 ghost use Rattle.pcl_tool.specs.Writing.{IsJobWritten};
 ghost use Rattle.pcl_tool.specs.inner.WrittenJobs.{IsBegun, IsOutput};
 
@@ -124,9 +124,9 @@ pub fn filter_watched<R: Read, W: Write, P: Watcher>(
     write_all(out, &output)
 }
 
-/// Does what `filter` does, with a certificate of this format. It is written and flushed once the whole job is
-/// (docs/CERTIFICATE.md). Nothing is written after any fault but of a write; then a prefix of the job and nothing of the
-/// certificate, or the whole job and a prefix of the certificate.
+/// Does what `filter` does, with a certificate of this format (docs/CERTIFICATE.md). It is written and flushed once the whole job
+/// is. CertificateTooLong comes where it has more bytes than a check reads. Nothing is written after any fault but of a write; then
+/// a prefix of the job and nothing of the certificate, or the whole job and a prefix of the certificate.
 pub fn filter_cert<R: Read, W: Write, C: Write>(
     alloc: Global,
     reader: &mut R,
@@ -156,6 +156,23 @@ pub fn filter_cert_watched<R: Read, W: Write, C: Write, P: Watcher>(
 {
     let job = read_all(alloc, reader, INPUT_LIMIT)?;
     let output = minimize_watched(alloc, &job, dpi, format, watcher)?;
+    write_output(&output, INPUT_LIMIT, out, cert)
+}
+
+/// Writes a job and flushes, and then its certificate: nothing of either where the certificate has more bytes than a limit. After a
+/// fault of a write there is a prefix of the job and nothing of the certificate, or the whole job and a prefix of the certificate.
+pub fn write_output<W: Write, C: Write>(
+    output: &Output,
+    limit: usize,
+    out: &mut W,
+    cert: &mut C,
+) -> Result<(), Fault>
+    ensures { IsOutputWritten limit output.now.job.items output.now.certificate.items (W.contents out.old) (W.contents out.new)
+        (C.contents cert.old) (C.contents cert.new) result }
+{
+    if output.certificate.len() > limit {
+        return Err(Fault::CertificateTooLong);
+    }
     write_all(out, &output.job)?;
     write_all(cert, &output.certificate)
 }

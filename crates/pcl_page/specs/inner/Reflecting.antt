@@ -33,13 +33,12 @@ use Rattle.pcl_page.specs.Raster.{Raster, row_sent, with_row, row_mark, ends_ras
 use Rattle.pcl_page.specs.Situation.{Sheet, Situation, raster_for_row, settings_below, is_marked, turned, at_end, page_refusal, tried}
 use Rattle.pcl_page.specs.Delivering.{Hands}
 
--- a bitmap of this size shows marks
-pub record IsPainted (dpi : Dpi) (size : Size) (marks : List Mark) (bitmap : Picture) : Type 0 where
-  pub size_is : bitmap.size ≡ size
+-- a bitmap shows marks
+pub record IsPainted (dpi : Dpi) (marks : List Mark) (bitmap : Picture) : Type 0 where
   pub dpi_is : bitmap.dpi ≡ dpi
-  pub dots : (x y : ℕ) → x < page_width size dpi → y < page_height size dpi → dot bitmap x y ≡ is_black marks x y
+  pub dots : (x y : ℕ) → x < page_width bitmap.size dpi → y < page_height bitmap.size dpi → dot bitmap x y ≡ is_black marks x y
 
--- the performer is in the situation
+-- the performer is in the situation: a page that is marked has the size that is set, and one that isn't may have any
 pub record IsIn (dpi : Dpi) (s : Situation) (performer : Performer) : Type 0 where
   pub settings : performer.environment ≡ s.settings
   pub raster : performer.raster ≡ s.raster
@@ -48,14 +47,15 @@ pub record IsIn (dpi : Dpi) (s : Situation) (performer : Performer) : Type 0 whe
   pub performed : performer.performed ≡ s.performed
   pub asks : asks_of performer.asks ≡ s.asks
   pub fonts : Holds performer.fonts s.fonts
-  pub painted : IsPainted dpi s.settings.size s.marks performer.page.bitmap
+  pub painted : IsPainted dpi s.marks performer.page.bitmap
+  pub sized : is_marked s ≡ true → performer.page.bitmap.size ≡ s.settings.size
 
 -- no dot is black
 abbrev pub IsWhite : Picture → Type 0
 IsWhite bitmap = (x y : ℕ) → x < page_width bitmap.size bitmap.dpi → y < page_height bitmap.size bitmap.dpi → dot bitmap x y ≡ false
 
--- the page has the size that is set: it is the same where it had that already, and white where it was white
-pub record IsFollowed (old new : Performer) : Type 0 where
+-- the page has this size: it is the same where it had that already, and white where it was white
+pub record IsFollowed (size : Size) (old new : Performer) : Type 0 where
   pub settings : new.environment ≡ old.environment
   pub raster : new.raster ≡ old.raster
   pub marked : new.is_marked ≡ old.is_marked
@@ -63,9 +63,9 @@ pub record IsFollowed (old new : Performer) : Type 0 where
   pub fonts : new.fonts ≡ old.fonts
   pub performed : new.performed ≡ old.performed
   pub asks : new.asks ≡ old.asks
-  pub size : new.page.bitmap.size ≡ old.environment.size
+  pub size_is : new.page.bitmap.size ≡ size
   pub resolution : new.page.bitmap.dpi ≡ old.page.bitmap.dpi
-  pub same : old.page.bitmap.size ≡ old.environment.size → new.page.bitmap ≡ old.page.bitmap
+  pub same : old.page.bitmap.size ≡ size → new.page.bitmap ≡ old.page.bitmap
   pub white : IsWhite old.page.bitmap → IsWhite new.page.bitmap
 
 -- the page that was asked with this was handed over, and a white one of its size begins
@@ -183,20 +183,20 @@ Draws dpi why s (Ok unit) new = (why ≡ None) × IsIn dpi s new
 Draws dpi why s (Err (Refused kind)) new = why ≡ Some kind
 Draws dpi why s (Err Memory) new = Unit {0}
 
--- a row was sent to the raster that has begun, or to one that starts at the page's left edge
+-- a row was sent to the raster that has begun, or to one that starts at the page's left edge, on a page of the size that is set
 pub record IsSent (dpi : Dpi) (bytes : List ℕ) (old new : Performer) : Type 0 where
+  pub begun : Performer
+  pub followed : IsFollowed old.environment.size old begun
   pub raster : Raster
   pub raster_is : raster ≡ raster_for_row dpi old.raster old.environment
   pub sent : new.raster ≡ Some (with_row (row_sent old.environment.method bytes raster) raster)
-  pub drawn : IsDrawn (row_mark (row_sent old.environment.method bytes raster) raster) old new
+  pub drawn : IsDrawn (row_mark (row_sent old.environment.method bytes raster) raster) begun new
 
 -- the sink took the pages by which a situation has more than another
 abbrev pub HandsMore : {S : Type 0} → (S → Page → S → Type 0) → Dpi → Situation → Situation → S → S → Type 0
 HandsMore {S} takes dpi before now old new = (more : List Sheet) × (now.pages ≡ before.pages ++ more) × Hands takes dpi more old new
 
--- the settings of an outcome were set and the page was turned; or why not, and then the sink is as before; or memory ran
--- out, before the page
--- was handed over that is ejected or after that
+-- the settings of an outcome were set and the page was turned; or why not, or memory ran out, and then the sink is as before
 abbrev pub IsTurned : {S : Type 0} → (S → Page → S → Type 0) → Dpi → Outcome → Situation → Result (Unit {0}) CallFault → Performer → S → S
     → Type 0
 IsTurned {S} takes dpi (Some done) s (Ok unit) new old_sink new_sink =
@@ -206,10 +206,7 @@ IsTurned {S} takes dpi (Some done) s (Err (Refused kind)) new old_sink new_sink 
     (page_refusal (turned done.0 done.1 s) ≡ Some kind) × (new_sink ≡ old_sink)
 IsTurned {S} takes dpi None s (Ok unit) new old_sink new_sink = ⊥
 IsTurned {S} takes dpi None s (Err (Refused kind)) new old_sink new_sink = (kind ≡ UnsupportedValue) × (new_sink ≡ old_sink)
-IsTurned {S} takes dpi None s (Err Memory) new old_sink new_sink = new_sink ≡ old_sink
-IsTurned {S} takes dpi (Some done) s (Err Memory) new old_sink new_sink =
-    (new_sink ≡ old_sink)
-    ⊎ ((page_refusal (turned done.0 done.1 s) ≡ None) × HandsMore takes dpi s (turned done.0 done.1 s) old_sink new_sink)
+IsTurned {S} takes dpi outcome s (Err Memory) new old_sink new_sink = new_sink ≡ old_sink
 
 -- a command was performed, or it is refused, or memory ran out, before the page was handed over that it ejects or after that
 abbrev pub IsTried : {S : Type 0} → (S → Page → S → Type 0) → Dpi → Said → Situation → Result Operation CallFault → Performer → S → S

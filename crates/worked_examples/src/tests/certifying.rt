@@ -5,7 +5,7 @@ use super::devices::{Held, Source, failing, taking};
 use super::filtering::{JOB, WRITES, WRITTEN, taken};
 use pcl_base::Dpi;
 use pcl_cert::Format;
-use pcl_tool::{Fault, filter_cert, minimize};
+use pcl_tool::{Fault, Output, filter_cert, minimize, write_output};
 use std::alloc::{AllocError, Global};
 use std::fmt::Debug;
 use std::io::{ErrorKind, Read};
@@ -224,6 +224,34 @@ fn each_write_of_the_certificate_fails(rt: HostRuntime) -> Result<(), AllocError
             assert_certificate_fails(&rt, rt.alloc(), *most, good, front, 0);
         }
         assert_certificate_fails(&rt, rt.alloc(), *most, *writes, &whole, 1);
+    }
+    Ok(())
+}
+
+/// Limits for a certificate of four bytes, what is answered, and what the writers of the job and of the certificate then hold, each with
+/// how often it was flushed.
+const LIMITS: [(usize, Result<(), Fault>, (&[u8], usize), (&[u8], usize)); 2] = [
+    (4, Ok(()), (b"a job", 1), (b"four", 1)),
+    (3, Err(Fault::CertificateTooLong), (b"", 0), (b"", 0)),
+];
+
+// A certificate of as many bytes as the limit is written; of a longer one nothing is, nor of its job.
+#[test]
+fn longer_than_a_limit(rt: HostRuntime) -> Result<(), AllocError> {
+    let alloc = rt.alloc();
+    let output = Output {
+        job: Vec::from_slice(alloc, b"a job")?,
+        certificate: Vec::from_slice(alloc, b"four")?,
+    };
+    for (limit, result, job, certificate) in &LIMITS {
+        let (mut out, mut cert) = (taking(alloc, usize::MAX), taking(alloc, usize::MAX));
+        let given = write_output(&output, *limit, &mut out, &mut cert);
+        let held = (
+            given,
+            (out.bytes.as_slice(), out.flushes),
+            (cert.bytes.as_slice(), cert.flushes),
+        );
+        assert_gives(&rt, limit, &held, &(*result, *job, *certificate));
     }
     Ok(())
 }

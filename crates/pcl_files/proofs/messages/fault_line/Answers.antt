@@ -1,7 +1,7 @@
 use Rattle.std.proofs.Common.{◌≡◌, ◌∙◌, ◌++◌, List, ℕ, ap, append_assoc}
 use Rattle.pcl_files.proofs.Names.{codes, decimal, Vec, refusal_text, Fault, text_of, line_of}
 use Rattle.pcl_files.proofs.messages.fault_line.Goals as goal
-use Rattle.pcl_files.proofs.messages.fault_line.Goals.{in-Refused+in_ok-extend_from_slice-in-Refused+in_ok-write_text-in-Refused, in-NoSuchPage+in_ok-extend_from_slice-in-NoSuchPage+in_ok-extend_from_slice-in-NoSuchPage-2, in-ReadFault+in_ok-extend_from_slice-in-ReadFault, in-TooLong+in_ok-extend_from_slice-in-TooLong, in-WriteFault+in_ok-extend_from_slice-in-WriteFault, in-Memory+in_ok-extend_from_slice-in-Memory}
+use Rattle.pcl_files.proofs.messages.fault_line.Goals.{in-Refused+in_ok-extend_from_slice-in-Refused+in_ok-write_text-in-Refused, in-NoSuchPage+in_ok-extend_from_slice-in-NoSuchPage+in_ok-extend_from_slice-in-NoSuchPage-2, in-ReadFault+in_ok-extend_from_slice-in-ReadFault, in-TooLong+in_ok-extend_from_slice-in-TooLong, in-CertificateTooLong+in_ok-extend_from_slice-in-CertificateTooLong, in-WriteFault+in_ok-extend_from_slice-in-WriteFault, in-Memory+in_ok-extend_from_slice-in-Memory}
 
 -- the text of a fault between the program's name and a line feed
 said : {begun line : List ℕ} {vec told : Vec ℕ} {fault same : Fault} (page : ℕ) → begun ≡ codes "pclmin: " → same ≡ fault → vec ≡ told
@@ -32,6 +32,8 @@ returns c =
           said page begun w.in-ReadFault.is w.line-is w.in_ok-extend_from_slice-in-ReadFault.ensures.items ended
       | in-TooLong+in_ok-extend_from_slice-in-TooLong w ↦
           said page begun w.in-TooLong.is w.line-is w.in_ok-extend_from_slice-in-TooLong.ensures.items ended
+      | in-CertificateTooLong+in_ok-extend_from_slice-in-CertificateTooLong w ↦
+          said page begun w.in-CertificateTooLong.is w.line-is w.in_ok-extend_from_slice-in-CertificateTooLong.ensures.items ended
       | in-WriteFault+in_ok-extend_from_slice-in-WriteFault w ↦
           said page begun w.in-WriteFault.is w.line-is w.in_ok-extend_from_slice-in-WriteFault.ensures.items ended
       | in-Memory+in_ok-extend_from_slice-in-Memory w ↦

@@ -15,17 +15,17 @@ other_size false size other e differ same = absurd (let s = true_same the_type s
 pub returns-else-ne : goal.returns-else-ne
 returns-else-ne c =
     let page = c.args.self.now.page in
-    let same = same_size _ c.size-size.result page.size refl (sym c.ne.ensures ∙ c.if-ne.false) in
-    let size : page.bitmap.size ≡ c.args.self.now.environment.size = page.size_is ∙ sym same ∙ c.size-size.ensures.value in
+    let same = same_size _ c.args.size page.size refl (sym c.ne.ensures ∙ c.if-ne.false) in
+    let size : page.bitmap.size ≡ c.args.size = page.size_is ∙ sym same in
     search (rules, size)
 
 pub returns-in_ok-new : goal.returns-in_ok-new
 returns-in_ok-new c =
     let old = c.args.self.now in
     let blank = c.in_ok-new.ensures.blank in
-    let differ = other_size _ c.size-size.result old.page.size refl (sym c.ne.ensures ∙ c.if-ne.true) in
-    let size = ap (λ (p : Picture). p.size) blank ∙ c.size-size.ensures.value in
+    let differ = other_size _ c.args.size old.page.size refl (sym c.ne.ensures ∙ c.if-ne.true) in
+    let size = ap (λ (p : Picture). p.size) blank in
     let resolution = ap (λ (p : Picture). p.dpi) blank ∙ sym old.page.dpi_is in
-    let same : old.page.bitmap.size ≡ old.environment.size → c.in_ok-new.field-0 ≡ old.page.bitmap =
-    λ e. absurd (differ (c.size-size.ensures.value ∙ sym e ∙ old.page.size_is)) in
+    let same : old.page.bitmap.size ≡ c.args.size → c.in_ok-new.field-0 ≡ old.page.bitmap =
+    λ e. absurd (differ (sym e ∙ old.page.size_is)) in
     search (rules, size, resolution, same, c.in_ok-new.ensures.dots)

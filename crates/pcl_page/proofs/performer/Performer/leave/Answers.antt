@@ -17,5 +17,6 @@ returns c = λ dpi s i.
           ∙ ap (λ (n : ℕ). with_exit (record { pages = n; lines = lines }) (asks_of c.args.self.now.asks)) i.ejected
           ∙ ap (with_exit (record { pages = length s.pages; lines = lines })) i.asks;
       fonts = i.fonts;
+      sized = i.sized;
       painted = i.painted;
     })

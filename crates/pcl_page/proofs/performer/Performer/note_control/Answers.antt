@@ -27,5 +27,6 @@ returns c = λ dpi s i.
       performed = i.performed;
       asks = i.asks;
       fonts = i.fonts;
+      sized = i.sized;
       painted = i.painted;
     }))

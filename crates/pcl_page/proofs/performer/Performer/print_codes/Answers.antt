@@ -2,7 +2,7 @@ use Rattle.std.proofs.Common.{◌≡◌, ◌<◌, ◌∷◌, ◌+◌, ◌∙◌,
 use Rattle.pcl_page.proofs.Names.{option_map, IsTrue, character_in, font_in_use, prints, character_at, IsInked}
 use Rattle.pcl_page.proofs.Printed.{same_character, code_done, blank_printed, inked_last, last_now, last_still}
 use Rattle.pcl_page.proofs.performer.Performer.print_codes.Goals as goal
-use Rattle.pcl_page.proofs.performer.Performer.print_codes.Goals.{in-Some, in-None}
+use Rattle.pcl_page.proofs.performer.Performer.print_codes.Goals.{in-Some+in_ok-print_glyph-in-Some, in-None}
 
 -- the next code and those after it
 next_is : (codes : List ℕ) {i : ℕ} (default : ℕ) → i < length codes → drop i codes ≡ get_or codes i default ∷ drop (i + 1) codes
@@ -17,7 +17,7 @@ loop-code-preserved c = λ s i.
     let p = rw next at so_far.0 in
     let found = c.glyph.ensures c.args.dpi p.now p.is_in in
     elim c.match-glyph.branch [
-      | in-Some w ↦
+      | in-Some+in_ok-print_glyph-in-Some w ↦
           let here = w.at_cursor-here.result in
           let printed = character_in w.in-Some.glyph in
           let is = sym (ap (option_map character_in) w.in-Some.is) ∙ found in
@@ -26,8 +26,8 @@ loop-code-preserved c = λ s i.
           let inked : IsTrue w.eq.result → IsInked (character_at c.args.dpi printed here.x here.y) c.loop-code.self =
           λ same. inked_last c.loop-code.last here p so_far.1 (search rules) its in
           rw (w.self-is, w.last-is) (
-            code_done code (Some printed) p is (w.print_glyph.ensures.printed p.now code p.is_in inked),
-            last_now c.args.dpi characters here its (w.print_glyph.ensures.inked inked),
+            code_done code (Some printed) p is (w.in_ok-print_glyph-in-Some.ensures.printed p.now code p.is_in inked),
+            last_now c.args.dpi characters here its (w.in_ok-print_glyph-in-Some.ensures.inked inked),
           )
       | in-None w ↦
           rw (w.self-is, w.last-is) (

@@ -6,7 +6,8 @@ use Rattle.pcl_page.proofs.performer.Performer.send_row.Goals.{in-Some, in-None+
 
 pub returns : goal.returns
 returns c =
-    let old = c.args.self.now in
+    let old = c.follow_size.new.self in
+    let followed = rw c.size-size.ensures.value at c.in_ok-follow_size.ensures in
     let raster = c.match-take.raster in
     let is : raster ≡ raster_for_row c.args.dpi old.raster old.environment =
     elim c.match-take.branch [
@@ -17,5 +18,12 @@ returns c =
           ∙ sym (ap (λ (r : Option Raster). raster_for_row c.args.dpi r old.environment) (sym c.take.ensures.value ∙ w.in-None.is))
     ] in
     let method = c.method.ensures in
-    let dots = λ (x y : ℕ). rw (method, or_is) at (c.send.ensures.dots x y) in
-    record { raster = raster; raster_is = is; sent = rw (c.send.ensures.raster, method) refl; drawn = search (rules, c.send.ensures, dots) }
+    let dots = λ (x y : ℕ). rw (method, followed.settings, or_is) at (c.send.ensures.dots x y) in
+    record {
+      begun = old;
+      followed = followed;
+      raster = raster;
+      raster_is = rw (followed.raster, followed.settings) at is;
+      sent = rw (c.send.ensures.raster, method, followed.settings) refl;
+      drawn = search (rules, c.send.ensures, dots);
+    }
