@@ -76,7 +76,7 @@ const COMMANDS: [Words; 8] = [
             Word::File("B", "The other job"),
             Word::Flag(
                 "asked",
-                "Compare what they ask of the printer too: sides, bins, media, sources, and @PJL lines",
+                "Compare what they ask of the printer too: copies, paper, sides, resets, and @PJL lines",
             ),
             Word::Option(
                 "image",
@@ -110,7 +110,7 @@ const COMMANDS: [Words; 8] = [
     },
     Words {
         name: "shrink",
-        about: "Writes the smallest job that is found with the same dots, sides, trays, bins and @PJL lines",
+        about: "Writes the smallest job that is found with the same dots, paper, sides and @PJL lines",
         takes: &[
             Word::Job,
             Word::Output,
