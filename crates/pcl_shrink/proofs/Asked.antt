@@ -1,5 +1,5 @@
 -- What a job asks for, written around the texts of its pages, one exit or page more.
-use Rattle.std.proofs.Common.{◌≡◌, ◌≢◌, ℕ, suc, ◌+◌, Bool, true, false, ◌==◌, ◌||◌, if◌then◌else◌, List, [], ◌∷◌, ◌++◌, length, map, take, get_or, ◌<◌, ◌≤◌, refl, sym, ap, subst, append_assoc, append-nil, arith}
+use Rattle.std.proofs.Common.{◌≡◌, ◌≢◌, ℕ, suc, ◌+◌, Bool, true, false, ◌==◌, ◌||◌, List, [], ◌∷◌, ◌++◌, length, map, take, get_or, ◌<◌, ◌≤◌, refl, sym, ap, subst, ◌∙◌, append_assoc, append-nil, arith}
 use Rattle.pcl_shrink.proofs.Names.{nat_tests, length-append, length-map, length-take-le, map_more, flat_map-cons, flat_map-append, Asks, Exit, exit_of, Text, least_of, exit_bytes, exit_text, exits_after, is_exit_after, asked_text, side_text, reset_text, asked_before, fitted, asked_at, page_start, asked_pages}
 use Rattle.pcl_page.specs.declared.asks.Exit.{Exit as ExitOfCode}
 
@@ -67,11 +67,15 @@ page_text asks number text = page_start asks number ++ fitted (asked_at asks num
 pub pages_more : (asks : Asks) (number : ℕ) (texts : List (List ℕ)) (text : List ℕ)
     → asked_pages asks number (texts ++ text ∷ []) ≡ asked_pages asks number texts ++ page_text asks (number + length texts) text
 pages_more asks number [] text =
-    let last : number + 0 ≡ number = omega arith in rw (last, append-nil (page_text asks number text)) refl
+    let last : number ≡ number + 0 = omega arith in
+    subst (λ (n : ℕ). page_text asks number text ++ [] ≡ page_text asks n text) last (append-nil (page_text asks number text))
 pages_more asks number (t ∷ texts) text =
+    let first = page_text asks number t in
+    let rest = asked_pages asks (suc number) texts in
+    let last = page_text asks (suc number + length texts) text in
     let place : suc number + length texts ≡ number + suc (length texts) = omega arith in
-    rw (pages_more asks (suc number) texts text, place)
-    (sym (append_assoc (page_text asks number t) (asked_pages asks (suc number) texts) _))
+    ap (λ (bytes : List ℕ). first ++ bytes) (pages_more asks (suc number) texts text)
+    ∙ subst (λ (n : ℕ). first ++ (rest ++ last) ≡ first ++ rest ++ page_text asks n text) place (sym (append_assoc first rest last))
 
 -- one page more of a job's texts
 pub next_page : (asks : Asks) (texts : List Text) {i : ℕ} (d : Text) → i < length texts → asked_pages asks 0 (least_of (take (i + 1) texts))

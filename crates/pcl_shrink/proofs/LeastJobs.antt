@@ -1,6 +1,6 @@
 -- A job of least page texts that says no more than these is a least raster job.
-use Rattle.std.proofs.Common.{◌≡◌, ℕ, zero, suc, ◌+◌, ◌<◌, true, false, List, [], ◌∷◌, ◌++◌, length, map, get_or, None, refl, ap, append_assoc, arith}
-use Rattle.pcl_shrink.proofs.Names.{Dpi, AskedPage, Sheet, frame_bytes, IsWrittenPage, PrintEach, page_said, said_for, next_page, plain_page, is_usual, page_start, asked_pages, asked_job, AreLeastTexts}
+use Rattle.std.proofs.Common.{◌≡◌, ℕ, zero, suc, ◌+◌, ◌<◌, ◌==◌, true, false, List, [], ◌∷◌, ◌++◌, length, map, get_or, None, refl, ap, append_assoc, arith}
+use Rattle.pcl_shrink.proofs.Names.{nat_tests, Dpi, AskedPage, Sheet, frame_bytes, IsWrittenPage, PrintEach, page_said, said_for, next_page, plain_page, is_usual, page_start, asked_pages, asked_job, AreLeastTexts}
 
 abbrev pub joined : List (List ℕ) → List ℕ
 joined [] = []
@@ -43,7 +43,9 @@ usual_later (sheet ∷ sheets) (suc k) lt = usual_later sheets k (omega arith)
 
 no_start : (first : Sheet) (sheets : List Sheet) (k : ℕ) → page_start (said_for (first ∷ sheets)) (suc k) ≡ []
 no_start first sheets k =
-    let l = little_later sheets k in rw (l.later, l.sides, l.bin, l.media, l.source, l.side) refl
+    let l = little_later sheets k in
+    let number : (suc k == 0) ≡ false = grind (arith, nat_tests) in
+    rw (l.later, l.sides, l.bin, l.media, l.source, l.side, number) refl
 
 later_texts : (first : Sheet) (sheets : List Sheet) (texts : List (List ℕ)) (k : ℕ) → k + length texts ≡ length sheets
     → asked_pages (said_for (first ∷ sheets)) (suc k) texts ≡ joined texts

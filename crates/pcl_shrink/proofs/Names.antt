@@ -1,5 +1,5 @@
 -- What proofs of this crate name of std, of the crates below, and of its own definitions; those above take these from here too.
-pub use Rattle.pcl_base.proofs.Names.{Err, List, Ok, Result, ap, arith, false≢true, flat_map-append, flat_map-cons, length, length-append, length-map, length-take-le, map-append, map_more, nat_tests, subst, sym, ℕ}
+pub use Rattle.pcl_base.proofs.Names.{Err, List, drop_all, Ok, Result, ap, arith, false≢true, flat_map-append, flat_map-cons, length, length-append, length-map, length-take-le, map-append, map_more, nat_tests, subst, sym, ℕ}
 pub use Rattle.pcl_base.specs.declared.{dpi.Dpi.Dpi, fault.JobFault.JobFault, fault.JobFault.TheVariants.Memory, fault.JobFault.TheVariants.Refused, refusal.Refusal.Refusal}
 pub use Rattle.pcl_bitmap.proofs.Names.{IsPicture}
 pub use Rattle.pcl_output.proofs.Names.{frame_bytes}

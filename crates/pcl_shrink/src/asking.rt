@@ -1,6 +1,6 @@
 //! What a job asks of the printer, written again.
 
-ghost use Rattle.std.specs.Prelude.{◌≡◌, ◌++◌, ◌-◌, [], OnOk, IfOk, if◌then◌else◌};
+ghost use Rattle.std.specs.Prelude.{◌≡◌, ◌++◌, ◌-◌, [], drop, OnOk, IfOk, if◌then◌else◌};
 ghost use Rattle.pcl_output.specs.Tokens.{frame_bytes};
 ghost use Rattle.std.specs.Option.{option_map};
 ghost use Rattle.std.specs.Fmt.{signed_decimal};
@@ -197,7 +197,17 @@ fn append_fitted(said: Asked, text: &[u8], out: &mut Vec<u8>) -> Result<(), Allo
     let mut usual = Vec::new(*out.allocator());
     append_usual_start(said, &mut usual)?;
     append_start(said, out)?;
-    out.extend_from_slice(&text[usual.len().min(text.len())..])
+    out.extend_from_slice(after(text, usual.len()))
+}
+
+/// A text after this many of its bytes: nothing where it has fewer.
+fn after(text: &[u8], len: usize) -> &[u8]
+    ensures { result.now ≡ drop len text.now }
+{
+    match text.split_at_checked(len) {
+        Some((_, rest)) => rest,
+        None => &[],
+    }
 }
 
 /// Whether copies and a size were said, and no page length.

@@ -1,4 +1,4 @@
-use Rattle.pcl_shrink.proofs.Names.{length, arith, length-map, asks_of, Text, least_of}
+use Rattle.pcl_shrink.proofs.Names.{arith, length-map, asks_of, Text, least_of}
 use Rattle.pcl_shrink.proofs.Listed.{as_many_texts}
 use Rattle.pcl_shrink.proofs.proposals.propose.Goals as goal
 
