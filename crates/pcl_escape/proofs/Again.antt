@@ -230,15 +230,18 @@ known (reading pieces behind each no_more) =
 known (reading pieces behind each (first_fault fault f)) =
     inr (fault, record { front = pieces; each = each; behind = behind; spelled = refl; fails = rw zero-add at f })
 
+pub job_known : (job : List ℕ) → ((commands : List Said) × IsReading job commands) ⊎ ((fault : Refusal) × IsFault job fault)
+job_known job = known (is_read (suc (length job)) 0 job (omega arith))
+
 -- so what is read says what the job is
 pub reading_of : {job : List ℕ} {commands : List Said} → outcome_of job ≡ Ok commands → IsReading job commands
-reading_of {job} {commands} e = elim (known (is_read (suc (length job)) 0 job (omega arith))) [
+reading_of {job} {commands} e = elim (job_known job) [
   | inl r ↦ let same : r.0 ≡ commands = (let again = reading_again r.1 in cc) in rw same at r.1
   | inr f ↦ absurd (let found = fault_found_of f.1 in cc)
 ]
 
 pub fault_of : (job : List ℕ) (fault : Refusal) → outcome_of job ≡ Err fault → IsFault job fault
-fault_of job fault e = elim (known (is_read (suc (length job)) 0 job (omega arith))) [
+fault_of job fault e = elim (job_known job) [
   | inl r ↦ absurd (let again = reading_again r.1 in cc)
   | inr f ↦ let same : f.0 ≡ fault = (let found = fault_found_of f.1 in cc) in rw same at f.1
 ]

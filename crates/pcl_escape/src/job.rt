@@ -1,6 +1,6 @@
 //! Whole jobs.
 
-ghost use Rattle.std.specs.Prelude.{◌≡◌, ◌++◌, [], List, ℕ, IfSome, IfOk, IfErr, OnOk};
+ghost use Rattle.std.specs.Prelude.{◌≡◌, ◌++◌, ◌⊎◌, [], List, ℕ, IfSome, IfOk, IfErr, OnOk};
 ghost use Rattle.pcl_base.specs.declared.refusal.Refusal.{Refusal};
 ghost use Rattle.pcl_escape.specs.Said.{Said, views};
 ghost use Rattle.pcl_escape.specs.Pieces.{IsReading};
@@ -43,11 +43,16 @@ pub fn read_commands<'a>(alloc: Global, job: &'a [u8]) -> Result<Commands<'a>, J
 }
 
 /// A job has one reading at most, and one first fault at most, and never both. So with memory enough
-/// `read_job` gives the reading exactly where there is one.
+/// `read_job` gives the reading exactly where there is one. A law: the call does nothing.
 pub fn one_outcome()
     ensures reading { (job : List ℕ) (commands others : List Said) → IsReading job commands → IsReading job others → commands ≡ others }
     ensures fault { (job : List ℕ) (fault other : Refusal) → IsFault job fault → IsFault job other → fault ≡ other }
     ensures apart { (job : List ℕ) (commands : List Said) (fault : Refusal) → IsReading job commands → IsFault job fault → ⊥ }
+{}
+
+/// A job has a reading or a first fault, whatever its bytes are. A law: the call does nothing.
+pub fn some_outcome()
+    ensures { (job : List ℕ) → ((commands : List Said) × IsReading job commands) ⊎ ((fault : Refusal) × IsFault job fault) }
 {}
 
 /// Appends the commands of a job to an empty store, step by step, up to its first fault.

@@ -1,6 +1,6 @@
 use super::assert_gives;
 use pcl_base::{Name, Sign, Value};
-use pcl_escape::{Command, CommandList, one_outcome, read_commands, read_job};
+use pcl_escape::{Command, CommandList, one_outcome, read_commands, read_job, some_outcome};
 use std::alloc::Global;
 use std::process::Abort;
 use std::test::Fail;
@@ -201,8 +201,9 @@ fn assert_names(rt: &impl Abort, job: &[u8], commands: &[Command<'_>], expected:
     }
 }
 
-// The law does nothing.
+// The laws do nothing.
 #[test]
-fn states_the_law() {
+fn states_the_laws() {
     one_outcome();
+    some_outcome();
 }

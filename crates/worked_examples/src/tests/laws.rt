@@ -3,7 +3,9 @@
 use super::assert_gives;
 use pcl_base::{Dpi, JobFault, Kind, Name, Refusal, Value};
 use pcl_escape::{Command, read_job};
-use pcl_page::{Asked, AskedPage, Page, PageSink, PageStart, one_meaning, perform_asked, run};
+use pcl_page::{
+    Asked, AskedPage, Page, PageSink, PageStart, one_meaning, perform_asked, run, some_meaning,
+};
 use std::alloc::{AllocError, Global};
 use std::process::Abort;
 use std::test::Fail;
@@ -24,10 +26,11 @@ impl PageSink for Count {
     }
 }
 
-// The law does nothing.
+// The laws do nothing.
 #[test]
-fn states_the_law() {
+fn states_the_laws() {
     one_meaning();
+    some_meaning();
 }
 
 /// A command that ends a page, and one of no known name, which no reading gives.

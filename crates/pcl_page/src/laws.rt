@@ -1,0 +1,18 @@
+//! What holds of every job. Each law is a call that does nothing.
+
+ghost use Rattle.std.specs.Prelude.{◌⊎◌, ℕ, List};
+ghost use Rattle.pcl_base.specs.declared.dpi.Dpi.{Dpi};
+ghost use Rattle.pcl_base.specs.declared.refusal.Refusal.{Refusal};
+ghost use Rattle.pcl_page.specs.Situation.{Sheet};
+ghost use Rattle.pcl_page.specs.Jobs.{HasPages};
+ghost use Rattle.pcl_page.specs.Delivering.{IsRefusal};
+
+use pcl_escape::some_outcome;
+
+/// A job is accepted and has a list of pages, or it is refused, whatever its bytes are. A law: the call does nothing.
+pub fn some_meaning()
+    ensures { (dpi : Dpi) (job : List ℕ)
+        → ((pages : List Sheet) × HasPages dpi job pages) ⊎ ((refusal : Refusal) × IsRefusal dpi job refusal) }
+{
+    some_outcome();
+}
