@@ -3,6 +3,7 @@
 
     python3 bench/hostile.py FOLDER [PCLMIN PLAIN]
     python3 bench/hostile.py --shrink FOLDER PCLMIN
+    python3 bench/hostile.py --commands FOLDER PCLMIN
 
 glyph.pcl       the largest character, printed 2,000 times at one place by a run of text, from the page's left edge on
 shifted.pcl     the same one dot further right, so that it begins within a byte
@@ -14,11 +15,16 @@ rows.pcl        the same with a raster row of one dot between every two of 20,00
 macros.pcl      32,767 permanent macros, and then the temporary ones are deleted 200,000 times
 fonts.pcl       the same with fonts, 30,000 times
 renewed_macros.pcl, renewed_fonts.pcl   the same with a temporary one before each deletion
+sizes.pcl       10,000 times the sizes Executive and Legal in turn, on a page that nothing is painted on
+blank_text.pcl  the same with a blank printed on each
 noise.pcl       256 Letter pages of random dots, 210 rows that a macro sends fifteen times on each: a certificate of the second format
                 has some 2 GB
 
 Without programs it only makes the jobs. PCLMIN is the program of this repository and PLAIN that of oracle/plain: each previews page
 1 of each job at 300 and at 600 dots per inch, and both have to write the same bytes. A time is that of one run, in seconds.
+
+With --commands it makes jobs of one kind of command each, the dearest that are known, and prints the processor's seconds that `pbm` and
+`min` take for 1 MB of these commands: of those that take longest for 20 KB, in proportion.
 
 With --shrink it makes jobs of 256 pages by macros, for 300 and for 600 dots per inch, and prints what `min` and `shrink` take of each: the
 processor's seconds of one run, the peak memory that GNU time tells, and the bytes that are written. The status is 1 where `shrink` takes
@@ -120,6 +126,14 @@ def renewed_fonts():
     return permanent_fonts() + send + b"\x1b&f3y" + 29_999 * b"2x" + b"2X" + PAGE
 
 
+def sizes():
+    return b"\x1b&l" + 9_999 * b"1a3a" + b"1a3A" + PAGE
+
+
+def blank_text():
+    return FONT + b"\x1b(0X" + 10_000 * b"\x1b&l1A \x1b&l3A " + PAGE
+
+
 def noise():
     state, rows = 1, b""
     for _ in range(210):
@@ -133,7 +147,41 @@ def noise():
     return b"\x1b&l0E\x1b&f1y0X" + rows + b"\x1b&f1X" + page + b"\x1b&f2y" + 255 * b"3x" + b"3X"
 
 
-JOBS = [glyph, shifted, turns, controls, elements, rectangles, rows, macros, fonts, renewed_macros, renewed_fonts, noise]
+JOBS = [glyph, shifted, turns, controls, elements, rectangles, rows, macros, fonts, renewed_macros, renewed_fonts, sizes, blank_text, noise]
+
+
+# ---- jobs of one kind of command: what comes before, and what comes again and again
+
+MEGABYTE = 1_000_000
+
+
+def again(command, count=MEGABYTE):
+    return count // len(command) * command
+
+
+def kinds(dpi):
+    """Names, what comes before, and the commands: 20 KB of those that take longest, and of the others 1 MB."""
+    raster = b"\x1b*p0x0Y\x1b*t75R\x1b*r1A\x1b*b0m75W" + 75 * b"\xff" + b"\x1b*b3M\x1b*b" + 823 * b"w" + b"W\x1b*rB"
+    text = FONT + character(65) + character(66) + b"\x1b(0X" + TOP_LEFT + b"\x1b*p1X"
+    page = b"\x1b*c%da%dB" % (8 * dpi, 11 * dpi)
+    return [
+        ("rectangles, black and white in turn", TOP_LEFT + page, b"\x1b*c" + again(b"p1p", 20_000) + b"P"),
+        ("text, two characters in turn at one place", text, again(b"AB", 20_000)),
+        ("text, one character at one place", text, again(b"A")),
+        ("rows of a raster, each once more", TOP_LEFT, again(raster)),
+        ("rows of a raster, white", TOP_LEFT + b"\x1b*r1A", b"\x1b*b" + again(b"w") + b"W"),
+        ("rasters of one row", TOP_LEFT, again(b"\x1b*b1W\x80\x1b*rB\x1b*p0Y")),
+        ("sizes in turn", b"", b"\x1b&l" + again(b"1a3a") + b"1A"),
+        ("sizes in turn, with a blank on each", FONT + b"\x1b(0X", again(b"\x1b&l1A \x1b&l3A ")),
+        ("deletions of temporary macros", permanent_macros(), b"\x1b&f" + again(b"7x") + b"7X"),
+        ("the same, each with a new one before", permanent_macros() + b"\x1b&f0Y", b"\x1b&f" + again(b"0x1x7x") + b"7X"),
+        ("deletions of temporary fonts", permanent_fonts(), b"\x1b*c" + again(b"1f") + b"1F"),
+        ("runs of an empty macro", defined(1, b""), b"\x1b&f1y" + again(b"2x") + b"2X"),
+        ("resets", b"", again(b"\x1bE")),
+        ("universal exits", b"", again(b"\x1b%-12345X")),
+        ("moves of the cursor", b"", b"\x1b*p" + again(b"x") + b"X"),
+        ("carriage returns", b"", again(b"\r")),
+    ]
 
 
 # ---- pages by macros
@@ -250,6 +298,18 @@ def shrunk(folder, program):
     return int(status)
 
 
+def by_command(folder, program):
+    """Prints what 1 MB of each kind of command takes."""
+    print("| Commands | 300: `pbm`, s | `min`, s | 600: `pbm`, s | `min`, s |\n|---|" + 4 * "---:|")
+    path = folder / "commands.pcl"
+    for at_300, at_600 in zip(kinds(300), kinds(600)):
+        seconds = []
+        for dpi, (_, before, commands) in ((300, at_300), (600, at_600)):
+            path.write_bytes(before + commands + PAGE)
+            seconds += [taken(program, how, path, dpi)[0] * MEGABYTE / len(commands) for how in ("pbm", "min")]
+        print(f"| {at_300[0]} | {' | '.join(f'{it:.1f}' for it in seconds)} |", flush=True)
+
+
 def preview(program, path, dpi):
     start = time.perf_counter()
     done = subprocess.run([program, "pbm", "--page", "1", "--dpi", str(dpi)], stdin=path.open("rb"), stdout=subprocess.PIPE, check=False)
@@ -257,12 +317,13 @@ def preview(program, path, dpi):
 
 
 def main():
-    is_shrunk = sys.argv[1] == "--shrink"
-    folder, *programs = sys.argv[2:] if is_shrunk else sys.argv[1:]
+    modes = {"--shrink": shrunk, "--commands": by_command}
+    mode = modes.get(sys.argv[1])
+    folder, *programs = sys.argv[2:] if mode else sys.argv[1:]
     folder = Path(folder)
     folder.mkdir(parents=True, exist_ok=True)
-    if is_shrunk:
-        sys.exit(shrunk(folder, *programs))
+    if mode:
+        sys.exit(mode(folder, *programs))
     for make in JOBS:
         (folder / f"{make.__name__}.pcl").write_bytes(make())
     if not programs:

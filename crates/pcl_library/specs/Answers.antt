@@ -32,10 +32,10 @@ use Rattle.pcl_files.specs.Messages.{line_of}
 use Rattle.pcl_answers.specs.Verdicts.{verdict_line_of}
 use Rattle.pcl_answers.specs.ComparisonLines.{comparison_line_of, compare_line_of}
 use Rattle.pcl_library.specs.Arguments.{IsSeen, AreSeen, IsChoiceFor, IsFormatFor, IsPerformed}
-use Rattle.pcl_library.specs.Failures.{outcome_of, job_number}
+use Rattle.pcl_library.specs.Failures.{argument_line, outcome_of, job_number}
 use Rattle.pcl_library.specs.declared.answer.Answer.{Answer}
 use Rattle.pcl_library.specs.declared.failure.Failure.{Failure}
-use Rattle.pcl_library.specs.declared.failure.Failure.TheVariants.{Run, OneRefused}
+use Rattle.pcl_library.specs.declared.failure.Failure.TheVariants.{Wrong, Run, OneRefused}
 
 -- ---- lines and failures
 
@@ -68,6 +68,7 @@ TellsRefusalOf which refusal answer = TellsOf which (compare_line_of (compare.Re
 abbrev pub Tells : Failure → ℕ → Answer → Type 0
 Tells (Run (run.Refused refusal)) page answer = TellsRefusal refusal answer
 Tells (OneRefused which refusal) page answer = TellsRefusalOf which refusal answer
+Tells (Wrong argument) page answer = (answer.outcome ≡ 3) × IsLine (argument_line argument) answer.line.now
 Tells (Run run.NoSuchPage) page answer = (answer.outcome ≡ 2) × IsLine (line_of run.NoSuchPage page) answer.line.now
 Tells other page answer = answer.outcome ≡ outcome_of other
 

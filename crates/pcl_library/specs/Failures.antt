@@ -1,5 +1,5 @@
 -- Why a call fails, and what is said of it.
-use Rattle.std.specs.Prelude.{◌≡◌, ℕ, ◌<◌, List}
+use Rattle.std.specs.Prelude.{◌≡◌, ℕ, ◌<◌, List, codes}
 use Rattle.pcl_base.specs.declared.fault.JobFault.{JobFault}
 use Rattle.pcl_streams.specs.declared.fault.Fault.TheVariants as run
 use Rattle.pcl_streams.specs.JobFaults.{fault_of}
@@ -10,6 +10,8 @@ use Rattle.pcl_same.specs.declared.fault.SameFault.TheVariants as same
 use Rattle.pcl_answers.specs.declared.comparisons.CompareFault.TheVariants as compare
 use Rattle.pcl_files.specs.Messages.{line_of}
 use Rattle.pcl_answers.specs.ComparisonLines.{compare_line_of}
+use Rattle.pcl_library.specs.declared.failure.Argument.{Argument}
+use Rattle.pcl_library.specs.declared.failure.Argument.TheVariants.{Resolution, Pages, Format}
 use Rattle.pcl_library.specs.declared.failure.Failure.{Failure}
 use Rattle.pcl_library.specs.declared.failure.Failure.TheVariants.{Wrong, Run, OneRefused}
 
@@ -38,8 +40,14 @@ abbrev pub job_number : Job → ℕ
 job_number First = 1
 job_number Second = 2
 
+-- what is said of an argument that has a value which the call doesn't take
+abbrev pub argument_line : Argument → List ℕ
+argument_line Resolution = codes "pclmin: the resolution is 300 or 600, or 0 for the first at which the job is accepted\n"
+argument_line Pages = codes "pclmin: pages are 1 to 256, the last no earlier than the first, or 0 and 0 for all\n"
+argument_line Format = codes "pclmin: the format of a certificate is 1 or 2, or 0 for none\n"
+
 -- the line is the one that the program says, with its line feed
 abbrev pub IsSaid : Failure → ℕ → List ℕ → Type 0
-IsSaid (Wrong argument) page line = Unit {0}
+IsSaid (Wrong argument) page line = line ≡ argument_line argument
 IsSaid (Run fault) page line = line ≡ line_of fault page
 IsSaid (OneRefused which refusal) page line = line ≡ compare_line_of (compare.Refused which refusal)

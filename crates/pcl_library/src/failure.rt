@@ -3,7 +3,7 @@
 ghost use Rattle.std.specs.Prelude.{◌≡◌, IfOk};
 ghost use Rattle.pcl_streams.specs.declared.fault.Fault.TheVariants.{Memory};
 ghost use Rattle.pcl_library.specs.declared.failure.Failure.TheVariants.{Run};
-ghost use Rattle.pcl_library.specs.Failures.{failure_of_job, failure_of_jobs, IsSaid, outcome_of};
+ghost use Rattle.pcl_library.specs.Failures.{argument_line, failure_of_job, failure_of_jobs, IsSaid, outcome_of};
 
 use pcl_answers::{CompareFault, compare_fault_line};
 use pcl_base::{JobFault, Refusal};
@@ -25,7 +25,9 @@ pub enum Argument {
 
 impl Argument {
     /// What is said where it has another value.
-    fn line(self) -> &'static [u8] {
+    fn line(self) -> &'static [u8]
+        ensures { result.now ≡ argument_line self }
+    {
         match self {
             Argument::Resolution =>
                 b"pclmin: the resolution is 300 or 600, or 0 for the first at which the job is accepted\n",
