@@ -11,7 +11,6 @@ use Rattle.pcl_page.specs.Situation.{Sheet}
 use Rattle.pcl_page.specs.Jobs.{HasPages}
 use Rattle.pcl_page.specs.Accepting.{IsAccepted}
 use Rattle.pcl_page.specs.Delivering.{IsRefusal}
-use Rattle.pcl_meaning.specs.JobTexts.{IsJobOf}
 use Rattle.pcl_cert.specs.declared.format.Format.{Format}
 use Rattle.pcl_streams.specs.declared.fault.Fault.TheVariants as run
 use Rattle.pcl_tool.specs.declared.job_verdict.JobVerdict.{JobVerdict}
@@ -19,6 +18,7 @@ use Rattle.pcl_tool.specs.declared.job_verdict.JobVerdict.TheVariants as verdict
 use Rattle.pcl_streams.specs.declared.page_images.PageChoice.{PageChoice}
 use Rattle.pcl_streams.specs.PageImages.{AreImagesOf, LacksPage}
 use Rattle.pcl_tool.specs.Minimizing.{IsCertifiedJobOf, input_limit}
+use Rattle.pcl_tool.specs.Writing.{IsWrittenJob}
 use Rattle.pcl_tool.specs.JobVerdicts.{IsJobVerdict}
 use Rattle.pcl_same.specs.declared.comparison.AskedComparison.{AskedComparison}
 use Rattle.pcl_same.specs.declared.comparison.AskedComparison.TheVariants as comparisons
@@ -126,7 +126,7 @@ pub record Shows (number : ℕ) (job : List ℕ) (Done : Dpi → Answer → Type
 
 -- a least raster job of the job's pages, and where one of a format is asked for its certificate, which a check reads
 abbrev pub HasLeastJob : List ℕ → Option Format → Dpi → Answer → Type 0
-HasLeastJob job None dpi answer = IsJobOf dpi job answer.made.now
+HasLeastJob job None dpi answer = IsWrittenJob dpi job answer.made.now
 HasLeastJob job (Some format) dpi answer =
     IsCertifiedJobOf dpi format job answer.made.now answer.certificate.now × (length answer.certificate.now ≤ input_limit)
 

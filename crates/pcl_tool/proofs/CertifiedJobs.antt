@@ -73,4 +73,4 @@ certified_proved one dpi input output certificate job.Proved i v = refl
 
 pub written_certified : {dpi : Dpi} {format : Format} {input output certificate : List ℕ}
     → IsCertifiedJobOf dpi format input output certificate → IsCertifiedBy dpi input output certificate
-written_certified w = search (w.written, w.certified)
+written_certified w = search (w.job_is.written, w.certified)

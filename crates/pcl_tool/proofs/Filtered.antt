@@ -1,6 +1,6 @@
 -- What writers hold after a filter.
 use Rattle.std.proofs.Common.{ℕ, ◌≤◌, List, length, Option, Result, Ok, Err, inl, inr, arith}
-use Rattle.pcl_tool.proofs.Names.{Appends, Keeps-refl, Dpi, IsJobOf, Format, Fault, Refused, Memory, ReadFault, TooLong, CertificateTooLong, WriteFault, IsReadAll, IsWritten, IsCertifiedJobOf, IsRead, IsFiltered, IsFilteredCert, IsOutputWritten, input_limit, IsJobWritten}
+use Rattle.pcl_tool.proofs.Names.{Appends, Keeps-refl, Dpi, Format, Fault, Refused, Memory, ReadFault, TooLong, CertificateTooLong, WriteFault, IsReadAll, IsWritten, IsCertifiedJobOf, IsRead, IsFiltered, IsFilteredCert, IsOutputWritten, input_limit, IsJobWritten, IsWrittenJob}
 
 -- the job wasn't read whole, and nothing was written
 pub not_read : (dpi : Dpi) (given left out : Option (List ℕ)) (fault : Fault)
@@ -19,7 +19,7 @@ not_performed dpi out fault r short h = absurd h
 
 -- the job was written, or a prefix of it
 pub filtered : {dpi : Dpi} {given left : Option (List ℕ)} (old new : Option (List ℕ)) {job output : List ℕ}
-    (result : Result (Unit {0}) Fault) → IsRead given left job → IsJobOf dpi job output → IsWritten old new output result
+    (result : Result (Unit {0}) Fault) → IsRead given left job → IsWrittenJob dpi job output → IsWritten old new output result
     → IsFiltered dpi given left old new result
 filtered old new {job} {output} (Ok done) r j w = (job, output, r, j, w)
 filtered old new {job} {output} (Err WriteFault) r j w = (job, output, r, j, w)

@@ -1,6 +1,6 @@
 -- Written page texts are least, and so are those that the checker answers Proved.
 use Rattle.std.proofs.Common.{ℕ, List, [], ◌∷◌, arith}
-use Rattle.pcl_tool.proofs.Names.{Dpi, Sheet, PageProof, proved_least, IsWrittenPage, PrintEach, PrintsShortest, IsLeastJobText, IsJobOf, least_job, AreProved, IsJobVerdict, IsLeastJobOf}
+use Rattle.pcl_tool.proofs.Names.{Dpi, Sheet, PageProof, proved_least, IsWrittenPage, PrintEach, PrintsShortest, IsJobOf, least_job, AreProved, IsJobVerdict, IsLeastJobOf, IsLeastSameJob, IsWrittenJob}
 use Rattle.pcl_tool.specs.declared.job_verdict.JobVerdict.TheVariants as job
 
 written_texts : (dpi : Dpi) (sheets : List Sheet) (texts : List ℕ) → PrintEach IsWrittenPage dpi sheets texts
@@ -18,11 +18,19 @@ proved_texts dpi (sheet ∷ sheets) texts (proof ∷ proofs) p =
     (f.0, f.1, (f.2.page, f.2.shows, (f.2.verdict_is.0, least)), f.3, rest)
 proved_texts dpi sheets texts proofs p = absurd (omega (arith, p.0))
 
-pub written_least : {dpi : Dpi} {input output : List ℕ} (w : IsJobOf dpi input output) → IsLeastJobText dpi w.pages output
-written_least {dpi} w = least_job w.texts (written_texts dpi w.pages w.texts w.print) w.spelled
+pub written_least : (dpi : Dpi) (input output : List ℕ) → IsJobOf dpi input output → IsLeastSameJob dpi input output
+written_least dpi input output w = record {
+  pages = w.pages;
+  meaning = w.meaning;
+  again = w.again;
+  accepted = w.accepted;
+  same = w.alike;
+  few = w.few;
+  least = least_job w.texts (written_texts dpi w.pages w.texts w.print) w.spelled;
+}
 
-pub written_least_job : (dpi : Dpi) (input output : List ℕ) → IsJobOf dpi input output → IsLeastJobOf dpi input output
-written_least_job dpi input output w = record { pages = w.pages; meaning = w.meaning; is_least = written_least w }
+abbrev pub written_job : {dpi : Dpi} {input output : List ℕ} → IsJobOf dpi input output → IsWrittenJob dpi input output
+written_job {dpi} {input} {output} w = record { is_least = written_least dpi input output w; written = w }
 
 pub proved_least_job : (dpi : Dpi) (input output certificate : List ℕ) → IsJobVerdict dpi input output certificate job.Proved
     → IsLeastJobOf dpi input output

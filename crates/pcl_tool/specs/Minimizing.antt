@@ -5,7 +5,6 @@ use Rattle.pcl_base.specs.declared.dpi.Dpi.{Dpi}
 pub use Rattle.pcl_base.specs.Limits.{input_limit}
 use Rattle.pcl_page.specs.Situation.{Sheet}
 use Rattle.pcl_page.specs.Delivering.{IsRefusal}
-use Rattle.pcl_meaning.specs.JobTexts.{IsJobOf}
 use Rattle.pcl_cert.specs.declared.format.Format.{Format}
 use Rattle.pcl_cert.specs.declared.page_proof.PageProof.{PageProof}
 use Rattle.pcl_cert.specs.Certificates.{AreProofs, certificate_bytes}
@@ -15,6 +14,7 @@ use Rattle.pcl_streams.specs.declared.fault.Fault.TheVariants.{Refused, Memory, 
 use Rattle.pcl_tool.specs.declared.minimizing.Output.{Output}
 use Rattle.pcl_streams.specs.Transfer.{GivesAtMost, AppendsFront}
 use Rattle.pcl_tool.specs.Certified.{AreProved}
+use Rattle.pcl_tool.specs.Writing.{IsWrittenJob}
 
 -- The certificate of the page texts of some pages: by what it says of each, the checker answers Proved on its text.
 pub record IsCertificate (dpi : Dpi) (format : Format) (pages : List Sheet) (texts certificate : List ℕ) : Type 0 where
@@ -23,10 +23,10 @@ pub record IsCertificate (dpi : Dpi) (format : Format) (pages : List Sheet) (tex
   pub spelled : certificate ≡ certificate_bytes format proofs
   pub proved : AreProved dpi pages texts proofs
 
--- a job text of a job, and its certificate
+-- a job that is written, and its certificate
 pub record IsCertifiedJobOf (dpi : Dpi) (format : Format) (job output certificate : List ℕ) : Type 0 where
-  pub written : IsJobOf dpi job output
-  pub certified : IsCertificate dpi format written.pages written.texts certificate
+  pub job_is : IsWrittenJob dpi job output
+  pub certified : IsCertificate dpi format job_is.written.pages job_is.written.texts certificate
 
 abbrev pub IsMinimized : Dpi → Format → List ℕ → Result Output Fault → Type 0
 IsMinimized dpi format job (Ok output) = IsCertifiedJobOf dpi format job output.job.items output.certificate.items
@@ -40,9 +40,9 @@ pub record IsRead (old new : Option (List ℕ)) (job : List ℕ) : Type 0 where
 -- what a reader gave and a writer holds after a filter
 abbrev pub IsFiltered : Dpi → Option (List ℕ) → Option (List ℕ) → Option (List ℕ) → Option (List ℕ) → Result (Unit {0}) Fault → Type 0
 IsFiltered dpi given left old new (Ok unit) =
-    (job output : List ℕ) × IsRead given left job × IsJobOf dpi job output × Appends old new output
+    (job output : List ℕ) × IsRead given left job × IsWrittenJob dpi job output × Appends old new output
 IsFiltered dpi given left old new (Err WriteFault) =
-    (job output : List ℕ) × IsRead given left job × IsJobOf dpi job output × AppendsFront old new output
+    (job output : List ℕ) × IsRead given left job × IsWrittenJob dpi job output × AppendsFront old new output
 IsFiltered dpi given left old new (Err (Refused refusal)) =
     (job : List ℕ) × IsRead given left job × IsRefusal dpi job refusal × Keeps old new
 IsFiltered dpi given left old new (Err Memory) = GivesAtMost given left (input_limit + 1) × Keeps old new

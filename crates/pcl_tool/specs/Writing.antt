@@ -1,4 +1,4 @@
--- A job that is written without a certificate: what the call that writes it answers.
+-- A job that is written, and what the call answers that writes it without a certificate.
 use Rattle.std.specs.Prelude.{ℕ, List, Result, Ok, Err}
 use Rattle.std.specs.Global.{Vec}
 use Rattle.pcl_base.specs.declared.dpi.Dpi.{Dpi}
@@ -7,8 +7,14 @@ use Rattle.pcl_meaning.specs.JobTexts.{IsJobOf}
 use Rattle.pcl_streams.specs.declared.fault.Fault.{Fault}
 use Rattle.pcl_streams.specs.JobFaults.{RefusedOrMemory}
 use Rattle.pcl_streams.specs.declared.fault.Fault.TheVariants.{Refused, Memory, ReadFault, TooLong, WriteFault, NoSuchPage}
+use Rattle.pcl_tool.specs.Headline.{IsLeastSameJob}
 
--- the least raster job of the job; or the job is refused so, or memory ran out
+-- a job that is written: what it is to its input, and the texts that are written for its pages
+pub record IsWrittenJob (dpi : Dpi) (input output : List ℕ) : Type 0 where
+  pub is_least : IsLeastSameJob dpi input output
+  pub written : IsJobOf dpi input output
+
+-- the job is written; or it is refused so, or memory ran out
 abbrev pub IsJobWritten : Dpi → List ℕ → Result (Vec ℕ) Fault → Type 0
-IsJobWritten dpi job (Ok output) = IsJobOf dpi job output.items
+IsJobWritten dpi job (Ok output) = IsWrittenJob dpi job output.items
 IsJobWritten dpi job (Err fault) = RefusedOrMemory (IsRefusal dpi job) fault

@@ -7,7 +7,7 @@ ghost use Rattle.pcl_meaning.specs.JobTexts.{IsJobOf};
 ghost use Rattle.pcl_tool.specs.declared.job_verdict.JobVerdict.{JobVerdict};
 ghost use Rattle.pcl_tool.specs.declared.job_verdict.JobVerdict.TheVariants as verdicts;
 ghost use Rattle.pcl_tool.specs.declared.minimizing.Output.{Output};
-ghost use Rattle.pcl_tool.specs.Headline.{TheClaim};
+ghost use Rattle.pcl_tool.specs.Headline.{IsLeastSameJob, TheClaim};
 ghost use Rattle.pcl_tool.specs.Minimizing.{IsCertifiedJobOf, IsMinimized};
 ghost use Rattle.pcl_tool.specs.JobVerdicts.{IsJobVerdict};
 ghost use Rattle.pcl_tool.specs.LeastJobs.{IsLeastJobOf, IsCertifiedBy};
@@ -25,11 +25,11 @@ pub fn the_headline()
     one_meaning();
 }
 
-/// A job that `minimize` and `filter` write is a least job text of the input's pages. It has them in order and dot for dot;
-/// no page text that prints one of the pages is shorter than the one that was written, and no job text of the same pages is
-/// shorter than the job.
+/// A job of page texts that are written for the input's pages is a least job with these pages. It has them in order and dot for
+/// dot; no page text that prints one of the pages is shorter than the one that was written, and no job text of the same pages is
+/// shorter than the job. Of what `filter` and `minimize` write their contracts say so themselves.
 pub fn written_jobs_are_least()
-    ensures { (dpi : Dpi) (input output : List ℕ) → IsJobOf dpi input output → IsLeastJobOf dpi input output }
+    ensures { (dpi : Dpi) (input output : List ℕ) → IsJobOf dpi input output → IsLeastSameJob dpi input output }
 {}
 
 /// Where `check_job` says Proved the output is a least job text of the input's pages too. It and

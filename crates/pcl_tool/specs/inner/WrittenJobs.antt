@@ -3,7 +3,6 @@ use Rattle.std.specs.Prelude.{◌≡◌, ℕ, ◌≤◌, List, [], ◌++◌, len
 use Rattle.pcl_base.specs.declared.dpi.Dpi.{Dpi}
 use Rattle.pcl_bitmap.specs.declared.page.Page.{Page}
 use Rattle.pcl_writer.specs.Appending.{IsWrittenPage}
-use Rattle.pcl_meaning.specs.JobTexts.{IsJobOf}
 use Rattle.pcl_cert.specs.declared.format.Format.{Format}
 use Rattle.pcl_cert.specs.declared.page_proof.PageProof.{PageProof}
 use Rattle.pcl_cert.specs.declared.check.Verdict.TheVariants.{Proved}
@@ -15,6 +14,7 @@ use Rattle.pcl_tool.specs.declared.minimizing.Output.{Output}
 use Rattle.pcl_tool.specs.declared.written_job.WrittenJob.TheInside.{Inside}
 use Rattle.pcl_streams.specs.JobFaults.{RefusedOrMemory}
 use Rattle.pcl_tool.specs.Minimizing.{IsMinimized}
+use Rattle.pcl_tool.specs.Writing.{IsWrittenJob}
 
 -- the bytes of a job so far, and the certificate of its pages, where one of a format is wanted
 pub record SoFar : Type 0 where
@@ -65,5 +65,5 @@ pub record TakesText (old : SoFar) (page : Page) (new : SoFar) : Type 0 where
 -- the least raster job of a job, and its certificate where one is wanted
 abbrev pub IsOutput : Dpi → List ℕ → Option Format → Result Output Fault → Type 0
 IsOutput dpi job (Some format) result = IsMinimized dpi format job result
-IsOutput dpi job None (Ok output) = IsJobOf dpi job output.job.items
+IsOutput dpi job None (Ok output) = IsWrittenJob dpi job output.job.items
 IsOutput dpi job None (Err fault) = RefusedOrMemory (IsRefusal dpi job) fault

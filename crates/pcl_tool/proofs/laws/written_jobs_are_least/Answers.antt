@@ -1,5 +1,5 @@
-use Rattle.pcl_tool.proofs.LeastTexts.{written_least_job}
+use Rattle.pcl_tool.proofs.LeastTexts.{written_least}
 use Rattle.pcl_tool.proofs.laws.written_jobs_are_least.Goals as goal
 
 pub returns : goal.returns
-returns c = written_least_job
+returns c = written_least
