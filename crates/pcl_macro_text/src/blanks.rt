@@ -25,7 +25,7 @@ const HEADER: &[u8; 64] =
     b"\x00\x40\x00\x01\x00\x00\x00\x00\x00\x01\x00\x01\x00\x01\x01\x15\x00\x04\x00\x04\x00\x00\
 \x00\x00\x00\x00\x00\x00\x02\x00\x00\x00\x00\x04\x00\x04\x00\x20\x00\xff\x00\x00\x00\x00\x00\x00\x00\x00pclmin blanks   ";
 
-/// The gaps that have a character, the most frequent first, and how often each is there.
+/// The gaps to the right that have a character, the most frequent first, and how often each is there.
 #[derive(Drop)]
 pub struct Blanks {
     gaps: IndexMap<i32, u32>,
@@ -39,9 +39,10 @@ impl Blanks {
         Ok(blanks)
     }
 
-    /// Keeps the gaps that are frequent, the most frequent first, as many as there are codes.
+    /// Keeps the gaps to the right that are frequent, the most frequent first, as many as there are codes. Those to the left are
+    /// moves: GhostPCL goes a dot less to the left than a character says.
     fn keep_frequent(&mut self) -> Result<(), AllocError> {
-        self.gaps.retain(|_gap: &i32, count: &mut u32| -> bool { *count >= BLANK_USES });
+        self.gaps.retain(|gap: &i32, count: &mut u32| -> bool { *gap > 0 && *count >= BLANK_USES });
         self.gaps
             .sort_by_key(|_gap, count| u32::MAX.saturating_sub(*count))?;
         self.gaps.truncate(CODES);

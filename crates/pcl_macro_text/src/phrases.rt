@@ -15,7 +15,7 @@ const LEAST_SAVED: u32 = 48;
 /// About how many bytes it takes to run a macro.
 const RUN_BYTES: u32 = 8;
 
-/// How many a gap takes, between two sequences that run macros.
+/// How many a gap to the right takes, between two sequences that run macros; one to the left takes a move.
 const GAP_BYTES: u32 = 4;
 
 /// How many it takes to run the same macro once more.
@@ -58,7 +58,10 @@ impl Pair {
 
 /// About how many bytes a mark takes.
 fn bytes_of(mark: Mark) -> u32 {
-    if mark.is_gap() { GAP_BYTES } else { RUN_BYTES }
+    match mark {
+        Mark::Gap(gap) if gap > 0 => GAP_BYTES,
+        _ => RUN_BYTES,
+    }
 }
 
 /// The lines of a job, and the phrases in them.
