@@ -3,36 +3,35 @@
 ghost use Rattle.std.specs.Prelude.{◌≤◌};
 
 use crate::macro_layout::MacroLayout;
-use crate::macros::{append_marks, append_move};
+use crate::macros::{Macros, append_marks, append_move, append_set};
 use crate::marks::Mark;
 use pcl_base::ROW_LIMIT;
 use pcl_coders::{Delta, RowCoder};
 use pcl_patterns::{Pattern, append_labelled, append_signed};
 use std::alloc::{AllocError, Global};
 
-/// Appends the unit in which macros move the cursor, a dot, and the definitions.
+/// Appends the unit in which macros move the cursor, a dot, the characters that make gaps, and the definitions.
 pub fn append_definitions(
     alloc: Global,
     layout: &MacroLayout,
     out: &mut Vec<u8>,
 ) -> Result<(), AllocError> {
     out.extend_from_slice(b"\x1b&u600D")?;
-    let mut id: u32 = 0;
+    layout.plan.macros.blanks.append_font(out)?;
     for mark in layout.plan.macros.uses.keys() {
-        append_definition(alloc, layout, id, *mark, out)?;
-        id = id.saturating_add(1);
+        append_definition(alloc, layout, *mark, out)?;
     }
     Ok(())
 }
 
-/// Appends the definition of the macro of a mark, which has this ID.
+/// Appends the definition of the macro of a mark.
 fn append_definition(
     alloc: Global,
     layout: &MacroLayout,
-    id: u32,
     mark: Mark,
     out: &mut Vec<u8>,
 ) -> Result<(), AllocError> {
+    let id = layout.plan.macros.id(mark).unwrap_or(0);
     append_labelled(b"\x1b&f", id, out)?;
     out.extend_from_slice(b"y0X")?;
     append_content(alloc, layout, mark, out)?;
@@ -48,15 +47,31 @@ fn append_content(
 ) -> Result<(), AllocError> {
     match mark {
         Mark::Glyph(glyph) => append_glyph(alloc, layout, glyph, out),
-        Mark::Gap(gap) => append_move(gap, out),
         Mark::Phrase(number) => match layout.plan.text.phrases.get(number as usize) {
-            Some(phrase) => append_marks(&layout.plan.macros, &phrase.marks, out),
+            Some(phrase) => append_phrase(&layout.plan.macros, mark, &phrase.marks, out),
             None => Ok(()),
         },
+        Mark::Gap(_) => Ok(()),
     }
 }
 
-/// Appends what prints a glyph: the raster, and the advance from where the cursor was before it.
+/// Appends what the macro of a phrase does: it runs those of its marks, and leaves the ID set that mostly comes next.
+fn append_phrase(
+    macros: &Macros,
+    mark: Mark,
+    marks: &[Mark],
+    out: &mut Vec<u8>,
+) -> Result<(), AllocError> {
+    let goes_on = macros.left_by(mark, marks) != macros.left(mark);
+    let setting = append_marks(macros, marks, Some(mark), goes_on, out)?;
+    if goes_on {
+        append_set(macros, macros.left(mark), setting.is_open, out)?;
+    }
+    Ok(())
+}
+
+/// Appends what the macro of a glyph does: the raster, the advance from where its end puts the cursor, and the ID that mostly comes
+/// next.
 fn append_glyph(
     alloc: Global,
     layout: &MacroLayout,
@@ -66,24 +81,75 @@ fn append_glyph(
     let Some(pattern) = layout.letters.pattern_of(&layout.patterns, glyph) else {
         return Ok(());
     };
-    out.extend_from_slice(b"\x1b&f0S")?;
-    append_way(layout, glyph, out)?;
-    append_labelled(b"\x1b*r", pattern.width, out)?;
-    out.extend_from_slice(b"s1A")?;
-    append_rows(alloc, pattern, out)?;
-    out.extend_from_slice(b"\x1b&f1S")?;
-    append_move(layout.plan.metrics.advance(glyph), out)
+    append_raster(alloc, layout, glyph, pattern, out)?;
+    append_advance(layout, glyph, pattern.height, out)?;
+    append_next(&layout.plan.macros, Mark::Glyph(glyph), out)
 }
 
-/// Appends the way from the cursor to the left upper corner of a glyph.
-fn append_way(layout: &MacroLayout, glyph: u32, out: &mut Vec<u8>) -> Result<(), AllocError> {
-    let right = layout.plan.metrics.bearing(glyph);
+/// Appends the raster of a glyph, from where the cursor is before it.
+fn append_raster(
+    alloc: Global,
+    layout: &MacroLayout,
+    glyph: u32,
+    pattern: Pattern<'_>,
+    out: &mut Vec<u8>,
+) -> Result<(), AllocError> {
+    let up = signed(layout.letters.top_of(glyph));
+    append_way(layout.plan.metrics.bearing(glyph), up.saturating_neg(), out)?;
+    append_labelled(b"\x1b*r", pattern.width, out)?;
+    out.extend_from_slice(b"s1A")?;
+    append_rows(alloc, pattern, out)
+}
+
+/// Appends the advance of a glyph of so many rows. The end of its raster puts the cursor at its left edge, on the row below it.
+fn append_advance(
+    layout: &MacroLayout,
+    glyph: u32,
+    rows: u32,
+    out: &mut Vec<u8>,
+) -> Result<(), AllocError> {
+    let metrics = &layout.plan.metrics;
+    let blanks = &layout.plan.macros.blanks;
+    let right = metrics
+        .advance(glyph)
+        .saturating_sub(metrics.bearing(glyph));
+    let down = signed(layout.letters.top_of(glyph)).saturating_sub(signed(rows));
+    match blanks.code(right) {
+        Some(code) => {
+            append_way(0, down, out)?;
+            out.push(code)?;
+            Ok(())
+        }
+        None => append_way(right, down, out),
+    }
+}
+
+/// A number of dots with a sign. No page has so many that they have none.
+fn signed(dots: u32) -> i32 {
+    i32::try_from(dots).unwrap_or(0)
+}
+
+/// Appends the ID that the macro of a glyph leaves set, where that isn't its own.
+fn append_next(macros: &Macros, mark: Mark, out: &mut Vec<u8>) -> Result<(), AllocError> {
+    let left = macros.left(mark);
+    if left == mark {
+        Ok(())
+    } else {
+        append_set(macros, left, false, out)
+    }
+}
+
+/// Appends a move of the cursor by so many dots to the right and down.
+fn append_way(right: i32, down: i32, out: &mut Vec<u8>) -> Result<(), AllocError> {
+    if down == 0 {
+        return append_move(right, out);
+    }
     out.extend_from_slice(b"\x1b*p")?;
     if right != 0 {
         append_signed(right, out)?;
         out.extend_from_slice(b"x")?;
     }
-    append_labelled(b"-", layout.letters.top_of(glyph), out)?;
+    append_signed(down, out)?;
     out.extend_from_slice(b"Y")
 }
 

@@ -2,7 +2,9 @@
 //! promised of either.
 #![tactic(auto)]
 
+mod blanks;
 mod definitions;
+mod following;
 mod lines;
 mod macro_layout;
 mod macros;

@@ -20,13 +20,11 @@ pub fn append_lines(
     out.extend_from_slice(b"\x1b*b3M")?;
     let mut start = start;
     let mut above = None;
+    let mut set = None;
     for line in lines {
         append_line_start(line, above, out)?;
-        append_marks(
-            &layout.plan.macros,
-            layout.plan.text.script.marks_of(line, start),
-            out,
-        )?;
+        let marks = layout.plan.text.script.marks_of(line, start);
+        set = append_marks(&layout.plan.macros, marks, set, false, out)?.set;
         start = line.end;
         above = Some(line.row);
     }

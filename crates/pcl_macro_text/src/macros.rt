@@ -1,47 +1,101 @@
 //! The numbers of macros, and running them.
 
+use crate::blanks::Blanks;
+use crate::following::{find_left, left_by};
 use crate::marks::Mark;
 use crate::phrases::{Phrase, Text};
 use indexmap::IndexMap;
 use pcl_patterns::{append_labelled, append_signed, number_of_place};
 use std::alloc::{AllocError, Global};
 
-/// A gap that is there so often has a macro: it takes some 22 bytes, and a cursor move some five more than running it.
-const GAP_USES: u32 = 5;
+/// The ID of the first macro. Those of the others go down from it, as a site's own mostly go up from 0.
+const FIRST_ID: u32 = 32_767;
 
-/// How many IDs there are for macros.
-const MACRO_LIMIT: usize = 32_768;
+/// Marks, and how often each is used.
+pub type Uses = IndexMap<Mark, u32>;
 
-/// The marks that have macros, each at the place that is its ID.
+/// The macros of a job, and the characters that make gaps.
 #[derive(Drop)]
 pub struct Macros {
-    /// The most used first, and how often each is used.
-    pub uses: IndexMap<Mark, u32>,
+    /// The marks that have macros, the most used first.
+    pub uses: Uses,
+    /// For each of them the mark whose ID is set after its macro was executed.
+    left: IndexMap<Mark, Mark>,
+    pub blanks: Blanks,
+}
+
+/// What macros leave as they are run one after the other.
+#[derive(Clone, Copy)]
+pub struct Setting {
+    /// The mark whose ID is set.
+    pub set: Option<Mark>,
+    /// Whether the sequence in which the last one runs goes on.
+    pub is_open: bool,
 }
 
 impl Macros {
-    /// The macros of a text: those of its glyphs and phrases, and of gaps that are frequent.
+    /// The macros of a text: those of its glyphs and phrases.
     pub fn new(alloc: Global, text: &Text) -> Result<Macros, AllocError> {
         let mut uses = IndexMap::new(alloc);
         count_text(text, &mut uses)?;
-        Ok(Macros { uses })
+        let blanks = find_blanks(alloc, &uses)?;
+        keep_macros(&mut uses)?;
+        let left = find_left(alloc, text, &uses)?;
+        Ok(Macros { uses, left, blanks })
     }
 
     /// The ID of the macro that prints a mark, if it has one.
-    fn id(&self, mark: Mark) -> Option<u32> {
-        u32::try_from(self.uses.get_index_of(&mark)?).ok()
+    pub fn id(&self, mark: Mark) -> Option<u32> {
+        let place = number_of_place(self.uses.get_index_of(&mark)?);
+        Some(FIRST_ID.saturating_sub(place))
+    }
+
+    /// The mark whose ID the macro of a mark leaves set.
+    pub fn left(&self, mark: Mark) -> Mark {
+        self.left.get(&mark).copied().unwrap_or(mark)
+    }
+
+    /// What is set once the macro of a mark ran before the rest of some marks: its own ID where it runs once more. At their end the
+    /// sequence goes on as it is said.
+    fn setting_after(&self, mark: Mark, rest: &[Mark], goes_on: bool) -> Setting {
+        let left = if self.first_with_macro(rest) == Some(mark) {
+            mark
+        } else {
+            self.left(mark)
+        };
+        Setting {
+            set: Some(left),
+            is_open: match rest.first() {
+                Some(next) => self.id(*next).is_some(),
+                None => goes_on,
+            },
+        }
+    }
+
+    /// The first of some marks that has a macro.
+    fn first_with_macro(&self, marks: &[Mark]) -> Option<Mark> {
+        for mark in marks {
+            if self.uses.contains_key(mark) {
+                return Some(*mark);
+            }
+        }
+        None
+    }
+
+    /// The mark whose ID is set after these marks, where it was that of `set` before them.
+    pub fn left_by(&self, set: Mark, marks: &[Mark]) -> Mark {
+        left_by(&self.left, set, marks)
     }
 }
 
-/// Counts the marks of a text, and keeps those that have macros.
-fn count_text(text: &Text, uses: &mut IndexMap<Mark, u32>) -> Result<(), AllocError> {
+/// Counts the marks of a text, and of the phrases that are used in it.
+pub fn count_text(text: &Text, uses: &mut Uses) -> Result<(), AllocError> {
     count_marks(&text.script.marks, uses)?;
-    count_parts(&text.phrases, uses)?;
-    keep_used(uses)
+    count_parts(&text.phrases, uses)
 }
 
 /// Counts the marks of the phrases that are used.
-fn count_parts(phrases: &[Phrase], uses: &mut IndexMap<Mark, u32>) -> Result<(), AllocError> {
+fn count_parts(phrases: &[Phrase], uses: &mut Uses) -> Result<(), AllocError> {
     // A phrase has only marks that come before it.
     for number in (0..phrases.len()).rev() {
         if uses.contains_key(&Mark::Phrase(number_of_place(number))) {
@@ -51,24 +105,8 @@ fn count_parts(phrases: &[Phrase], uses: &mut IndexMap<Mark, u32>) -> Result<(),
     Ok(())
 }
 
-/// Keeps the marks that have macros, the most used first, up to the limit.
-fn keep_used(uses: &mut IndexMap<Mark, u32>) -> Result<(), AllocError> {
-    uses.retain(|mark: &Mark, count: &mut u32| -> bool { has_macro(*mark, *count) });
-    uses.sort_by_key(|_mark, count| u32::MAX.saturating_sub(*count))?;
-    uses.truncate(MACRO_LIMIT);
-    Ok(())
-}
-
-/// Whether a mark that is used so often has a macro.
-fn has_macro(mark: Mark, count: u32) -> bool {
-    match mark {
-        Mark::Glyph(_) | Mark::Phrase(_) => true,
-        Mark::Gap(_) => count >= GAP_USES,
-    }
-}
-
 /// Counts marks.
-fn count_marks(marks: &[Mark], uses: &mut IndexMap<Mark, u32>) -> Result<(), AllocError> {
+fn count_marks(marks: &[Mark], uses: &mut Uses) -> Result<(), AllocError> {
     for mark in marks {
         let count = uses.entry(*mark)?.or_insert(0u32);
         *count = count.saturating_add(1);
@@ -76,27 +114,92 @@ fn count_marks(marks: &[Mark], uses: &mut IndexMap<Mark, u32>) -> Result<(), All
     Ok(())
 }
 
-/// Appends what prints marks: macros run in one sequence as far as they come in turn, and moves of the cursor.
-pub fn append_marks(macros: &Macros, marks: &[Mark], out: &mut Vec<u8>) -> Result<(), AllocError> {
-    let mut is_open = false;
-    for (place, mark) in marks.iter().enumerate() {
-        match macros.id(*mark) {
-            Some(id) => {
-                append_start(is_open, out)?;
-                is_open = has_macro_at(macros, marks, place.saturating_add(1));
-                append_run(id, is_open, out)?;
-            }
-            None => append_gap(*mark, out)?,
+/// The characters that make the gaps among marks that are used so often.
+fn find_blanks(alloc: Global, uses: &Uses) -> Result<Blanks, AllocError> {
+    let mut gaps = IndexMap::new(alloc);
+    count_gaps(uses, &mut gaps)?;
+    Blanks::new(gaps)
+}
+
+/// Takes the gaps out of marks, with how often each is used.
+fn count_gaps(uses: &Uses, gaps: &mut IndexMap<i32, u32>) -> Result<(), AllocError> {
+    for (mark, count) in uses.iter() {
+        if let Mark::Gap(gap) = *mark {
+            gaps.insert(gap, *count)?;
         }
     }
     Ok(())
 }
 
-/// Whether there is a mark at a place that has a macro.
-fn has_macro_at(macros: &Macros, marks: &[Mark], place: usize) -> bool {
-    match marks.get(place) {
-        Some(mark) => macros.id(*mark).is_some(),
-        None => false,
+/// Keeps the marks that have macros, the most used first.
+fn keep_macros(uses: &mut Uses) -> Result<(), AllocError> {
+    uses.retain(|mark: &Mark, _count: &mut u32| -> bool { !mark.is_gap() });
+    uses.sort_by_key(|_mark, count| u32::MAX.saturating_sub(*count))
+}
+
+/// Appends what prints marks, where the ID of this one is set before: macros run in one sequence as far as they come in turn, and
+/// gaps. The last sequence goes on after the marks if it is said so. Says what is set then.
+pub fn append_marks(
+    macros: &Macros,
+    marks: &[Mark],
+    set: Option<Mark>,
+    goes_on: bool,
+    out: &mut Vec<u8>,
+) -> Result<Setting, AllocError> {
+    let mut setting = Setting {
+        set,
+        is_open: false,
+    };
+    for (place, mark) in marks.iter().enumerate() {
+        let rest = marks.get(place.saturating_add(1)..).unwrap_or(&[]);
+        match macros.id(*mark) {
+            Some(id) => {
+                append_id_unless_set(*mark, id, setting, out)?;
+                setting = macros.setting_after(*mark, rest, goes_on);
+                append_run(setting, setting.set == Some(macros.left(*mark)), out)?;
+            }
+            None => append_gap(macros, *mark, out)?,
+        }
+    }
+    Ok(setting)
+}
+
+/// Appends the start of a sequence, where none is open, and in it the ID of the macro of a mark, where it isn't set.
+fn append_id_unless_set(
+    mark: Mark,
+    id: u32,
+    setting: Setting,
+    out: &mut Vec<u8>,
+) -> Result<(), AllocError> {
+    append_start(setting.is_open, out)?;
+    if setting.set == Some(mark) {
+        Ok(())
+    } else {
+        append_id(id, b"y", out)
+    }
+}
+
+/// Appends what runs the macro whose ID is set, so that this is set after it: an execution where that is what the macro leaves, and
+/// else a call, which puts back the ID.
+fn append_run(after: Setting, is_left: bool, out: &mut Vec<u8>) -> Result<(), AllocError> {
+    out.push(if is_left { b'2' } else { b'3' })?;
+    out.push(if after.is_open { b'x' } else { b'X' })?;
+    Ok(())
+}
+
+/// Appends what sets the ID of the macro of a mark, which ends a sequence that may be open.
+pub fn append_set(
+    macros: &Macros,
+    mark: Mark,
+    is_open: bool,
+    out: &mut Vec<u8>,
+) -> Result<(), AllocError> {
+    match macros.id(mark) {
+        Some(id) => {
+            append_start(is_open, out)?;
+            append_id(id, b"Y", out)
+        }
+        None => Ok(()),
     }
 }
 
@@ -109,17 +212,23 @@ fn append_start(is_open: bool, out: &mut Vec<u8>) -> Result<(), AllocError> {
     }
 }
 
-/// Appends what runs the macro of an ID, in a sequence that goes on after it or ends.
-fn append_run(id: u32, goes_on: bool, out: &mut Vec<u8>) -> Result<(), AllocError> {
+/// Appends the ID of a macro, and the letter that sets it.
+fn append_id(id: u32, letter: &[u8], out: &mut Vec<u8>) -> Result<(), AllocError> {
     append_labelled(b"", id, out)?;
-    out.extend_from_slice(if goes_on { b"y2x" } else { b"y2X" })
+    out.extend_from_slice(letter)
 }
 
-/// Appends the move of the cursor for a gap.
-fn append_gap(mark: Mark, out: &mut Vec<u8>) -> Result<(), AllocError> {
-    match mark {
-        Mark::Gap(gap) => append_move(gap, out),
-        Mark::Glyph(_) | Mark::Phrase(_) => Ok(()),
+/// Appends what makes the gap that a mark is: its character, or else a move.
+fn append_gap(macros: &Macros, mark: Mark, out: &mut Vec<u8>) -> Result<(), AllocError> {
+    let Mark::Gap(gap) = mark else {
+        return Ok(());
+    };
+    match macros.blanks.code(gap) {
+        Some(code) => {
+            out.push(code)?;
+            Ok(())
+        }
+        None => append_move(gap, out),
     }
 }
 

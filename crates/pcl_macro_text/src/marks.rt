@@ -15,6 +15,16 @@ pub enum Mark {
     Phrase(u32),
 }
 
+impl Mark {
+    /// Whether it prints nothing.
+    pub fn is_gap(self) -> bool {
+        match self {
+            Mark::Gap(_) => true,
+            Mark::Glyph(_) | Mark::Phrase(_) => false,
+        }
+    }
+}
+
 /// A line of letters.
 #[derive(Clone, Copy)]
 pub struct Line {
@@ -41,6 +51,17 @@ impl Script {
             lines: Vec::new(alloc),
             marks: Vec::new(alloc),
         }
+    }
+
+    /// Ends a line where this one stands, after all marks so far.
+    pub fn end_line(&mut self, line: &Line) -> Result<(), AllocError> {
+        self.lines.push(Line {
+            page: line.page,
+            row: line.row,
+            start: line.start,
+            end: self.marks.len(),
+        })?;
+        Ok(())
     }
 
     /// The marks of a line, which begin at this place.

@@ -1,6 +1,7 @@
 //! Phrases: marks that often stand in turn, and that one macro prints.
 
-use crate::marks::{Line, Mark, Script};
+use crate::macros::{Uses, count_text};
+use crate::marks::{Mark, Script};
 use indexmap::{IndexMap, IndexSet};
 use pcl_patterns::number_of_place;
 use std::alloc::{AllocError, Global};
@@ -8,8 +9,20 @@ use std::alloc::{AllocError, Global};
 /// How often two marks in turn are joined, in rounds: a phrase of the last one may have sixteen marks.
 const ROUNDS: u32 = 4;
 
-/// Two marks that stand in turn so often are a phrase: its macro takes some 30 bytes, and each use saves five.
-const LEAST_USES: u32 = 8;
+/// Two marks in turn that would save so many bytes are a phrase: its macro takes some 37 bytes, and longer phrases take uses from it.
+const LEAST_SAVED: u32 = 48;
+
+/// About how many bytes it takes to run a macro.
+const RUN_BYTES: u32 = 8;
+
+/// How many a gap to the right takes, between two sequences that run macros; one to the left takes a move.
+const GAP_BYTES: u32 = 4;
+
+/// How many it takes to run the same macro once more.
+const AGAIN_BYTES: u32 = 2;
+
+/// What the macro of a phrase takes around its marks.
+const DEFINITION_BYTES: u32 = 19;
 
 /// How many phrases there are, at most.
 const PHRASE_LIMIT: usize = 10_000;
@@ -32,6 +45,25 @@ struct Pair {
     second: Mark,
 }
 
+impl Pair {
+    /// How many bytes are saved each time where it is joined.
+    fn saved(self) -> u32 {
+        if self.first == self.second {
+            AGAIN_BYTES
+        } else {
+            bytes_of(self.first).min(bytes_of(self.second))
+        }
+    }
+}
+
+/// About how many bytes a mark takes.
+fn bytes_of(mark: Mark) -> u32 {
+    match mark {
+        Mark::Gap(gap) if gap > 0 => GAP_BYTES,
+        _ => RUN_BYTES,
+    }
+}
+
 /// The lines of a job, and the phrases in them.
 #[derive(Drop)]
 pub struct Text {
@@ -51,6 +83,7 @@ pub fn find_phrases(alloc: Global, script: Script) -> Result<Text, AllocError> {
     for _ in 0..ROUNDS {
         text.join(alloc)?;
     }
+    text.drop_dear(alloc)?;
     Ok(text)
 }
 
@@ -68,11 +101,11 @@ impl Text {
         Ok(())
     }
 
-    /// The pairs that are frequent, and how often each would be joined.
+    /// The pairs that are frequent, and how many bytes are saved where each is joined.
     fn frequent_pairs(&self, alloc: Global) -> Result<IndexMap<Pair, u32>, AllocError> {
         let mut counts = count_pairs(alloc, &self.script)?;
         self.keep_frequent(&mut counts);
-        // A pair that is frequent may overlap another that is more so: what counts is how often it would be joined.
+        // A pair that is frequent may overlap another that saves more: what counts is where it would be joined.
         let mut uses = count_uses(alloc, &self.script, &counts)?;
         self.keep_frequent(&mut uses);
         Ok(uses)
@@ -92,7 +125,7 @@ impl Text {
 
     /// Drops pairs that aren't frequent, and those past the limit.
     fn keep_frequent(&self, counts: &mut IndexMap<Pair, u32>) {
-        counts.retain(|_pair: &Pair, count: &mut u32| -> bool { *count >= LEAST_USES });
+        counts.retain(|_pair: &Pair, saved: &mut u32| -> bool { *saved >= LEAST_SAVED });
         counts.truncate(PHRASE_LIMIT.saturating_sub(self.phrases.len()));
     }
 
@@ -152,12 +185,7 @@ impl Text {
             let marks = self.script.marks_of(line, start);
             start = line.end;
             self.append_joined(marks, pairs, &mut script.marks)?;
-            script.lines.push(Line {
-                page: line.page,
-                row: line.row,
-                start: line.start,
-                end: script.marks.len(),
-            })?;
+            script.end_line(line)?;
         }
         Ok(script)
     }
@@ -184,7 +212,116 @@ impl Text {
     }
 }
 
-/// How often each two marks stand in turn on a line.
+/// Phrases that aren't used often enough.
+impl Text {
+    /// Puts the marks of phrases whose macros take more bytes than they save in their place.
+    fn drop_dear(&mut self, alloc: Global) -> Result<(), AllocError> {
+        let dear = self.find_dear(alloc)?;
+        self.unfold(alloc, &dear)
+    }
+
+    /// The phrases whose macros take more bytes than they save.
+    fn find_dear(&self, alloc: Global) -> Result<IndexSet<Mark>, AllocError> {
+        let mut uses = IndexMap::new(alloc);
+        count_text(self, &mut uses)?;
+        let mut dear = IndexSet::new(alloc);
+        self.add_dear(&uses, &mut dear)?;
+        Ok(dear)
+    }
+
+    /// Adds the phrases whose macros take more bytes than they save, where each is used so often.
+    fn add_dear(&self, uses: &Uses, dear: &mut IndexSet<Mark>) -> Result<(), AllocError> {
+        for (number, phrase) in self.phrases.iter().enumerate() {
+            let mark = Mark::Phrase(number_of_place(number));
+            if phrase.is_dear(uses.get(&mark).copied().unwrap_or(0)) {
+                dear.insert(mark)?;
+            }
+        }
+        Ok(())
+    }
+
+    /// Puts the marks of these phrases in their place, in other phrases and in the lines.
+    fn unfold(&mut self, alloc: Global, dear: &IndexSet<Mark>) -> Result<(), AllocError> {
+        self.unfold_phrases(alloc, dear)?;
+        self.script = self.unfolded_script(alloc, dear)?;
+        Ok(())
+    }
+
+    /// Puts the marks of these phrases in their place in other phrases. A phrase has only marks that come before it.
+    fn unfold_phrases(&mut self, alloc: Global, dear: &IndexSet<Mark>) -> Result<(), AllocError> {
+        for number in 0..self.phrases.len() {
+            let mut marks = Vec::new(alloc);
+            self.append_unfolded(&self.phrases[number].marks, dear, &mut marks)?;
+            self.phrases[number].marks = marks;
+        }
+        Ok(())
+    }
+
+    /// The lines with the marks of these phrases in their place.
+    fn unfolded_script(&self, alloc: Global, dear: &IndexSet<Mark>) -> Result<Script, AllocError> {
+        let mut script = Script::new(alloc);
+        let mut start = 0;
+        for line in self.script.lines.iter() {
+            let marks = self.script.marks_of(line, start);
+            start = line.end;
+            self.append_unfolded(marks, dear, &mut script.marks)?;
+            script.end_line(line)?;
+        }
+        Ok(script)
+    }
+
+    /// Appends marks, with the marks of these phrases in their place.
+    fn append_unfolded(
+        &self,
+        marks: &[Mark],
+        dear: &IndexSet<Mark>,
+        out: &mut Vec<Mark>,
+    ) -> Result<(), AllocError> {
+        for mark in marks {
+            self.append_mark_unfolded(*mark, dear.contains(mark), out)?;
+        }
+        Ok(())
+    }
+
+    /// Appends a mark, or the marks of a phrase in its place.
+    fn append_mark_unfolded(
+        &self,
+        mark: Mark,
+        is_dear: bool,
+        out: &mut Vec<Mark>,
+    ) -> Result<(), AllocError> {
+        match mark {
+            Mark::Phrase(number) if is_dear => match self.phrases.get(number as usize) {
+                Some(phrase) => out.extend_from_slice(&phrase.marks),
+                None => Ok(()),
+            },
+            _ => {
+                out.push(mark)?;
+                Ok(())
+            }
+        }
+    }
+}
+
+impl Phrase {
+    /// Whether its macro takes more bytes than it saves where it is used so often.
+    fn is_dear(&self, uses: u32) -> bool {
+        let bytes = bytes_of_all(&self.marks);
+        let saved = bytes.saturating_sub(RUN_BYTES).saturating_mul(uses);
+        saved < bytes.saturating_add(DEFINITION_BYTES)
+    }
+}
+
+/// About how many bytes marks take.
+fn bytes_of_all(marks: &[Mark]) -> u32 {
+    let mut bytes: u32 = 0;
+    for mark in marks {
+        bytes = bytes.saturating_add(bytes_of(*mark));
+    }
+    bytes
+}
+
+/// How many bytes each two marks that stand in turn on a line would save.
 fn count_pairs(alloc: Global, script: &Script) -> Result<IndexMap<Pair, u32>, AllocError> {
     let mut counts = IndexMap::new(alloc);
     let mut start = 0;
@@ -206,14 +343,14 @@ fn count_pairs_on_line(marks: &[Mark], counts: &mut IndexMap<Pair, u32>) -> Resu
     Ok(())
 }
 
-/// Counts a pair.
+/// Counts what is saved where a pair is joined.
 fn count_pair(pair: Pair, counts: &mut IndexMap<Pair, u32>) -> Result<(), AllocError> {
-    let count = counts.entry(pair)?.or_insert(0u32);
-    *count = count.saturating_add(1);
+    let saved = counts.entry(pair)?.or_insert(0u32);
+    *saved = saved.saturating_add(pair.saved());
     Ok(())
 }
 
-/// How often each of these pairs would be joined.
+/// How many bytes are saved where each of these pairs is joined.
 fn count_uses(
     alloc: Global,
     script: &Script,
@@ -229,7 +366,7 @@ fn count_uses(
     Ok(uses)
 }
 
-/// Counts how often these pairs would be joined on a line.
+/// Counts what is saved where these pairs are joined on a line.
 fn count_uses_on_line(
     marks: &[Mark],
     pairs: &IndexMap<Pair, u32>,
@@ -247,7 +384,7 @@ fn count_uses_on_line(
     Ok(())
 }
 
-/// The pair at a place of a line, if it is to be joined: one of these, and no less frequent than the next one, which overlaps it.
+/// The pair at a place of a line, if it is to be joined: one of these, which saves no less than the next one, which overlaps it.
 fn pair_at(marks: &[Mark], place: usize, pairs: &IndexMap<Pair, u32>) -> Option<Pair> {
     let pair = two_at(marks, place)?;
     let count = *pairs.get(&pair)?;
