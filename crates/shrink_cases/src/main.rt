@@ -6,8 +6,8 @@
 //! four dots `ESC*t75R` and `ESC*r600s0A` save a byte each; with squares of two dots nothing is saved around the rows.
 //!
 //! The line of ninety letters is the example of docs/GLYPHS.md with all letters 24 dots apart: 166 bytes beside its codes and
-//! moves, `ESC*p34x10Y` 9, and 90 codes. At 600 dots per inch it goes by macros: 9 bytes before them, 129 for the letter's, 23 for
-//! that of two letters and 31 for that of eight, 37 of the page text, `ESC*b3M` 5, `ESC*p68x20Y` 9, twelve runs 51, and 3 after.
+//! moves, `ESC*p34x10Y` 9, and 90 codes. At 600 dots per inch it goes by macros: 9 bytes before them, 29 for that of two letters,
+//! 123 for the letter's, 37 of the page text, `ESC*b3M` 5, `ESC*p68x20Y` 9, `ESC&f32767y` 9, 45 runs 90, and 3 after.
 //!
 //! A second page of the line at 300 dots per inch takes 137 bytes: the page text 37, the move 9, 90 codes, the form feed. After a reset,
 //! 2, or the universal exit, 28, the font goes again, 124. A page with a dot takes 44 as a raster.
