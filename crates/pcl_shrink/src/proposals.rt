@@ -43,7 +43,7 @@ pub fn propose(alloc: Global, job: &[u8], dpi: Dpi) -> Result<Proposed, JobFault
 }
 
 /// The shorter of the texts of the pages, with what is asked around them, and of a job with letters found by this: none where neither is
-/// shorter than the job.
+/// shorter than the job, nor where the job counts on what stays in the printer, so that only the job itself asks for the same.
 fn proposal_of(
     alloc: Global,
     job: &[u8],
@@ -53,9 +53,12 @@ fn proposal_of(
 ) -> Result<Option<Proposal>, JobFault>
     ensures { RefusesWith dpi job.now result }
 {
+    let Found { shapes, asks } = found;
+    if asks.lasts {
+        return Ok(None);
+    }
     let by = raster_kind(&texts);
     let plain = shortest_texts(alloc, texts)?;
-    let Found { shapes, asks } = found;
     match propose_letters(alloc, job, dpi, &asks, &plain, shapes)? {
         Some(job) => Ok(Some(Proposal {
             job,
