@@ -28,8 +28,8 @@ test:
 	rt ci
 
 # Makes the first allocation of the program crates/memory_cases fail, then the second, and so on, until a run in which memory ran out
-# nowhere; then the same of runs of pclmin (process/memory.py). It takes two minutes once memory_cases is proved. Needs Python 3, a C
-# compiler, and the program that `make build` left.
+# nowhere; then the same of runs and batches of pclmin (process/memory.py). It takes three minutes once memory_cases is proved. Needs
+# Python 3, a C compiler, and the program that `make build` left.
 test-memory:
 	./lanes.py memory_cases
 	process/memory.py $(PROGRAM) crates/memory_cases/out/memory_cases crates/memory_cases/stdout

@@ -13,7 +13,7 @@ texts.txt has what is written whole: help and usage faults. A line of `$ `, a co
 written stands below it, up to the next one and the line of `#` before it: by standard output where the status is 0, else by standard
 error, while the other gets nothing.
 
-The limits of memory and the terminal have tests of their own below the table.
+The limits of memory, what is long, and the terminal have tests of their own below the tables.
 """
 import os
 import pty
