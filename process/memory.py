@@ -5,9 +5,9 @@
 
 PROGRAM is a built pclmin: each of its runs either does what it does with ample memory, or says `pclmin: out of memory` with status 3
 and has written nothing; and files are as they were. A batch of three jobs goes on after one that ran out of memory, which its report
-names as failed, or says so and ends: either by status 3, and each file that is there then is whole, a job only with its digests and
-its certificate, and only a job that has them is called written. CASES is the built program of crates/memory_cases, which makes each call once
-more where memory ran out: it always prints what the file EXPECTED has. Needs a C compiler.
+names as failed, or says so and ends: either by status 3, and each file that is there then is whole, a job only with its digests, and
+only a job that has them is called written. CASES is the built program of crates/memory_cases, which makes each call once more where
+memory ran out: it always prints what the file EXPECTED has. Needs a C compiler.
 """
 
 import pathlib

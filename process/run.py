@@ -325,7 +325,8 @@ def main():
         copy = shutil.copy(program, os.path.join(folder, "program"))
         os.chmod(copy, 0o755)
         wrong, count = [], 0
-        for check in (check_table, check_texts, check_owners, check_lengths, check_sizes, check_memory, check_terminal, check_spared_terminal):
+        for check in (check_table, check_texts, check_owners, check_lengths, check_sizes, check_memory, check_terminal,
+                      check_spared_terminal):
             faults, cases_of_it = check(copy)
             wrong += faults
             count += cases_of_it
