@@ -28,27 +28,28 @@ test:
 	rt ci
 
 # Makes the first allocation of the program crates/memory_cases fail, then the second, and so on, until a run in which memory ran out
-# nowhere; then the same of runs of pclmin (process/memory.py). It takes two minutes once memory_cases is proved. Needs Python 3, a C
-# compiler, and the program that `make build` left.
+# nowhere; then the same of runs and batches of pclmin (process/memory.py). It takes three minutes once memory_cases is proved. Needs
+# Python 3, a C compiler, and the program that `make build` left.
 test-memory:
 	./lanes.py memory_cases
 	process/memory.py $(PROGRAM) crates/memory_cases/out/memory_cases crates/memory_cases/stdout
 
-# Compares what the process says and its status where files, standard streams and memory fail, and what a terminal is told
-# (process/cases.txt), and makes each call of the system in some runs fail in turn (process/calls.py). Needs Python 3, a C compiler, and
-# the program that `make build` left.
+# Compares what the process says and its status where files, standard streams and memory fail, what a terminal is told
+# (process/cases.txt), and help and usage faults whole (process/texts.txt), and makes each call of the system in some runs fail in turn
+# (process/calls.py). Needs Python 3, a C compiler, and the program that `make build` left.
 test-process:
 	process/run.py $(PROGRAM)
 	process/calls.py $(PROGRAM)
 
 # All that gets the filter to people: test-cups, test-batch and test-cupsd, and then the manual pages by their linter, the completions
-# in each shell, what the console blocks of the documents print and where their links lead, a second checker beside `check`, and the
-# Debian package, installed and purged. Needs root, Python 3, mandoc, zsh, fish, the packages that home/batch.py and cups/server.py
-# name, and the program that `make build` left.
+# in each shell, what the console blocks of the documents print and where their links lead, what `explain` and `--help` say beside the
+# documents, a second checker beside `check`, and the Debian package, installed and purged. Needs root, Python 3, mandoc, zsh, fish, the
+# packages that home/batch.py and cups/server.py name, and the program that `make build` left.
 test-home: test-cups test-batch test-cupsd
 	mandoc -T lint -W warning man/pclmin.1 man/pclmin-cups.8
 	home/completions.sh
 	home/blocks.py $(PROGRAM) README.md CONTRIBUTING.md CHANGELOG.md docs/*.md */README.md
+	home/said.py $(PROGRAM)
 	home/sceptic.py $(PROGRAM)
 	home/deb.sh try
 

@@ -9,7 +9,11 @@ The command runs in a folder of its own, which has the files of FILES; `pclmin` 
 with `#` say nothing. Standard input is empty and standard output is a file, where the command doesn't say otherwise. Where root
 runs it, files that can't be read or written are opened by nobody's rights.
 
-The limits of memory and the terminal have tests of their own below the table.
+texts.txt has what is written whole: help and usage faults. A line of `$ `, a command, `=>` and the status begins each, and what is
+written stands below it, up to the next one and the line of `#` before it: by standard output where the status is 0, else by standard
+error, while the other gets nothing.
+
+The limits of memory, what is long, and the terminal have tests of their own below the tables.
 """
 import os
 import pty
@@ -31,6 +35,19 @@ OUT_OF_MEMORY = "pclmin: out of memory"
 OTHER_OWNER = b"pclmin: cannot write: the file is another user's, and would become this one's\n"
 # As many bytes a job may have.
 LENGTH_LIMIT = 2_147_483_647
+# A blank Letter page as `min` writes it, its image at 600 dots per inch, and the bytes of its certificate: four for the length of its
+# text, two for its rows, and eight numbers of four bytes for each row and the end.
+BLANK = b"\x1b&l1x2a0E\x1b*p0x0Y\x1b*t300R\x1b*r2400s0A\x1b*rC\x0c"
+BLANK_IMAGE = b"P4\n4800 6600\n" + bytes(600 * 6600)
+BLANK_CERTIFICATE = 4 + 2 + 8 * 4 * 3301
+# What is long: words, a job, what is written of it, and how many bytes are held at once. A page that says neither copies nor size
+# isn't shrunk to one that does.
+LONG = [
+    (["pbm", "--dpi", "600"], b"\x0c" * 4, BLANK_IMAGE * 4, 4 * len(BLANK_IMAGE)),
+    (["min"], bytes(17_000_000) + DOT, WRITTEN, 17_000_000),
+    (["shrink"], bytes(17_000_000) + DOT, WRITTEN.replace(b"1x2a", b""), 17_000_000),
+    (["min", "--cert", "long.cert"], b"\x0c" * 256, b"\x1bE" + BLANK * 256 + b"\x1bE", 256 * BLANK_CERTIFICATE),
+]
 
 
 def cases():
@@ -42,6 +59,17 @@ def cases():
                 command, wanted = line.rsplit(" => ", 1)
                 status, _, said = wanted.partition(" |")
                 yield number, command.strip(), int(status), said.strip()
+
+
+def texts():
+    """The texts of the other table: number of the line, command, status and what is written, without the last line feeds."""
+    with open(os.path.join(HERE, "texts.txt")) as table:
+        lines = [(number, line) for number, line in enumerate(table, 1) if not line.startswith("#")]
+    begins = [place for place, (_, line) in enumerate(lines) if line.startswith("$ ")]
+    for begin, end in zip(begins, begins[1:] + [len(lines)]):
+        number, line = lines[begin]
+        command, status = line[2:].rsplit(" => ", 1)
+        yield number, command, int(status), "".join(text for _, text in lines[begin + 1:end]).rstrip("\n")
 
 
 def fill(folder, program):
@@ -70,17 +98,22 @@ def without_rights():
         os.setuid(NOBODY)
 
 
-def run_case(program, command):
-    """The status of a command, and what it says on standard error."""
+def run_in_folder(program, command, out):
+    """What a command did in a folder of its own; its standard output goes to out. None where it doesn't end."""
     with tempfile.TemporaryDirectory() as folder:
         fill(folder, program)
         try:
-            done = subprocess.run(
+            return subprocess.run(
                 ["timeout", "20", "bash", "-c", 'PATH="$PWD:$PATH"; ' + command], cwd=folder, stdin=subprocess.DEVNULL,
-                stdout=subprocess.DEVNULL, stderr=subprocess.PIPE, preexec_fn=without_rights, timeout=60, check=False)
+                stdout=out, stderr=subprocess.PIPE, preexec_fn=without_rights, timeout=60, check=False)
         except subprocess.TimeoutExpired:
-            return "no end", ""
-        return done.returncode, done.stderr.decode().strip()
+            return None
+
+
+def run_case(program, command):
+    """The status of a command, and what it says on standard error."""
+    done = run_in_folder(program, command, subprocess.DEVNULL)
+    return (done.returncode, done.stderr.decode().strip()) if done else ("no end", "")
 
 
 def check_table(program):
@@ -91,6 +124,19 @@ def check_table(program):
         came = run_case(program, command)
         if came != (status, said):
             wrong.append(f"cases.txt, line {number}: {command}\n  wanted {status} | {said}\n  came   {came[0]} | {came[1]}")
+    return wrong, count
+
+
+def check_texts(program):
+    """The faults of the texts, and how many there are."""
+    wrong, count = [], 0
+    for number, command, status, text in texts():
+        count += 1
+        done = run_in_folder(program, command, subprocess.PIPE)
+        came = (done.returncode, done.stdout.decode(), done.stderr.decode()) if done else ("no end", "", "")
+        wanted = (status, text + "\n", "") if status == 0 else (status, "", text + "\n")
+        if came != wanted:
+            wrong.append(f"texts.txt, line {number}: {command}\n  wanted {wanted}\n  came   {came}")
     return wrong, count
 
 
@@ -160,6 +206,48 @@ def check_lengths(program):
             if (done.returncode, done.stdout, done.stderr) != wanted:
                 wrong.append(f"a job of {length} bytes: {done}")
     return wrong, 2
+
+
+def run_long(folder, program, words, job, limit):
+    """What a run within so many KB does that replaces two files: status, what is said, and the files after it."""
+    for name, content in (("long.pcl", job), ("long.out", b"kept"), ("long.cert", b"kept")):
+        with open(os.path.join(folder, name), "wb") as file:
+            file.write(content)
+    done = subprocess.run(
+        ["sh", "-c", 'ulimit -v "$0"; exec "$@"', str(limit), program] + words + ["-o", "long.out", "long.pcl"], cwd=folder,
+        stdin=subprocess.DEVNULL, capture_output=True, timeout=60, check=False)
+    files = {}
+    for name in os.listdir(folder):
+        with open(os.path.join(folder, name), "rb") as file:
+            files[name] = file.read()
+    return done.returncode, done.stderr.decode().strip(), done.stdout, files
+
+
+def proves(folder, program, certificate):
+    """Whether a certificate of 256 blank pages is as long as it has to be, and proves what was written."""
+    done = subprocess.run([program, "check", "long.pcl", "long.out", "long.cert"], cwd=folder, capture_output=True, timeout=60, check=False)
+    return len(certificate) == 12 + 256 * BLANK_CERTIFICATE and done.stdout == b"proved\n"
+
+
+def check_sizes(program):
+    """What is long is done with plenty of memory. Within less than what is held at once, memory runs out and files stay as they were."""
+    wrong, count = [], 0
+    for words, job, written, held in LONG:
+        for limit in (PLENTY, held // 1024, held * 3 // 4 // 1024, held // 2 // 1024):
+            with tempfile.TemporaryDirectory() as folder:
+                count += 1
+                status, said, out, files = run_long(folder, program, words, job, limit)
+                certificate = files["long.cert"]
+                if limit != PLENTY:
+                    as_it_was = {"long.pcl": job, "long.out": b"kept", "long.cert": b"kept"}
+                    is_right = (status, said, out, files) == (3, OUT_OF_MEMORY, b"", as_it_was)
+                else:
+                    is_right = (status, said, out, files["long.out"], len(files)) == (0, "", b"", written, 3)
+                    is_right &= proves(folder, program, certificate) if "--cert" in words else certificate == b"kept"
+                if not is_right:
+                    sizes = {name: len(content) for name, content in files.items()}
+                    wrong.append(f"{' '.join(words)} of {len(job)} bytes within {limit} KB: {status}, {said}, files {sizes}")
+    return wrong, count
 
 
 def run_on_terminal(program, words, job):
@@ -237,7 +325,8 @@ def main():
         copy = shutil.copy(program, os.path.join(folder, "program"))
         os.chmod(copy, 0o755)
         wrong, count = [], 0
-        for check in (check_table, check_owners, check_lengths, check_memory, check_terminal, check_spared_terminal):
+        for check in (check_table, check_texts, check_owners, check_lengths, check_sizes, check_memory, check_terminal,
+                      check_spared_terminal):
             faults, cases_of_it = check(copy)
             wrong += faults
             count += cases_of_it

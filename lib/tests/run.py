@@ -22,6 +22,10 @@ sys.dont_write_bytecode = True
 import pclmin  # noqa: E402
 
 NAMES = ("fault", "kind", "place", "job", "resolution", "holds", "pages")
+# What is said of numbers that no call takes.
+RESOLUTION = "pclmin: the resolution is 300 or 600, or 0 for the first at which the job is accepted\n"
+PAGES = "pclmin: pages are 1 to 256, the last no earlier than the first, or 0 and 0 for all\n"
+FORMAT = "pclmin: the format of a certificate is 1 or 2, or 0 for none\n"
 
 # Two pages, a page of two copies on another size, a raster that only 600 dots per inch takes, and jobs that are refused.
 JOBS = {
@@ -182,11 +186,12 @@ def compare_certificates(runner, resolution, certificate_format, job):
 
 def check_arguments(runner):
     """Numbers and pointers that no call takes, and pointers that are null where there are no bytes."""
-    for words in (("shrink", "301", "dot.pcl"), ("preview", "300", "0", "1", "dot.pcl"), ("preview", "300", "2", "1", "dot.pcl"),
-                  ("preview", "300", "1", "257", "dot.pcl"), ("min", "300", "3", "dot.pcl"), ("same", "72", "dot.pcl", "dot.pcl"),
-                  ("check", "1", "dot.pcl", "dot.pcl", "dot.pcl"), ("explain", "4294967295", "dot.pcl")):
+    for line, *words in ((RESOLUTION, "shrink", "301", "dot.pcl"), (PAGES, "preview", "300", "0", "1", "dot.pcl"),
+                         (PAGES, "preview", "300", "2", "1", "dot.pcl"), (PAGES, "preview", "300", "1", "257", "dot.pcl"),
+                         (FORMAT, "min", "300", "3", "dot.pcl"), (RESOLUTION, "same", "72", "dot.pcl", "dot.pcl"),
+                         (RESOLUTION, "check", "1", "dot.pcl", "dot.pcl", "dot.pcl"), (RESOLUTION, "explain", "4294967295", "dot.pcl")):
         answer = runner.answers(*words)
-        runner.tell(answer.fault == pclmin.WRONG_ARGUMENT and answer.line.startswith("pclmin: "), f"{words} are wrong: {shown(answer)}")
+        runner.tell(answer.fault == pclmin.WRONG_ARGUMENT and answer.line == line, f"{words} are wrong: {shown(answer)}")
         runner.tell(answer.bytes == b"" and answer.kind == 0 and answer.job == 0, f"{words} make nothing")
     for words in (("preview", "300", "0", "0", "-"), ("min", "300", "1", "-"), ("shrink", "0", "-"), ("same", "600", "-", "-"),
                   ("page_count", "300", "-"), ("pages", "300", "-"), ("explain", "300", "-"), ("check", "300", "-", "-", "-")):
