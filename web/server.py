@@ -56,7 +56,7 @@ def call_in_process(call, numbers, job):
     words = [sys.executable, os.path.abspath(__file__), "--call", str(SECONDS), call, *map(str, numbers)]
     try:
         done = subprocess.run(words, input=job, stdout=subprocess.PIPE, stderr=subprocess.DEVNULL, timeout=4 * SECONDS)
-    except subprocess.TimeoutExpired:
+    except (subprocess.TimeoutExpired, OSError):
         return None
     return done.stdout if done.returncode == 0 else None
 
@@ -115,7 +115,7 @@ class Handler(http.server.BaseHTTPRequestHandler):
 
     server_version, sys_version = "pclmin", ""
     protocol_version = "HTTP/1.1"
-    # The seconds in which a request comes, or its answer is taken.
+    # The seconds in which a request comes, and then its job, and in which its answer is taken.
     timeout = 60
     running = threading.BoundedSemaphore(CALLS)
     room = Room(HELD)
@@ -126,12 +126,16 @@ class Handler(http.server.BaseHTTPRequestHandler):
         self.rfile = io.BufferedReader(UntilDeadline(self.connection))
 
     def handle_one_request(self):
-        self.rfile.raw.deadline = time.monotonic() + self.timeout
+        self.wait_from_now()
         try:
             super().handle_one_request()
         except OSError:
             # Who asked has gone away.
             self.close_connection = True
+
+    def wait_from_now(self):
+        """Sets the time at which what is awaited must have come."""
+        self.rfile.raw.deadline = time.monotonic() + self.timeout
 
     def do_GET(self):
         if not self.is_ours():
@@ -182,6 +186,7 @@ class Handler(http.server.BaseHTTPRequestHandler):
 
     def job(self, length):
         """The bytes that are sent."""
+        self.wait_from_now()
         try:
             job = self.rfile.read(length)
         except socket.timeout:
@@ -192,7 +197,6 @@ class Handler(http.server.BaseHTTPRequestHandler):
 
     def forget_the_rest(self):
         """Reads what still comes of a job that is refused, since who sends it looks for the answer at its end."""
-        self.close_connection = True
         while self.rfile.read1(1 << 16):
             pass
 
