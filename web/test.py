@@ -287,13 +287,14 @@ CANVAS = """(() => {
 DRAWN = "[...document.querySelectorAll('nav canvas')].every(canvas => 'drawn' in canvas.dataset)"
 # The width, the height and the greys of the page where it is smaller, and the mean grey of the first small picture.
 GREYS = """(() => {
-  const greys = canvas => [...canvas.getContext("2d").getImageData(0, 0, canvas.width, canvas.height).data].filter((_, at) => at % 4 === 0);
+  const greys = canvas =>
+    [...canvas.getContext("2d").getImageData(0, 0, canvas.width, canvas.height).data].filter((_, at) => at % 4 === 0);
   const small = greys(document.querySelector("nav canvas"));
   const canvas = element("small");
   return [canvas.width, canvas.height, greys(canvas), small.reduce((sum, grey) => sum + grey) / small.length];
 })()"""
 # Where everything stands.
-PLACES = """JSON.stringify([...document.querySelectorAll("header, header > *, #turning, #turning > *, main, nav, #view, #small, footer")]
+PLACES = """JSON.stringify([...document.querySelectorAll("header, header > *, #turning, #turning > *, main, nav, #small, footer")]
   .map(one => { const { x, y, width, height } = one.getBoundingClientRect(); return [one.id, x, y, width, height]; }))"""
 # Whether the page's button is seen in the list, whether the whole page is as wide as the window, and whether what is above is one row.
 FOLLOWED = """(() => {
@@ -361,7 +362,8 @@ def test_pages(held, browser, program, job):
     browser.value("element('dots').click()")
     for number in range(1, len(pages) + 1):
         browser.value(f"document.querySelectorAll('nav button')[{number - 1}].click()")
-        held.tell(browser.wait(f"element('view').dataset.page === '{number}' && !element('page').hidden"), f"page {number} of {job} is shown")
+        held.tell(browser.wait(f"element('view').dataset.page === '{number}' && !element('page').hidden"),
+                  f"page {number} of {job} is shown")
         image, _ = program.run("pbm", "--page", str(number), "--dpi", "auto", job)
         held.tell(browser.value(CANVAS) == hashlib.sha256(image).hexdigest(), f"page {number} of {job} has the program's dots")
     held.tell(browser.wait(DRAWN), f"{job} has small pictures")
@@ -443,7 +445,8 @@ def test_greys(held, browser, program):
     wanted = 255 * (1 - page["black_dots"] / page["dots"])
     mean = sum(greys) / len(greys)
     held.tell(abs(page["black_dots"] / page["dots"] - 0.41) < 0.01, f"41 percent are black: {page}")
-    held.tell(abs(mean - wanted) < 0.5 and abs(small - wanted) < 0.5, f"the page and its small picture are as grey as {wanted}: {mean}, {small}")
+    held.tell(abs(mean - wanted) < 0.5 and abs(small - wanted) < 0.5,
+              f"the page and its small picture are as grey as {wanted}: {mean}, {small}")
 
     def share(dot, pixel, size):
         """How much of a dot lies in a pixel so many dots wide."""
@@ -455,7 +458,8 @@ def test_greys(held, browser, program):
         x, y = chance.randrange(width), chance.randrange(height)
         black = sum(share(row, y, down) * share(dot, x, across)
                     for row in range(int(y * down), min(3300, int((y + 1) * down) + 1))
-                    for dot in range(int(x * across), min(2400, int((x + 1) * across) + 1)) if image[300 * row + dot // 8] << dot % 8 & 128)
+                    for dot in range(int(x * across), min(2400, int((x + 1) * across) + 1))
+                    if image[300 * row + dot // 8] << dot % 8 & 128)
         if abs(greys[y * width + x] - 255 * (1 - black / (across * down))) > 0.51:
             wrong.append((x, y, black, greys[y * width + x]))
     held.tell(not wrong, f"each pixel is the mean of its dots: {wrong[:5]}")
@@ -467,8 +471,8 @@ def test_keys(held, browser, program):
         file.write(MANY)
     open_job(held, browser, program, "many.pcl")
     browser.wait("element('view').dataset.page === '1' && " + DRAWN)
-    for key, page in (("PageDown", 2), ("ArrowRight", 3), ("ArrowDown", 4), ("PageUp", 3), ("ArrowLeft", 2), ("ArrowUp", 1), ("ArrowUp", 1),
-                      ("End", PAGES), ("PageDown", PAGES), ("Home", 1)):
+    for key, page in (("PageDown", 2), ("ArrowRight", 3), ("ArrowDown", 4), ("PageUp", 3), ("ArrowLeft", 2), ("ArrowUp", 1),
+                      ("ArrowUp", 1), ("End", PAGES), ("PageDown", PAGES), ("Home", 1)):
         browser.press(key)
         held.tell(browser.wait(f"element('view').dataset.page === '{page}'"), f"{key} leads to page {page}")
         said = browser.value("element('number').value + ' ' + element('count').textContent")
@@ -477,11 +481,15 @@ def test_keys(held, browser, program):
     for word, page in (("13", 13), ("999", PAGES), ("x", PAGES), ("0", 1), ("-4", 1)):
         browser.value(f"element('number').focus(); element('number').value = '{word}'")
         browser.value("element('number').dispatchEvent(new Event('change'))")
-        held.tell(browser.wait(f"element('view').dataset.page === '{page}'") and browser.value(FOLLOWED + f" && element('number').value === '{page}'"),
-                  f"the number {word} leads to page {page}")
+        held.tell(browser.wait(f"element('view').dataset.page === '{page}'"), f"the number {word} leads to page {page}")
+        held.tell(browser.value(FOLLOWED + f" && element('number').value === '{page}'"), f"the list follows the number {word}")
     for _ in range(20):
         browser.press("ArrowRight")
     held.tell(browser.wait("element('view').dataset.page === '21'"), "a key that is held leads as far as it was pressed")
+    browser.value("element('dots').click(); document.querySelectorAll('nav button')[20].focus()")
+    browser.press("ArrowDown")
+    held.tell(browser.wait("element('view').dataset.page === '22' && document.activeElement === element('pages').children[21]"),
+              "the focus goes with the list")
 
 
 def test_phone(held, browser, program):
@@ -492,7 +500,7 @@ def test_phone(held, browser, program):
     held.tell(browser.value(FITS + " && " + IN_A_ROW), f"what is above is one row of a phone: {browser.value(PLACES)}")
     held.tell(browser.value("element('pages').offsetWidth === 0 && element('small').offsetWidth > 300"), "the list is folded away")
     browser.value("element('list').click()")
-    held.tell(browser.value("element('pages').offsetWidth === 390 && element('list').getAttribute('aria-expanded') === 'true'"), "and comes")
+    held.tell(browser.value("element('pages').offsetWidth === 390 && element('list').ariaExpanded === 'true'"), "and comes")
     browser.value("document.querySelectorAll('nav button')[6].click()")
     held.tell(browser.wait("element('view').dataset.page === '7' && element('pages').offsetWidth === 0"), "and goes when a page is chosen")
     browser.value("element('next').click()")
@@ -505,9 +513,23 @@ def test_phone(held, browser, program):
     browser.resize(1280, 800)
 
 
+def test_full(held, browser, program):
+    """A job that is opened while the server has no room."""
+    room = server.Handler.room
+    in_time(lambda: room.left == server.HELD)
+    with room.taken(server.HELD):
+        browser.choose(os.path.join(program.folder, "two.pcl"))
+        time.sleep(0.5)
+        held.tell(browser.value("element('said').textContent") == "reading two.pcl ...", "a job waits for room")
+    held.tell(browser.wait("element('view').dataset.page === '1'"), "and is shown when there is some")
+    # The browser itself notes each 503.
+    browser.faults = [fault for fault in browser.faults if "status of 503" not in fault]
+
+
 def test_sample(held, browser):
     """The first page, and the job that it offers."""
-    held.tell(browser.value("!element('drop').hidden && element('sample').offsetWidth > 0"), "there is a place to drop a job, and a sample")
+    held.tell(browser.value("!element('drop').hidden && element('sample').offsetWidth > 0"),
+              "there is a place to drop a job, and a sample")
     browser.value("element('sample').click()")
     held.tell(browser.wait("element('view').dataset.page === '1' && " + DRAWN), "the sample is shown")
     held.tell(browser.value(INKED) == [True, True], "the sample has ink")
@@ -557,6 +579,7 @@ def test_page(held, address, program, folder, jobs, picture):
     test_greys(held, browser, program)
     test_keys(held, browser, program)
     test_phone(held, browser, program)
+    test_full(held, browser, program)
     test_drop(held, browser, "two.pcl")
     test_saved(held, browser, program, folder, "picture.pcl")
     test_zoom(held, browser)
