@@ -4,23 +4,28 @@
     web/server.py [--port PORT]        PORT is 8631 where none is given, and any free one by 0
 
 It listens on 127.0.0.1 alone, opens no other connection, and keeps nothing of a job. Each call runs in a process of its own, which
-has SECONDS of processor time and MEMORY bytes, so a job that would run for hours ends in one line, as any fault does.
+has SECONDS of processor time and MEMORY bytes, so a job that would run for hours ends in one line, as any fault does. So does a job
+that would have more than HELD bytes held at once, or that doesn't come within a minute; past CONNECTIONS others wait.
 """
 import argparse
+import contextlib
 import http.server
+import io
 import json
 import os
 import resource
+import socket
 import subprocess
 import sys
 import threading
+import time
 
 HERE = os.path.dirname(os.path.abspath(__file__))
 sys.path.insert(0, os.path.join(HERE, "..", "lib"))
 sys.dont_write_bytecode = True
 
-# The most bytes of a job.
-LIMIT = 64 << 20
+# The most bytes of a job, and of all jobs that are held at once; and how many connections are served at once.
+LIMIT, HELD, CONNECTIONS = 64 << 20, 256 << 20, 32
 # What a call has, and how many run at once.
 SECONDS, MEMORY, CALLS = 60, 4 << 30, 4
 # The calls, and how many numbers each takes after the resolution.
@@ -51,7 +56,7 @@ def call_in_process(call, numbers, job):
     words = [sys.executable, os.path.abspath(__file__), "--call", str(SECONDS), call, *map(str, numbers)]
     try:
         done = subprocess.run(words, input=job, stdout=subprocess.PIPE, stderr=subprocess.DEVNULL, timeout=4 * SECONDS)
-    except subprocess.TimeoutExpired:
+    except (subprocess.TimeoutExpired, OSError):
         return None
     return done.stdout if done.returncode == 0 else None
 
@@ -68,13 +73,69 @@ def call_of(path):
     return call, [int(word) for word in words]
 
 
+class Room:
+    """So many bytes, for the jobs that are held."""
+
+    def __init__(self, size):
+        self.left, self.lock = size, threading.Lock()
+
+    @contextlib.contextmanager
+    def taken(self, size):
+        """Takes so many for as long as a block runs, and gives them back however it ends."""
+        with self.lock:
+            if size > self.left:
+                raise Fault(503, "the server holds as many jobs as it can: try again")
+            self.left -= size
+        try:
+            yield
+        finally:
+            with self.lock:
+                self.left += size
+
+
+class UntilDeadline(io.RawIOBase):
+    """What comes over a connection until a deadline, however slowly."""
+
+    def __init__(self, connection):
+        self.connection, self.deadline = connection, 0
+
+    def readable(self):
+        return True
+
+    def readinto(self, buffer):
+        left = self.deadline - time.monotonic()
+        if left <= 0:
+            raise socket.timeout
+        self.connection.settimeout(left)
+        return self.connection.recv_into(buffer)
+
+
 class Handler(http.server.BaseHTTPRequestHandler):
     """Answers the page, and calls."""
 
     server_version, sys_version = "pclmin", ""
     protocol_version = "HTTP/1.1"
+    # The seconds in which a request comes, and then its job, and in which its answer is taken.
     timeout = 60
     running = threading.BoundedSemaphore(CALLS)
+    room = Room(HELD)
+
+    def setup(self):
+        super().setup()
+        self.rfile.close()
+        self.rfile = io.BufferedReader(UntilDeadline(self.connection))
+
+    def handle_one_request(self):
+        self.wait_from_now()
+        try:
+            super().handle_one_request()
+        except OSError:
+            # Who asked has gone away.
+            self.close_connection = True
+
+    def wait_from_now(self):
+        """Sets the time at which what is awaited must have come."""
+        self.rfile.raw.deadline = time.monotonic() + self.timeout
 
     def do_GET(self):
         if not self.is_ours():
@@ -88,13 +149,16 @@ class Handler(http.server.BaseHTTPRequestHandler):
     def do_POST(self):
         try:
             call, numbers = call_of(self.path)
-            job = self.job()
+            length = self.length()
+            with self.room.taken(length):
+                job = self.job(length)
+                with self.running:
+                    answer = call_in_process(call, numbers, job)
+                del job
         except Fault as fault:
-            self.close_connection = True
             self.refuse(*fault.args)
+            self.forget_the_rest()
             return
-        with self.running:
-            answer = call_in_process(call, numbers, job)
         if answer is None:
             self.refuse(504, f"the call took more than {SECONDS} seconds or {MEMORY >> 30} gigabytes")
         else:
@@ -107,19 +171,34 @@ class Handler(http.server.BaseHTTPRequestHandler):
         origin = self.headers.get("Origin", "http://" + ours[0])
         return self.headers.get("Host") in ours and origin in tuple("http://" + name for name in ours)
 
-    def job(self):
-        """The bytes that were sent."""
+    def length(self):
+        """How many bytes are sent."""
         if not self.is_ours():
             raise Fault(403, "this server is for this machine alone")
-        length = self.headers.get("Content-Length", "")
-        if not length.isdecimal():
+        length = self.headers.get("Content-Length")
+        if length is None:
             raise Fault(411, "the length of the job is missing")
+        if not length.isdecimal() or len(length) > 18:
+            raise Fault(400, "the length of the job is no number of bytes")
         if int(length) > LIMIT:
             raise Fault(413, f"the job has more than {LIMIT >> 20} megabytes")
-        job = self.rfile.read(int(length))
-        if len(job) != int(length):
+        return int(length)
+
+    def job(self, length):
+        """The bytes that are sent."""
+        self.wait_from_now()
+        try:
+            job = self.rfile.read(length)
+        except socket.timeout:
+            raise Fault(408, f"the job didn't come within {self.timeout} seconds") from None
+        if len(job) != length:
             raise Fault(400, "the job was cut on its way")
         return job
+
+    def forget_the_rest(self):
+        """Reads what still comes of a job that is refused, since who sends it looks for the answer at its end."""
+        while self.rfile.read1(1 << 16):
+            pass
 
     def refuse(self, status, line):
         self.reply(status, "text/plain; charset=utf-8", line.encode() + b"\n")
@@ -132,20 +211,43 @@ class Handler(http.server.BaseHTTPRequestHandler):
         self.send_header("Content-Security-Policy", POLICY)
         self.send_header("X-Content-Type-Options", "nosniff")
         self.send_header("Referrer-Policy", "no-referrer")
-        try:
-            self.end_headers()
-            self.wfile.write(body)
-        except OSError:
-            # Who asked has gone away.
-            self.close_connection = True
+        if status != 200:
+            self.send_header("Connection", "close")
+        self.connection.settimeout(self.timeout)
+        self.end_headers()
+        self.wfile.write(body)
 
     def log_message(self, *_):
         """Says nothing of a request."""
 
 
+class Server(http.server.ThreadingHTTPServer):
+    """Serves so many connections at once, each in a thread; others wait until one ends."""
+
+    request_queue_size = 128
+
+    def __init__(self, *words):
+        super().__init__(*words)
+        self.free = threading.BoundedSemaphore(CONNECTIONS)
+
+    def process_request(self, request, client_address):
+        self.free.acquire()
+        try:
+            super().process_request(request, client_address)
+        except BaseException:
+            self.free.release()
+            raise
+
+    def process_request_thread(self, request, client_address):
+        try:
+            super().process_request_thread(request, client_address)
+        finally:
+            self.free.release()
+
+
 def make_server(port):
     """A server of this machine at a port, or at a free one by 0."""
-    return http.server.ThreadingHTTPServer(("127.0.0.1", port), Handler)
+    return Server(("127.0.0.1", port), Handler)
 
 
 def main():
@@ -165,7 +267,7 @@ def main():
         server = make_server(words.port)
     except (OSError, OverflowError) as fault:
         sys.exit(f"web/server.py: port {words.port}: {fault}")
-    print(f"http://127.0.0.1:{server.server_address[1]}/", flush=True)
+    print(f"http://127.0.0.1:{server.server_address[1]}/ shows print jobs, to this machine alone; Ctrl-C ends it", flush=True)
     try:
         server.serve_forever()
     except KeyboardInterrupt:

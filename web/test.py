@@ -1,8 +1,10 @@
 #!/usr/bin/env python3
-"""The page of this folder beside the program, in Chromium without a window: five jobs are opened, the dots on the canvas are those
-of `pclmin pbm`, the sizes, the copies and what is asked those of `pclmin pages`, a sixth job is refused with its place marked among
-its bytes, what is saved is what `pclmin shrink` writes, and a dropped file is opened too. Where there is no Chromium the server's
-answers alone are tested, and a line says so. Prints what doesn't hold and how much does; status 1 if something doesn't.
+"""The page of this folder beside the program, in Chromium without a window: jobs are opened, the dots on the canvas are those of
+`pclmin pbm`, the greys of a smaller page the means of these dots, the sizes, the copies and what is asked those of `pclmin pages`. One
+job is refused with its place marked among its bytes, what is saved is what `pclmin shrink` writes, and a dropped file is opened too.
+Keys turn pages, nothing moves when a job is shrunk, and the page is used at the size of a phone. The server is asked for more than it
+takes. Where there is no Chromium the server alone is tested, and a line says so. Prints what doesn't hold and how much does; status 1
+if something doesn't.
 
     web/test.py [PROGRAM] [--picture FILE]     PROGRAM is crates/pclmin/out/pclmin where none is given; FILE gets a picture of the page
 """
@@ -12,7 +14,9 @@ import hashlib
 import http.client
 import json
 import os
+import random
 import shutil
+import socket
 import subprocess
 import sys
 import tempfile
@@ -35,6 +39,8 @@ JOBS = {
     "refused.pcl": b"\x1bE\x1b&l2A\x1b*p300x300Y\x1b*c90a90b0P Hello, printer\r\n\x0c\x1bE",
 }
 REFUSED = "refused.pcl"
+PAGES = 30
+MANY = b"\x1bE" + b"".join(b"\x1b*p300x%dY\x1b*c900a30b0P\x0c" % (90 * page) for page in range(PAGES)) + b"\x1bE"
 SIDES = {0: "one side", 1: "both sides, long edge", 2: "both sides, short edge"}
 PATIENCE = 60
 
@@ -94,14 +100,73 @@ def test_server(held, port, program, jobs):
     foreign = {"Host": "example.com"}
     for path, body, headers, wanted in (
             ("/pages/0", b"", foreign, 403), ("/pages/0", b"", {"Origin": "http://example.com"}, 403), ("/remove/0", b"", {}, 404),
-            ("/preview/0/1", b"", {}, 404), ("/pages/x", b"", {}, 404), ("/pages/0", b"", {"Content-Length": str(server.LIMIT + 1)}, 413)):
+            ("/preview/0/1", b"", {}, 404), ("/pages/x", b"", {}, 404), ("/pages/0", b"", {"Content-Length": str(server.LIMIT + 1)}, 413),
+            ("/pages/0", b"", {"Content-Length": "9" * 5000}, 400), ("/pages/0", b"", {"Content-Length": "-1"}, 400),
+            ("/pages/0", None, {"Transfer-Encoding": "chunked"}, 411), ("/pages/0", b"9" * (server.LIMIT + 1), {}, 413)):
         status, body = asked(port, path, body, headers)
-        held.tell(status == wanted and body.count(b"\n") == 1, f"{path} with {headers} has status {wanted} and one line: {status} {body}")
+        held.tell(status == wanted and body.count(b"\n") == 1,
+                  f"{path} with {str(headers)[:60]} has status {wanted} and one line: {status} {body}")
     slow = b"\x1bE\x1b*c2400a3300b" + b"0p1p" * 200_000 + b"0P\x1bE"
     seconds, server.SECONDS = server.SECONDS, 1
     status, body = asked(port, "/pages/300", slow)
     server.SECONDS = seconds
     held.tell(status == 504 and body.count(b"\n") == 1, f"a job that takes long ends in one line: {status} {body[:200]}")
+
+
+def started(port, length):
+    """A connection by which the first byte of a job was sent."""
+    connection = socket.create_connection(("127.0.0.1", port), PATIENCE)
+    connection.sendall(f"POST /pages/0 HTTP/1.1\r\nHost: 127.0.0.1:{port}\r\nContent-Length: {length}\r\n\r\n".encode() + b"\x1b")
+    return connection
+
+
+def in_time(holds):
+    """Whether something holds within the time that one is patient."""
+    end = time.monotonic() + PATIENCE
+    while not holds() and time.monotonic() < end:
+        time.sleep(0.02)
+    return holds()
+
+
+def test_bounds(held, port):
+    """How much the server holds at once, and how long it waits."""
+    handler, job = server.Handler, JOBS["two.pcl"]
+    uploads = [started(port, server.LIMIT) for _ in range(server.HELD // server.LIMIT)]
+    held.tell(in_time(lambda: handler.room.left == 0), "jobs that are awaited take room")
+    status, body = asked(port, "/pages/0", job)
+    held.tell(status == 503 and body.count(b"\n") == 1, f"where there is no room a job ends in one line: {status} {body}")
+    for upload in uploads:
+        upload.close()
+    held.tell(in_time(lambda: handler.room.left == server.HELD), "a cut job gives its room back")
+    held.tell(asked(port, "/pages/0", job)[0] == 200, "there is room again")
+    patience, handler.timeout = handler.timeout, 1
+    upload, start = started(port, server.LIMIT), time.monotonic()
+    upload.settimeout(0.1)
+    answer = b""
+    while not answer and time.monotonic() < start + PATIENCE:
+        upload.sendall(b"0")
+        try:
+            answer = upload.recv(1 << 16)
+        except socket.timeout:
+            pass
+    held.tell(b" 408 " in answer and time.monotonic() < start + 10, f"a job that comes slowly ends in one line: {answer}")
+    held.tell(in_time(lambda: handler.room.left == server.HELD), "a slow job gives its room back")
+    upload.close()
+    handler.timeout = patience
+    idle = [socket.create_connection(("127.0.0.1", port)) for _ in range(server.CONNECTIONS)]
+    late = socket.create_connection(("127.0.0.1", port), PATIENCE)
+    late.sendall(f"GET / HTTP/1.1\r\nHost: 127.0.0.1:{port}\r\n\r\n".encode())
+    late.settimeout(0.5)
+    try:
+        early = late.recv(1)
+    except socket.timeout:
+        early = None
+    held.tell(early is None, "a connection too many waits")
+    for connection in idle:
+        connection.close()
+    late.settimeout(PATIENCE)
+    held.tell(late.recv(12) == b"HTTP/1.1 200", "and is served when others have ended")
+    late.close()
 
 
 # ---- Chromium, by its debugging protocol over a pipe
@@ -180,6 +245,15 @@ class Browser:
             time.sleep(0.05)
         return False
 
+    def press(self, key):
+        """Presses a key."""
+        self.send("Input.dispatchKeyEvent", type="rawKeyDown", key=key)
+        self.send("Input.dispatchKeyEvent", type="keyUp", key=key)
+
+    def resize(self, width, height):
+        """Gives the page a size, as on a phone where it is narrow."""
+        self.send("Emulation.setDeviceMetricsOverride", width=width, height=height, deviceScaleFactor=1, mobile=width < 500)
+
     def choose(self, path):
         """Gives a file to the page's input."""
         root = self.send("DOM.getDocument")["root"]["nodeId"]
@@ -206,6 +280,32 @@ CANVAS = """(() => {
   const header = new TextEncoder().encode(`P4\\n${canvas.width} ${canvas.height}\\n`);
   return crypto.subtle.digest("SHA-256", new Uint8Array([...header, ...rows]))
     .then(digest => [...new Uint8Array(digest)].map(byte => byte.toString(16).padStart(2, "0")).join(""));
+})()"""
+
+
+# Whether each small picture is drawn.
+DRAWN = "[...document.querySelectorAll('nav canvas')].every(canvas => 'drawn' in canvas.dataset)"
+# The width, the height and the greys of the page where it is smaller, and the mean grey of the first small picture.
+GREYS = """(() => {
+  const greys = canvas =>
+    [...canvas.getContext("2d").getImageData(0, 0, canvas.width, canvas.height).data].filter((_, at) => at % 4 === 0);
+  const small = greys(document.querySelector("nav canvas"));
+  const canvas = element("small");
+  return [canvas.width, canvas.height, greys(canvas), small.reduce((sum, grey) => sum + grey) / small.length];
+})()"""
+# Where everything stands.
+PLACES = """JSON.stringify([...document.querySelectorAll("header, header > *, #turning, #turning > *, main, nav, #small, footer")]
+  .map(one => { const { x, y, width, height } = one.getBoundingClientRect(); return [one.id, x, y, width, height]; }))"""
+# Whether the page's button is seen in the list, whether the whole page is as wide as the window, and whether what is above is one row.
+FOLLOWED = """(() => {
+  const [list, button] = [element("pages"), document.querySelector("nav [aria-current]")].map(one => one.getBoundingClientRect());
+  return button.top >= list.top && button.bottom <= list.bottom;
+})()"""
+FITS = "document.documentElement.scrollWidth <= innerWidth && document.querySelector('header').scrollWidth <= innerWidth"
+IN_A_ROW = """(() => {
+  const middles = [...document.querySelectorAll("header > *")].map(one => one.getBoundingClientRect()).filter(one => one.height > 0)
+    .map(one => one.top + one.height / 2);
+  return Math.max(...middles) - Math.min(...middles) < 4;
 })()"""
 
 
@@ -258,13 +358,15 @@ def test_pages(held, browser, program, job):
     lines = browser.value("[...document.querySelectorAll('nav pre')].map(text => [text.previousElementSibling.textContent, text.textContent])")
     wanted = [[f"before page {exit['pages'] + 1}" if exit["pages"] < len(pages) else "at the end", exit["lines"]] for exit in exits]
     held.tell(lines == wanted, f"{job} has the lines {wanted}: {lines}")
+    browser.wait("element('view').dataset.page === '1'")
+    browser.value("element('dots').click()")
     for number in range(1, len(pages) + 1):
         browser.value(f"document.querySelectorAll('nav button')[{number - 1}].click()")
-        held.tell(browser.wait(f"element('page').dataset.page === '{number}'"), f"page {number} of {job} is shown")
+        held.tell(browser.wait(f"element('view').dataset.page === '{number}' && !element('page').hidden"),
+                  f"page {number} of {job} is shown")
         image, _ = program.run("pbm", "--page", str(number), "--dpi", "auto", job)
         held.tell(browser.value(CANVAS) == hashlib.sha256(image).hexdigest(), f"page {number} of {job} has the program's dots")
-    held.tell(browser.wait("[...document.querySelectorAll('nav canvas')].every(canvas => canvas.width > 150 && canvas.height > 150)"),
-              f"{job} has small pictures")
+    held.tell(browser.wait(DRAWN), f"{job} has small pictures")
     inked = browser.value(INKED)
     held.tell(inked == [page["black_dots"] > 0 for page in pages], f"the small pictures of {job} have ink where its pages have: {inked}")
 
@@ -272,9 +374,12 @@ def test_pages(held, browser, program, job):
 def test_saved(held, browser, program, folder, job):
     """What is saved of a job that is shrunk."""
     open_job(held, browser, program, job)
-    browser.wait("!element('shrink').hidden")
+    browser.wait("element('view').dataset.page === '1' && " + DRAWN)
+    before = browser.value(PLACES)
     browser.value("element('shrink').click()")
     held.tell(browser.wait("!element('save').hidden"), f"{job} is shrunk")
+    after = browser.value(PLACES)
+    held.tell(before == after, f"nothing moves when {job} is shrunk: {before}, {after}")
     browser.send("Browser.setDownloadBehavior", behavior="allow", downloadPath=folder)
     browser.value("element('save').click()")
     saved = os.path.join(folder, os.path.splitext(job)[0] + ".small.pcl")
@@ -309,6 +414,127 @@ def test_refused(held, browser, program, job):
     held.tell(advice.encode("latin-1") == explained, f"{job} is explained as the program does: {advice}")
 
 
+def test_words(held, browser, program):
+    """What was refused before goes, and what is refused for its resolution says what to choose in the page."""
+    open_job(held, browser, program, "two.pcl")
+    held.tell(browser.wait("element('view').dataset.page === '1'") and
+              browser.value("element('refusal').hidden && element('line').textContent + element('advice').textContent === ''"),
+              "a refusal goes when another job is opened")
+    browser.value("element('resolution').value = '300'")
+    open_job(held, browser, program, "fine.pcl")
+    held.tell(browser.wait("!element('wanted').hidden"), "a job for another resolution is refused")
+    advice = browser.value("element('advice').textContent")
+    held.tell("--" not in advice and "\u201c600 dots per inch\u201d chosen above" in advice, f"it is said in words of the page: {advice}")
+    browser.value("element('wanted').click()")
+    held.tell(browser.wait("element('view').dataset.page === '1' && element('resolution').value === '0'"), "a button chooses it")
+    held.tell(browser.value("element('refusal').hidden"), "and the refusal goes")
+
+
+def test_greys(held, browser, program):
+    """A page that is 41 percent black: each pixel where it is smaller is the mean of its dots."""
+    chance = random.Random(41)
+    rows = [bytes(sum((chance.random() < 0.41) << bit for bit in range(8)) for _ in range(300)) for _ in range(64)]
+    with open(os.path.join(program.folder, "grey.pcl"), "wb") as file:
+        file.write(b"\x1bE\x1b&l2a0E\x1b*p0x0Y\x1b*t300R\x1b*r0A")
+        file.write(b"".join(b"\x1b*b300W" + chance.choice(rows) for _ in range(3300)) + b"\x1b*rC\x0c\x1bE")
+    page = json.loads(program.run("pages", "--json", "grey.pcl")[0])["pages"][0]
+    image = program.run("pbm", "grey.pcl")[0][-300 * 3300:]
+    open_job(held, browser, program, "grey.pcl")
+    held.tell(browser.wait("element('view').dataset.page === '1' && " + DRAWN), "a grey page is shown")
+    width, height, greys, small = browser.value(GREYS)
+    wanted = 255 * (1 - page["black_dots"] / page["dots"])
+    mean = sum(greys) / len(greys)
+    held.tell(abs(page["black_dots"] / page["dots"] - 0.41) < 0.01, f"41 percent are black: {page}")
+    held.tell(abs(mean - wanted) < 0.5 and abs(small - wanted) < 0.5,
+              f"the page and its small picture are as grey as {wanted}: {mean}, {small}")
+
+    def share(dot, pixel, size):
+        """How much of a dot lies in a pixel so many dots wide."""
+        return max(0, min(dot + 1, (pixel + 1) * size) - max(dot, pixel * size))
+
+    across, down = 2400 / width, 3300 / height
+    wrong = []
+    for _ in range(400):
+        x, y = chance.randrange(width), chance.randrange(height)
+        black = sum(share(row, y, down) * share(dot, x, across)
+                    for row in range(int(y * down), min(3300, int((y + 1) * down) + 1))
+                    for dot in range(int(x * across), min(2400, int((x + 1) * across) + 1))
+                    if image[300 * row + dot // 8] << dot % 8 & 128)
+        if abs(greys[y * width + x] - 255 * (1 - black / (across * down))) > 0.51:
+            wrong.append((x, y, black, greys[y * width + x]))
+    held.tell(not wrong, f"each pixel is the mean of its dots: {wrong[:5]}")
+
+
+def test_keys(held, browser, program):
+    """The keys and the number that turn pages, with the list beside them."""
+    with open(os.path.join(program.folder, "many.pcl"), "wb") as file:
+        file.write(MANY)
+    open_job(held, browser, program, "many.pcl")
+    browser.wait("element('view').dataset.page === '1' && " + DRAWN)
+    for key, page in (("PageDown", 2), ("ArrowRight", 3), ("ArrowDown", 4), ("PageUp", 3), ("ArrowLeft", 2), ("ArrowUp", 1),
+                      ("ArrowUp", 1), ("End", PAGES), ("PageDown", PAGES), ("Home", 1)):
+        browser.press(key)
+        held.tell(browser.wait(f"element('view').dataset.page === '{page}'"), f"{key} leads to page {page}")
+        said = browser.value("element('number').value + ' ' + element('count').textContent")
+        held.tell(said == f"{page} of {PAGES}", f"page {page} of {PAGES} is said: {said}")
+        held.tell(browser.value(FOLLOWED), f"the list follows {key}")
+    for word, page in (("13", 13), ("999", PAGES), ("x", PAGES), ("0", 1), ("-4", 1)):
+        browser.value(f"element('number').focus(); element('number').value = '{word}'")
+        browser.value("element('number').dispatchEvent(new Event('change'))")
+        held.tell(browser.wait(f"element('view').dataset.page === '{page}'"), f"the number {word} leads to page {page}")
+        held.tell(browser.value(FOLLOWED + f" && element('number').value === '{page}'"), f"the list follows the number {word}")
+    for _ in range(20):
+        browser.press("ArrowRight")
+    held.tell(browser.wait("element('view').dataset.page === '21'"), "a key that is held leads as far as it was pressed")
+    browser.value("element('dots').click(); document.querySelectorAll('nav button')[20].focus()")
+    browser.press("ArrowDown")
+    held.tell(browser.wait("element('view').dataset.page === '22' && document.activeElement === element('pages').children[21]"),
+              "the focus goes with the list")
+
+
+def test_phone(held, browser, program):
+    """The page at 390 by 844."""
+    browser.resize(390, 844)
+    open_job(held, browser, program, "many.pcl")
+    held.tell(browser.wait("element('view').dataset.page === '1'"), "a page is shown on a phone")
+    held.tell(browser.value(FITS + " && " + IN_A_ROW), f"what is above is one row of a phone: {browser.value(PLACES)}")
+    held.tell(browser.value("element('pages').offsetWidth === 0 && element('small').offsetWidth > 300"), "the list is folded away")
+    browser.value("element('list').click()")
+    held.tell(browser.value("element('pages').offsetWidth === 390 && element('list').ariaExpanded === 'true'"), "and comes")
+    browser.value("document.querySelectorAll('nav button')[6].click()")
+    held.tell(browser.wait("element('view').dataset.page === '7' && element('pages').offsetWidth === 0"), "and goes when a page is chosen")
+    browser.value("element('next').click()")
+    held.tell(browser.wait("element('view').dataset.page === '8'"), "a button turns the page")
+    open_job(held, browser, program, REFUSED)
+    browser.wait("element('advice').textContent !== ''")
+    seen = browser.value("""[document.querySelector("#bytes mark").getBoundingClientRect()].every(one =>
+      one.left >= 0 && one.right <= innerWidth && one.bottom <= innerHeight)""")
+    held.tell(seen and browser.value(FITS), "the marked byte is in view on a phone")
+    browser.resize(1280, 800)
+
+
+def test_full(held, browser, program):
+    """A job that is opened while the server has no room."""
+    room = server.Handler.room
+    in_time(lambda: room.left == server.HELD)
+    with room.taken(server.HELD):
+        browser.choose(os.path.join(program.folder, "two.pcl"))
+        time.sleep(0.5)
+        held.tell(browser.value("element('said').textContent") == "reading two.pcl ...", "a job waits for room")
+    held.tell(browser.wait("element('view').dataset.page === '1'"), "and is shown when there is some")
+    # The browser itself notes each 503.
+    browser.faults = [fault for fault in browser.faults if "status of 503" not in fault]
+
+
+def test_sample(held, browser):
+    """The first page, and the job that it offers."""
+    held.tell(browser.value("!element('drop').hidden && element('sample').offsetWidth > 0"),
+              "there is a place to drop a job, and a sample")
+    browser.value("element('sample').click()")
+    held.tell(browser.wait("element('view').dataset.page === '1' && " + DRAWN), "the sample is shown")
+    held.tell(browser.value(INKED) == [True, True], "the sample has ink")
+
+
 def test_drop(held, browser, job):
     """A file that is dropped on the page."""
     content = json.dumps(base64.b64encode(JOBS[job]).decode())
@@ -322,13 +548,14 @@ def test_drop(held, browser, job):
 
 def test_zoom(held, browser):
     """The keys and buttons that change the size of the page."""
-    held.tell(browser.wait("element('page').dataset.page === '1'"), "the page is shown")
+    held.tell(browser.wait("element('view').dataset.page === '1'"), "the page is shown")
     for what, wanted in (("document.body.dispatchEvent(new KeyboardEvent('keydown', { key: '1', bubbles: true }))", "100 %"),
                          ("element('larger').click()", "200 %"), ("element('smaller').click()", "100 %")):
         browser.value(what)
         zoom = browser.value("element('zoom').textContent")
         held.tell(zoom == wanted, f"{what} leads to {wanted}: {zoom}")
     browser.value("element('fit').click()")
+    browser.wait("element('page').hidden")
     seen = browser.value("""(() => {
       const small = element("small").getBoundingClientRect();
       return small.height > 300 && small.height <= element("view").clientHeight && element("page").hidden;
@@ -340,12 +567,19 @@ def test_page(held, address, program, folder, jobs, picture):
     """The page in Chromium."""
     browser = Browser(folder)
     browser.send("Page.navigate", url=address)
-    browser.wait("document.readyState === 'complete' && typeof openJob === 'function'")
+    browser.wait("document.readyState === 'complete' && typeof openFile === 'function'")
+    test_sample(held, browser)
     for job in jobs:
         if job == REFUSED:
             test_refused(held, browser, program, job)
         else:
             test_pages(held, browser, program, job)
+    test_refused(held, browser, program, REFUSED)
+    test_words(held, browser, program)
+    test_greys(held, browser, program)
+    test_keys(held, browser, program)
+    test_phone(held, browser, program)
+    test_full(held, browser, program)
     test_drop(held, browser, "two.pcl")
     test_saved(held, browser, program, folder, "picture.pcl")
     test_zoom(held, browser)
@@ -377,6 +611,7 @@ def main():
         threading.Thread(target=serving.serve_forever, daemon=True).start()
         port = serving.server_address[1]
         test_server(held, port, program, jobs)
+        test_bounds(held, port)
         if CHROMIUM:
             test_page(held, f"http://127.0.0.1:{port}/", program, folder, jobs, words.picture)
         else:
