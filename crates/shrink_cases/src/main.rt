@@ -3,14 +3,15 @@
 //!
 //! The least raster job of a white Letter page has 42 bytes: `ESC E` 2, `ESC&l1x2a0E` 9, `ESC*p0x0Y` 7, `ESC*t300R` 7,
 //! `ESC*r2400s0A` 10, `ESC*rC` 4, the form feed 1, `ESC E` 2. A row of n bytes, for n up to 9, takes 5 and n more. With squares of
-//! four dots `ESC*t75R` and `ESC*r600s0A` save a byte each; with squares of two dots nothing is saved around the rows.
+//! four dots `ESC*t75R` and `ESC*r600s0A` save a byte each; with squares of two dots nothing is saved around the rows. Where a job
+//! says neither copies nor a size, `ESC&l0E` takes 5 in place of 9.
 //!
-//! The line of ninety letters is the example of docs/GLYPHS.md with all letters 24 dots apart: 166 bytes beside its codes and
+//! The line of ninety letters is the example of docs/GLYPHS.md with all letters 24 dots apart: 162 bytes beside its codes and
 //! moves, `ESC*p34x10Y` 9, and 90 codes. At 600 dots per inch it goes by macros: 9 bytes before them, 29 for that of two letters,
-//! 123 for the letter's, 37 of the page text, `ESC*b3M` 5, `ESC*p68x20Y` 9, `ESC&f32767y` 9, 45 runs 90, and 3 after.
+//! 123 for the letter's, 33 of the page text, `ESC*b3M` 5, `ESC*p68x20Y` 9, `ESC&f32767y` 9, 45 runs 90, and 3 after.
 //!
-//! A second page of the line at 300 dots per inch takes 137 bytes: the page text 37, the move 9, 90 codes, the form feed. After a reset,
-//! 2, or the universal exit, 28, the font goes again, 124. A page with a dot takes 44 as a raster.
+//! A second page of the line at 300 dots per inch takes 133 bytes: the page text 33, the move 9, 90 codes, the form feed. After a reset,
+//! 2, or the universal exit, 28, the font goes again, 124. A page with a dot takes 40 as a raster.
 #![tactic(auto)]
 
 use pcl_base::{Dpi, JobFault};
