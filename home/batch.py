@@ -73,7 +73,8 @@ def job(kind, number):
     if kind == "sample":
         return samples[number % len(samples)].read_bytes()
     if kind == "cut":
-        return printed("ljet2p", number)[:-200]
+        whole = printed("ljet2p", number)
+        return whole[:whole.rindex(b"\033*b") + 3]
     plain = {"missing": None, "empty": b"", "words": b"Dear printer, this is page 1.\r\n"}
     return plain[kind] if kind in plain else printed(kind, number)
 
