@@ -86,6 +86,20 @@ impl Collection {
         self.item_limit = limit.min(ITEM_LIMIT);
     }
 
+    /// Passes over a page: none of its shapes is collected.
+    pub fn pass_page(&mut self, page: &Page) -> Result<(), AllocError> {
+        self.end_page(page, self.rows.len())
+    }
+
+    /// Ends a page whose first row is in this place.
+    fn end_page(&mut self, page: &Page, first: usize) -> Result<(), AllocError> {
+        let start = self.place_rows(first);
+        self.starts.push(start)?;
+        self.widths.push(page.size.width(page.dpi))?;
+        self.heights.push(page.size.height(page.dpi))?;
+        Ok(())
+    }
+
     /// The height of a page, in dots.
     pub fn height_of(&self, page: u16) -> u32 {
         self.heights.get(usize::from(page)).copied().unwrap_or(0)
@@ -282,10 +296,6 @@ impl PageSink for Collection {
         if self.items.len() < self.item_limit {
             self.collect(page)?;
         }
-        let start = self.place_rows(first);
-        self.starts.push(start)?;
-        self.widths.push(page.size.width(page.dpi))?;
-        self.heights.push(page.size.height(page.dpi))?;
-        Ok(())
+        self.end_page(page, first)
     }
 }

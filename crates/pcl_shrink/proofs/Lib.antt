@@ -6,3 +6,4 @@ mod Looked
 mod Asked
 mod Listed
 mod Refusing
+mod Everywhere

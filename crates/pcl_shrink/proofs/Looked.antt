@@ -1,6 +1,6 @@
 -- What is answered of a candidate beside a job.
-use Rattle.std.proofs.Common.{◌≡◌, ◌≢◌, ℕ, List, Bool, true, false, Decides, Result, Ok, Err, refl, subst}
-use Rattle.pcl_shrink.proofs.Names.{false≢true, Dpi, JobFault, Refusal, IsRefusal, AskedComparison, Same, Second, SameFault, IsAskedComparison, IsComparedAsked, IsComparedBeside, SaysIfSame}
+use Rattle.std.proofs.Common.{◌≡◌, ◌≢◌, ℕ, List, Bool, true, false, Decides, Option, Some, None, Result, Ok, Err, refl, subst}
+use Rattle.pcl_shrink.proofs.Names.{false≢true, Dpi, JobFault, Refusal, IsRefusal, AskedComparison, Same, Second, SameFault, IsAskedComparison, IsComparedAsked, IsComparedBeside, IsSameAt, SaysIfSame, SaysIfSameAt}
 use Rattle.pcl_base.specs.declared.fault.JobFault.TheVariants as faults
 use Rattle.pcl_same.specs.declared.fault.SameFault.TheVariants.{Refused, Memory}
 
@@ -29,12 +29,26 @@ refused one dpi job candidate {fault} {refusal} is beside same =
     let why : IsRefusal dpi candidate refusal = rw is at beside in
     let equal = one dpi job candidate (Err (Refused Second refusal)) (Ok Same) (_, same.meaning, why) same (λ e. cc) (λ e. cc) in cc
 
+-- ---- at each resolution that counts
+
+-- it isn't at the first
+pub unlike_first : (dpi : Dpi) (also : Option Dpi) (job candidate : List ℕ) (same : Bool) → same ≡ false
+    → SaysIfSame dpi job candidate same → SaysIfSameAt dpi also job candidate false
+unlike_first dpi also job candidate same is look = λ both. (rw is at look) both.0
+
+-- it is at the first, and the other has its answer
+pub answered_also : (dpi : Dpi) {other : Dpi} (also : Option Dpi) (job candidate : List ℕ) (first same : Bool) → first ≡ true
+    → also ≡ Some other → SaysIfSame dpi job candidate first → SaysIfSame other job candidate same
+    → SaysIfSameAt dpi also job candidate same
+answered_also dpi also job candidate first true is there look again = (rw is at look, rw there again)
+answered_also dpi also job candidate first false is there look again = λ both. again (rw there at both.1)
+
 -- ---- what follows of an answer, on bytes that were lent
 
-pub says_same : (dpi : Dpi) (job : List ℕ) {lent bytes : List ℕ} (same : Bool) → same ≡ true → lent ≡ bytes → SaysIfSame dpi job lent same
-    → IsAskedComparison dpi job bytes Same
-says_same dpi job same is there look = rw there at (rw is at look)
+pub says_same : (dpi : Dpi) (also : Option Dpi) (job : List ℕ) {lent bytes : List ℕ} (same : Bool) → same ≡ true → lent ≡ bytes
+    → SaysIfSameAt dpi also job lent same → IsSameAt dpi also job bytes
+says_same dpi also job same is there look = rw there at (rw is at look)
 
-pub says_unlike : (dpi : Dpi) (job : List ℕ) {lent bytes : List ℕ} (same : Bool) → same ≡ false → lent ≡ bytes
-    → SaysIfSame dpi job lent same → IsAskedComparison dpi job bytes Same → ⊥
-says_unlike dpi job same is there look = rw there at (rw is at look)
+pub says_unlike : (dpi : Dpi) (also : Option Dpi) (job : List ℕ) {lent bytes : List ℕ} (same : Bool) → same ≡ false → lent ≡ bytes
+    → SaysIfSameAt dpi also job lent same → IsSameAt dpi also job bytes → ⊥
+says_unlike dpi also job same is there look = rw there at (rw is at look)

@@ -1,6 +1,6 @@
 -- Smaller jobs with the same pages, which ask for the same.
-use Rattle.std.proofs.Common.{◌≡◌, ℕ, ◌<◌, List, [], ◌∷◌, length, refl, sym, subst, arith}
-use Rattle.pcl_shrink.proofs.Names.{Dpi, Asks, asks_of, Sheet, HasPages, HasAsks, AllAlike, Same, KeptJob, IsAskedComparison, IsKept, said_for, IsJobOf, PrintsAlike, IsSmallerJob, IsBest, IsLimit}
+use Rattle.std.proofs.Common.{◌≡◌, ℕ, ◌<◌, List, [], ◌∷◌, length, Option, Some, None, refl, sym, subst, arith}
+use Rattle.pcl_shrink.proofs.Names.{Dpi, Asks, asks_of, Sheet, HasPages, HasAsks, AllAlike, Same, KeptJob, KeptJobs, AreKept, IsKeptAlso, IsAcceptedAlso, IsAskedComparison, IsSameAlso, IsSameAt, of_job, asks_among, performance_of, said_for, IsJobOf, PrintsAlike, IsSmallerJob, IsBest, IsLimit}
 
 -- a job has one list of pages, and asks for one thing
 abbrev pub OnePages : Type 0
@@ -18,26 +18,59 @@ same_pages : (dpi : Dpi) (pages : List Sheet) → AllAlike dpi pages pages
 same_pages dpi [] = tt
 same_pages dpi (sheet ∷ sheets) = (record { size = refl; copies = refl; dots = λ x y across down. refl }, same_pages dpi sheets)
 
+-- an accepted job is the same as itself
+same_as_itself : {dpi : Dpi} {job : List ℕ} {pages : List Sheet} {asks : Asks} → HasPages dpi job pages → HasAsks dpi job asks
+    → IsAskedComparison dpi job job Same
+same_as_itself {dpi} {job} {pages} {asks} meaning asked = record {
+  pages = pages;
+  meaning = meaning;
+  asks = asks;
+  asked = asked;
+  others = pages;
+  other_meaning = meaning;
+  other_asks = asks;
+  other_asked = asked;
+  compare = same_pages dpi pages;
+  compare_asks = refl;
+}
+
+-- a job that is accepted asks for something
+accepted_asks : {dpi : Dpi} {job : List ℕ} {pages : List Sheet} → (h : HasPages dpi job pages)
+    → HasAsks dpi job (of_job job (asks_among (performance_of dpi job h.commands)))
+accepted_asks h = record { commands = h.commands; reading = h.reading; accepted = h.accepted; asked = refl }
+
+kept_also : (also : Option Dpi) (job : List ℕ) (kept : Option KeptJob) → IsKeptAlso also job kept → IsSameAlso also job job
+kept_also None job None k = tt
+kept_also (Some dpi) job (Some kept) k = same_as_itself k.meaning k.asked
+kept_also also job kept k = absurd (grind arith)
+
+accepted_also : (also : Option Dpi) (job : List ℕ) → IsAcceptedAlso also job → IsSameAlso also job job
+accepted_also None job k = tt
+accepted_also (Some dpi) job k = same_as_itself k.1 (accepted_asks k.1)
+
 -- the job itself
-pub input_best : {dpi : Dpi} {job : List ℕ} {kept : KeptJob} → IsKept dpi job kept → IsBest dpi job job
-input_best {dpi} {kept = kept} k = record {
-  pages = k.pages;
-  meaning = k.meaning;
-  prints = record { again = k.pages; accepted = k.meaning; alike = same_pages dpi k.pages };
-  asks = asks_of kept.asks;
-  asked = k.asked;
-  asked_again = k.asked;
+pub input_best : {dpi : Dpi} {also : Option Dpi} {job : List ℕ} (kept : KeptJobs) → AreKept dpi also job kept → IsBest dpi also job job
+input_best {dpi} {also} {job} kept k = record {
+  pages = k.0.pages;
+  meaning = k.0.meaning;
+  prints = record { again = k.0.pages; accepted = k.0.meaning; alike = same_pages dpi k.0.pages };
+  asks = asks_of kept.first.asks;
+  asked = k.0.asked;
+  asked_again = k.0.asked;
+  same_also = kept_also also job kept.also k.1;
   within_input = omega arith;
 }
 
-pub limit_best : {dpi : Dpi} {job : List ℕ} {limit : ℕ} → IsLimit dpi job limit → IsBest dpi job job
-limit_best {dpi} k = record {
+pub limit_best : {dpi : Dpi} {also : Option Dpi} {job : List ℕ} {limit : ℕ} → IsAcceptedAlso also job → IsLimit dpi job limit
+    → IsBest dpi also job job
+limit_best {dpi} {also} {job} accepted k = record {
   pages = k.pages;
   meaning = k.meaning;
   prints = record { again = k.pages; accepted = k.meaning; alike = same_pages dpi k.pages };
   asks = k.asks;
   asked = k.asked;
   asked_again = k.asked;
+  same_also = accepted_also also job accepted;
   within_input = omega arith;
 }
 
@@ -57,10 +90,10 @@ same_as_raster say_the_same {dpi} {job} {raster} w asks asked nothing = record {
   compare_asks = refl;
 }
 
--- a proposal that was looked at
-pub proposal_smaller : OnePages → OneAsks → {dpi : Dpi} {job best proposal : List ℕ} → IsBest dpi job best
-    → IsAskedComparison dpi job proposal Same → length proposal < length best → IsBest dpi job proposal
-proposal_smaller one one_asks {dpi} {job} {best} {proposal} s looked short = record {
+-- a proposal that was compared
+pub proposal_smaller : OnePages → OneAsks → {dpi : Dpi} {also : Option Dpi} {job best proposal : List ℕ} → IsBest dpi also job best
+    → IsSameAt dpi also job proposal → length proposal < length best → IsBest dpi also job proposal
+proposal_smaller one one_asks {dpi} {also} {job} {best} {proposal} s (looked, same_also) short = record {
   pages = s.pages;
   meaning = s.meaning;
   prints = record {
@@ -71,6 +104,7 @@ proposal_smaller one one_asks {dpi} {job} {best} {proposal} s looked short = rec
   asks = looked.asks;
   asked = looked.asked;
   asked_again = subst (HasAsks dpi proposal) (sym looked.compare_asks) looked.other_asked;
+  same_also = same_also;
   within_input = omega (arith, s.within_input, short);
 }
 

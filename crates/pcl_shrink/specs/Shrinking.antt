@@ -1,17 +1,19 @@
 -- The smallest job that is found with the pages of another.
-use Rattle.std.specs.Prelude.{◌≡◌, ℕ, ◌≤◌, List, length, Result, Ok, Err}
+use Rattle.std.specs.Prelude.{◌≡◌, ℕ, ◌≤◌, List, length, Option, Some, None, Result, Ok, Err}
 use Rattle.pcl_base.specs.declared.dpi.Dpi.{Dpi}
+use Rattle.pcl_base.specs.declared.dpi.Dpi.TheVariants.{Dpi300, Dpi600}
 use Rattle.pcl_base.specs.declared.fault.JobFault.{JobFault}
 use Rattle.pcl_base.specs.declared.fault.JobFault.TheVariants.{Refused, Memory}
+use Rattle.pcl_base.specs.declared.refusal.Refusal.{Refusal}
+use Rattle.pcl_page.specs.Accepting.{IsAccepted, IsRefused}
 use Rattle.pcl_page.specs.Situation.{Sheet}
 use Rattle.pcl_page.specs.Asks.{Asks}
 use Rattle.pcl_page.specs.Jobs.{HasPages, HasAsks}
 use Rattle.pcl_page.specs.Delivering.{IsRefusal}
 use Rattle.pcl_page.specs.Alike.{AllAlike}
-use Rattle.pcl_same.specs.declared.comparison.AskedComparison.TheVariants.{Same}
-use Rattle.pcl_same.specs.Comparing.{IsAskedComparison}
 use Rattle.pcl_meaning.specs.JobTexts.{said_for, IsJobOf}
 use Rattle.pcl_shrink.specs.Asking.{asked_job}
+use Rattle.pcl_shrink.specs.Looking.{IsSameAlso, IsSameAt}
 use Rattle.pcl_shrink.specs.Texts.{AreLeastTexts}
 use Rattle.pcl_shrink.specs.declared.candidate.Shrunk.{Shrunk}
 
@@ -21,30 +23,59 @@ pub record PrintsAlike (dpi : Dpi) (pages : List Sheet) (job : List ℕ) : Type 
   pub accepted : HasPages dpi job again
   pub alike : AllAlike dpi pages again
 
--- The input is accepted, and the output prints its pages and asks for what it asks for. The output is no longer than the input, nor
--- than a least raster job of the input where it asks for no more than that says, nor than least page texts with what it asks for
--- around them, where these have the same pages and ask for the same.
-pub record IsSmallerJob (dpi : Dpi) (job output : List ℕ) : Type 0 where
+-- The input is accepted, and the output prints its pages and asks for what it asks for, at another resolution too where one counts. The
+-- output is no longer than the input, nor than a least raster job of the input where it asks for no more than that says, nor than least
+-- page texts with what it asks for around them, where these have the same pages and ask for the same; each of these two where it is the
+-- same at the other resolution.
+pub record IsSmallerJobAt (dpi : Dpi) (also : Option Dpi) (job output : List ℕ) : Type 0 where
   pub pages : List Sheet
   pub meaning : HasPages dpi job pages
   pub prints : PrintsAlike dpi pages output
   pub asks : Asks
   pub asked : HasAsks dpi job asks
   pub asked_again : HasAsks dpi output asks
+  pub same_also : IsSameAlso also job output
   pub within_input : length output ≤ length job
   pub raster : List ℕ
   pub raster_is : IsJobOf dpi job raster
-  pub within_raster : asks ≡ said_for pages → length output ≤ length raster
+  pub within_raster : asks ≡ said_for pages → IsSameAlso also job raster → length output ≤ length raster
   pub texts : List (List ℕ)
   pub least : AreLeastTexts dpi pages texts
-  pub within_asked : IsAskedComparison dpi job (asked_job asks texts) Same → length output ≤ length (asked_job asks texts)
+  pub within_asked : IsSameAt dpi also job (asked_job asks texts) → length output ≤ length (asked_job asks texts)
+
+abbrev pub IsSmallerJob : Dpi → List ℕ → List ℕ → Type 0
+IsSmallerJob dpi job output = IsSmallerJobAt dpi None job output
 
 -- such a job, and how many pages it has
-pub record IsShrunkTo (dpi : Dpi) (job : List ℕ) (shrunk : Shrunk) : Type 0 where
-  pub smaller : IsSmallerJob dpi job shrunk.job.items
+pub record IsShrunkTo (dpi : Dpi) (also : Option Dpi) (job : List ℕ) (shrunk : Shrunk) : Type 0 where
+  pub smaller : IsSmallerJobAt dpi also job shrunk.job.items
   pub counted : shrunk.pages ≡ length smaller.pages
 
+abbrev pub IsShrunkAt : Dpi → Option Dpi → List ℕ → Result Shrunk JobFault → Type 0
+IsShrunkAt dpi also job (Ok shrunk) = IsShrunkTo dpi also job shrunk
+IsShrunkAt dpi also job (Err (Refused refusal)) = IsRefusal dpi job refusal
+IsShrunkAt dpi also job (Err Memory) = Unit {0}
+
 abbrev pub IsShrunk : Dpi → List ℕ → Result Shrunk JobFault → Type 0
-IsShrunk dpi job (Ok shrunk) = IsShrunkTo dpi job shrunk
-IsShrunk dpi job (Err (Refused refusal)) = IsRefusal dpi job refusal
-IsShrunk dpi job (Err Memory) = Unit {0}
+IsShrunk dpi job result = IsShrunkAt dpi None job result
+
+-- ---- at each resolution
+
+-- where a job counts: at 300 dots per inch and at 600 too where it is accepted at both, else at the one at which it is
+abbrev pub CountsAt : List ℕ → Dpi → Option Dpi → Type 0
+CountsAt job Dpi300 (Some Dpi600) = IsAccepted Dpi300 job × IsAccepted Dpi600 job
+CountsAt job Dpi300 None = IsAccepted Dpi300 job × IsRefused Dpi600 job
+CountsAt job Dpi600 None = IsRefused Dpi300 job × IsAccepted Dpi600 job
+CountsAt job dpi also = ⊥
+
+abbrev pub IsSmallerEverywhere : List ℕ → List ℕ → Type 0
+IsSmallerEverywhere job output = (dpi : Dpi) × (also : Option Dpi) × CountsAt job dpi also × IsSmallerJobAt dpi also job output
+
+-- it is refused at both, at 300 dots per inch so
+abbrev pub IsRefusedEverywhere : List ℕ → Refusal → Type 0
+IsRefusedEverywhere job refusal = IsRefusal Dpi300 job refusal × IsRefused Dpi600 job
+
+abbrev pub IsShrunkEverywhere : List ℕ → Result Shrunk JobFault → Type 0
+IsShrunkEverywhere job (Ok shrunk) = (dpi : Dpi) × (also : Option Dpi) × CountsAt job dpi also × IsShrunkTo dpi also job shrunk
+IsShrunkEverywhere job (Err (Refused refusal)) = IsRefusedEverywhere job refusal
+IsShrunkEverywhere job (Err Memory) = Unit {0}

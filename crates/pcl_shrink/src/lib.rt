@@ -6,16 +6,18 @@
 
 mod asking;
 mod candidate;
+mod keeping;
 mod laws;
 mod letter_jobs;
 mod looking;
 mod proposals;
 mod raster_jobs;
 mod rasters;
+mod shifts;
 mod shrinking;
 mod squares;
 mod texts;
 
 pub use candidate::{Candidate, Shrunk};
 pub use laws::shrunk_jobs_have_the_same_pages;
-pub use shrinking::shrink;
+pub use shrinking::{shrink, shrink_everywhere};

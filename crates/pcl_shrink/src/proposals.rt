@@ -8,6 +8,7 @@ use crate::candidate::Proposal;
 use crate::letter_jobs::letter_job;
 use crate::raster_jobs::{asked_len, plain_job};
 use crate::rasters::{Text, shortest_texts};
+use crate::shifts::Shift;
 use crate::texts::{Found, page_texts};
 use pcl_base::{Dpi, JobFault};
 use pcl_lettering::Lettering;
@@ -27,14 +28,19 @@ pub struct Proposed {
 }
 
 /// Proposes a job with the pages of a job, which asks for what that asks for: its pages as their shortest rasters, or, where that is
-/// shorter, with letters. A refusal is the job's.
-pub fn propose(alloc: Global, job: &[u8], dpi: Dpi) -> Result<Proposed, JobFault>
+/// shorter, with letters. Where the dots of its pages lie at 600 dots per inch is given if that counts. A refusal is the job's.
+pub fn propose(
+    alloc: Global,
+    job: &[u8],
+    dpi: Dpi,
+    shifts: &[Shift],
+) -> Result<Proposed, JobFault>
     ensures { HasProposed dpi job.now result }
 {
-    let (texts, found) = page_texts(alloc, job, dpi)?;
+    let (texts, found) = page_texts(alloc, job, dpi, shifts)?;
     let pages = texts.len();
     let limit = asked_len(alloc, &found.asks, &texts)?;
-    let proposal = proposal_of(alloc, job, dpi, texts, found)?;
+    let proposal = proposal_of(alloc, job, dpi, shifts, texts, found)?;
     Ok(Proposed {
         proposal,
         limit,
@@ -43,22 +49,24 @@ pub fn propose(alloc: Global, job: &[u8], dpi: Dpi) -> Result<Proposed, JobFault
 }
 
 /// The shorter of the texts of the pages, with what is asked around them, and of a job with letters found by this: none where neither is
-/// shorter than the job, nor where the job counts on what stays in the printer, so that only the job itself asks for the same.
+/// shorter than the job, nor where the job counts on what stays in the printer, so that only the job itself asks for the same, nor where
+/// a page has dots that no page of 300 dots per inch has at 600.
 fn proposal_of(
     alloc: Global,
     job: &[u8],
     dpi: Dpi,
+    shifts: &[Shift],
     texts: Vec<Text>,
     found: Found<'_>,
 ) -> Result<Option<Proposal>, JobFault>
     ensures { RefusesWith dpi job.now result }
 {
     let Found { shapes, asks } = found;
-    if asks.lasts {
+    if asks.lasts || shifts.contains(&Shift::Other) {
         return Ok(None);
     }
     let by = raster_kind(&texts);
-    let plain = shortest_texts(alloc, texts)?;
+    let plain = shortest_texts(alloc, texts, shifts)?;
     match propose_letters(alloc, job, dpi, &asks, &plain, shapes)? {
         Some(job) => Ok(Some(Proposal {
             job,

@@ -3,6 +3,7 @@
 ghost use Rattle.std.specs.Prelude.{IfOk};
 ghost use Rattle.pcl_writer.specs.Appending.{IsWrittenPage};
 
+use crate::shifts::{Shift, shift_at};
 use crate::squares::{coarse_page, common_side};
 use pcl_base::Dpi;
 use pcl_page::Page;
@@ -39,13 +40,33 @@ impl Text {
     }
 }
 
-/// The shortest text of each page.
-pub fn shortest_texts(alloc: Global, texts: Vec<Text>) -> Result<Vec<Vec<u8>>, AllocError> {
+/// The shortest text of each page, half a dot lower where the page is.
+pub fn shortest_texts(
+    alloc: Global,
+    texts: Vec<Text>,
+    shifts: &[Shift],
+) -> Result<Vec<Vec<u8>>, AllocError> {
     let mut shortest = Vec::new(alloc);
-    for text in texts {
-        shortest.push(text.into_shortest())?;
+    for (number, text) in texts.into_iter().enumerate() {
+        let text = text.into_shortest();
+        let text = match shift_at(shifts, number) {
+            Shift::HalfLower => half_lower(alloc, &text)?,
+            Shift::Whole | Shift::Other => text,
+        };
+        shortest.push(text)?;
     }
     Ok(shortest)
+}
+
+/// A page text whose raster starts half a dot lower: the first `Y` puts the cursor to the page's corner.
+fn half_lower(alloc: Global, text: &[u8]) -> Result<Vec<u8>, AllocError> {
+    let place = text.iter().position(|byte| *byte == b'Y').unwrap_or(0);
+    let (start, rest) = text.split_at(place.min(text.len()));
+    let mut lower = Vec::new(alloc);
+    lower.extend_from_slice(start)?;
+    lower.extend_from_slice(b".5")?;
+    lower.extend_from_slice(rest)?;
+    Ok(lower)
 }
 
 /// The texts of a page as a raster.

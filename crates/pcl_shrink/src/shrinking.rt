@@ -1,21 +1,24 @@
 //! A job shrunk.
 
 ghost use Rattle.std.specs.Prelude.{◌≡◌, length, IfOk};
-ghost use Rattle.pcl_same.specs.Keeping.{IsKept};
-ghost use Rattle.pcl_shrink.specs.Shrinking.{IsShrunk};
+ghost use Rattle.pcl_base.specs.declared.dpi.Dpi.TheVariants.{Dpi600};
+ghost use Rattle.pcl_page.specs.Accepting.{IsAccepted};
+ghost use Rattle.pcl_shrink.specs.Shrinking.{IsShrunk, IsShrunkAt, IsShrunkEverywhere};
 ghost use Rattle.pcl_shrink.specs.inner.Best.{best_bytes, IsBest, IsShorter};
+ghost use Rattle.pcl_shrink.specs.inner.Kept.{AreKept, IsAcceptedAlso};
 ghost use Rattle.pcl_shrink.specs.inner.Proposals.{IsBestWithin, IsLimit, IsWithin};
 
 use crate::candidate::Proposal;
+use crate::keeping::{KeptJobs, Resolutions, keep_jobs};
 use crate::looking::is_same;
 use crate::proposals::{Proposed, propose};
 use crate::raster_jobs::asked_job;
+use crate::shifts::{Shift, page_shifts};
 use crate::texts::texts_alone;
 use crate::{Candidate, Shrunk};
 use pcl_base::{Dpi, JobFault};
 use pcl_meaning::written_jobs_say_copies_and_sizes;
 use pcl_page::one_meaning;
-use pcl_same::{KeptJob, keep_job};
 use std::alloc::{AllocError, Global};
 
 /// The smallest job that is found with the pages of a job, dot for dot, and which asks the printer for what that asks for. It is
@@ -23,49 +26,96 @@ use std::alloc::{AllocError, Global};
 pub fn shrink(alloc: Global, job: &[u8], dpi: Dpi) -> Result<Shrunk, JobFault>
     ensures { IsShrunk dpi job.now result }
 {
+    let at = Resolutions {
+        first: dpi,
+        also: None,
+    };
+    shrink_at(alloc, job, at, &[])
+}
+
+/// The same at each of 300 and 600 dots per inch at which a job is accepted: what is written has its pages at both, where both accept it.
+/// A refusal is the one at 300, where it is refused at 600 too.
+pub fn shrink_everywhere(alloc: Global, job: &[u8]) -> Result<Shrunk, JobFault>
+    ensures { IsShrunkEverywhere job.now result }
+{
+    one_meaning();
+    match page_shifts(alloc, job) {
+        Ok(shifts) => shrink_fine(alloc, job, &shifts),
+        Err(JobFault::Refused(_)) => shrink(alloc, job, Dpi::Dpi300),
+        Err(JobFault::Memory) => Err(JobFault::Memory),
+    }
+}
+
+/// The same of a job that is accepted at 600 dots per inch, where its pages have these shifts.
+fn shrink_fine(alloc: Global, job: &[u8], shifts: &[Shift]) -> Result<Shrunk, JobFault>
+    ensures { IsAccepted Dpi600 job.now → IsShrunkEverywhere job.now result }
+{
+    one_meaning();
+    let at = Resolutions {
+        first: Dpi::Dpi300,
+        also: Some(Dpi::Dpi600),
+    };
+    match shrink_at(alloc, job, at, shifts) {
+        Ok(shrunk) => Ok(shrunk),
+        Err(JobFault::Refused(_)) => shrink(alloc, job, Dpi::Dpi600),
+        Err(JobFault::Memory) => Err(JobFault::Memory),
+    }
+}
+
+/// The same at these resolutions, where the pages have these shifts.
+fn shrink_at(
+    alloc: Global,
+    job: &[u8],
+    at: Resolutions,
+    shifts: &[Shift],
+) -> Result<Shrunk, JobFault>
+    ensures { IsAcceptedAlso at.also job.now → IsShrunkAt at.first at.also job.now result }
+{
     let Proposed {
         proposal,
         limit,
         pages,
-    } = propose(alloc, job, dpi)?;
-    let best = best_of(alloc, job, dpi, proposal, limit)?;
+    } = propose(alloc, job, at.first, shifts)?;
+    let best = best_of(alloc, job, at, proposal, limit)?;
     one_meaning();
     Ok(best_or_input(alloc, job, best, pages)?)
 }
 
 /// The best of the job, of what is proposed for it, and of the least page texts with what the job asks for around them, which have so many
-/// bytes at least: none where it is the job. Pages are kept only where something is looked at, once what proposes has gone.
+/// bytes at least: none where it is the job. Pages are kept only where something is compared, once what proposes has gone.
 fn best_of(
     alloc: Global,
     job: &[u8],
-    dpi: Dpi,
+    at: Resolutions,
     proposal: Option<Proposal>,
     limit: usize,
 ) -> Result<Option<Proposal>, JobFault>
-    ensures { IsLimit dpi job.now limit → IsBestWithin dpi job.now result }
+    ensures { IsAcceptedAlso at.also job.now → IsLimit at.first job.now limit → IsBestWithin at.first at.also job.now result }
 {
     one_meaning();
     written_jobs_say_copies_and_sizes();
     if proposal.is_none() && job.len() <= limit {
         return Ok(None);
     }
-    let kept = keep_job(alloc, job, dpi)?;
-    let best = looked_at(alloc, &kept, dpi, job, proposal)?;
-    within(alloc, &kept, dpi, job, best, limit)
+    let kept = keep_jobs(alloc, job, at)?;
+    let best = looked_at(alloc, &kept, at, job, proposal)?;
+    within(alloc, &kept, at, job, best, limit)
 }
 
 /// What is proposed where it is shorter than the job, has its pages and asks for the same.
 fn looked_at(
     alloc: Global,
-    kept: &KeptJob<'_>,
-    dpi: Dpi,
+    kept: &KeptJobs<'_>,
+    at: Resolutions,
     job: &[u8],
     proposal: Option<Proposal>,
 ) -> Result<Option<Proposal>, AllocError>
-    ensures { IsKept dpi job.now kept.now → IfOk result (λ best. IsBest dpi job.now (best_bytes job.now best)) }
+    ensures { AreKept at.first at.also job.now kept.now
+        → IfOk result (λ best. IsBest at.first at.also job.now (best_bytes job.now best)) }
 {
+    one_meaning();
     match proposal {
-        Some(proposal) => shorter(alloc, kept, dpi, job, None, proposal),
+        Some(proposal) => shorter(alloc, kept, at, job, None, proposal),
         None => Ok(None),
     }
 }
@@ -74,44 +124,45 @@ fn looked_at(
 /// around them. Else a proposal wasn't what it was to be: then it is compared with these.
 fn within(
     alloc: Global,
-    kept: &KeptJob<'_>,
-    dpi: Dpi,
+    kept: &KeptJobs<'_>,
+    at: Resolutions,
     job: &[u8],
     best: Option<Proposal>,
     limit: usize,
 ) -> Result<Option<Proposal>, JobFault>
-    ensures { IsKept dpi job.now kept.now → IsLimit dpi job.now limit → IsWithin dpi job.now best result }
+    ensures { AreKept at.first at.also job.now kept.now → IsLimit at.first job.now limit → IsWithin at.first at.also job.now best result }
 {
     one_meaning();
     written_jobs_say_copies_and_sizes();
     if best_len(job, &best) <= limit {
         return Ok(best);
     }
-    let texts = texts_alone(alloc, job, dpi)?;
+    let texts = texts_alone(alloc, job, at.first)?;
     let rasters = Proposal {
-        job: asked_job(alloc, kept.asks(), &texts)?,
+        job: asked_job(alloc, kept.first.asks(), &texts)?,
         by: Candidate::Raster,
     };
-    Ok(shorter(alloc, kept, dpi, job, best, rasters)?)
+    Ok(shorter(alloc, kept, at, job, best, rasters)?)
 }
 
 /// A proposal where it is shorter than the best job so far, has the pages of the job that is kept and asks for the same; else the best
 /// job so far, which is the job itself where there is none.
 fn shorter(
     alloc: Global,
-    kept: &KeptJob<'_>,
-    dpi: Dpi,
+    kept: &KeptJobs<'_>,
+    at: Resolutions,
     job: &[u8],
     best: Option<Proposal>,
     proposal: Proposal,
 ) -> Result<Option<Proposal>, AllocError>
-    ensures { IsKept dpi job.now kept.now
-        → IfOk result (λ shorter. IsShorter dpi job.now (best_bytes job.now best) proposal.job.items (best_bytes job.now shorter)) }
+    ensures { AreKept at.first at.also job.now kept.now
+        → IfOk result (λ shorter. IsShorter at.first at.also job.now (best_bytes job.now best) proposal.job.items
+        (best_bytes job.now shorter)) }
 {
     if proposal.job.len() >= best_len(job, &best) {
         return Ok(best);
     }
-    if !is_same(alloc, kept, &proposal.job, dpi)? {
+    if !is_same(alloc, kept, &proposal.job, at)? {
         return Ok(best);
     }
     one_meaning();

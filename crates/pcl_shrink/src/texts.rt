@@ -3,6 +3,7 @@
 ghost use Rattle.pcl_shrink.specs.Texts.{HasTexts, HasTextsAlone};
 
 use crate::rasters::{Text, page_text};
+use crate::shifts::{Shift, shift_at};
 use pcl_base::{Dpi, JobFault};
 use pcl_page::{Asks, Page, PageSink, perform_asked};
 use pcl_shapes::Collection;
@@ -18,17 +19,20 @@ pub struct Found<'a> {
     pub asks: Asks<'a>,
 }
 
-/// The texts of the pages of a job as rasters, and what their letters are found by. A refusal is the job's.
+/// The texts of the pages of a job as rasters, and what letters are found by of those pages whose dots are whole at 600 dots per inch too.
+/// A refusal is the job's.
 pub fn page_texts<'a>(
     alloc: Global,
     job: &'a [u8],
     dpi: Dpi,
+    shifts: &[Shift],
 ) -> Result<(Vec<Text>, Found<'a>), JobFault>
     ensures { HasTexts dpi job.now result }
 {
     let mut writer = TextWriter {
         texts: Vec::new(alloc),
         shapes: Collection::new(alloc, dpi),
+        shifts,
     };
     let asks = perform_asked(alloc, job, dpi, &mut writer)?;
     let shapes = writer.shapes;
@@ -39,20 +43,38 @@ pub fn page_texts<'a>(
 pub fn texts_alone(alloc: Global, job: &[u8], dpi: Dpi) -> Result<Vec<Text>, JobFault>
     ensures { HasTextsAlone dpi job.now result }
 {
-    match page_texts(alloc, job, dpi) {
+    match page_texts(alloc, job, dpi, &[]) {
         Ok((texts, _)) => Ok(texts),
         Err(fault) => Err(fault),
     }
 }
 
-/// Writes the pages that come, and collects their shapes.
-#[derive(Drop)]
-struct TextWriter {
-    texts: Vec<Text>,
-    shapes: Collection,
+/// Collects the shapes of the next page, whose text takes this many bytes as a raster, where its dots are whole at 600 dots per inch too.
+fn collect(
+    shapes: &mut Collection,
+    page: &Page,
+    shift: Shift,
+    bytes: usize,
+) -> Result<(), AllocError> {
+    match shift {
+        Shift::Whole => {
+            shapes.add_room(bytes);
+            shapes.page(page)
+        }
+        Shift::HalfLower | Shift::Other => shapes.pass_page(page),
+    }
 }
 
-impl Model for TextWriter {
+/// Writes the pages that come, and collects their shapes.
+#[derive(Drop)]
+struct TextWriter<'b> {
+    texts: Vec<Text>,
+    shapes: Collection,
+    /// Where the dots of the pages lie at 600 dots per inch, if that counts.
+    shifts: &'b [Shift],
+}
+
+impl<'b> Model for TextWriter<'b> {
     ghost use Rattle.std.specs.Prelude.{ℕ, List};
     ghost use Rattle.pcl_shrink.specs.Texts.{least_of};
 
@@ -61,15 +83,15 @@ impl Model for TextWriter {
     ghost view = { λ a. least_of a.texts.items };
 }
 
-impl PageSink for TextWriter {
+impl<'b> PageSink for TextWriter<'b> {
     ghost use Rattle.pcl_shrink.specs.Texts.{TakesText};
 
     ghost takes = { λ old page new. TakesText old page new };
 
     fn page(&mut self, page: &Page) -> Result<(), AllocError> {
         let text = page_text(*self.texts.allocator(), page)?;
-        self.shapes.add_room(text.shortest_len());
-        self.shapes.page(page)?;
+        let shift = shift_at(self.shifts, self.texts.len());
+        collect(&mut self.shapes, page, shift, text.shortest_len())?;
         self.texts.push(text)?;
         Ok(())
     }

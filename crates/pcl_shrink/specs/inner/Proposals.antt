@@ -9,7 +9,7 @@ use Rattle.pcl_page.specs.Jobs.{HasPages, HasAsks}
 use Rattle.pcl_page.specs.Delivering.{IsRefusal}
 use Rattle.pcl_shrink.specs.Asking.{asked_job}
 use Rattle.pcl_shrink.specs.Texts.{AreLeastTexts}
-use Rattle.pcl_shrink.specs.Shrinking.{IsSmallerJob}
+use Rattle.pcl_shrink.specs.Shrinking.{IsSmallerJobAt}
 use Rattle.pcl_shrink.specs.inner.Best.{IsBest, best_bytes}
 use Rattle.pcl_shrink.specs.declared.candidate.Proposal.{Proposal}
 use Rattle.pcl_shrink.specs.declared.proposals.Proposed.{Proposed}
@@ -34,13 +34,13 @@ HasProposed dpi job (Err (Refused refusal)) = IsRefusal dpi job refusal
 HasProposed dpi job (Err Memory) = Unit {0}
 
 -- the best job is no longer than the job, nor than least page texts with what is asked for around them
-abbrev pub IsBestWithin : Dpi → List ℕ → Result (Option Proposal) JobFault → Type 0
-IsBestWithin dpi job (Ok best) = IsSmallerJob dpi job (best_bytes job best)
-IsBestWithin dpi job (Err (Refused refusal)) = IsRefusal dpi job refusal
-IsBestWithin dpi job (Err Memory) = Unit {0}
+abbrev pub IsBestWithin : Dpi → Option Dpi → List ℕ → Result (Option Proposal) JobFault → Type 0
+IsBestWithin dpi also job (Ok best) = IsSmallerJobAt dpi also job (best_bytes job best)
+IsBestWithin dpi also job (Err (Refused refusal)) = IsRefusal dpi job refusal
+IsBestWithin dpi also job (Err Memory) = Unit {0}
 
 -- a job that was the best so far becomes one that is no longer than least page texts with what is asked for around them
-abbrev pub IsWithin : Dpi → List ℕ → Option Proposal → Result (Option Proposal) JobFault → Type 0
-IsWithin dpi job best (Ok last) = IsBest dpi job (best_bytes job best) → IsSmallerJob dpi job (best_bytes job last)
-IsWithin dpi job best (Err (Refused refusal)) = IsRefusal dpi job refusal
-IsWithin dpi job best (Err Memory) = Unit {0}
+abbrev pub IsWithin : Dpi → Option Dpi → List ℕ → Option Proposal → Result (Option Proposal) JobFault → Type 0
+IsWithin dpi also job best (Ok last) = IsBest dpi also job (best_bytes job best) → IsSmallerJobAt dpi also job (best_bytes job last)
+IsWithin dpi also job best (Err (Refused refusal)) = IsRefusal dpi job refusal
+IsWithin dpi also job best (Err Memory) = Unit {0}

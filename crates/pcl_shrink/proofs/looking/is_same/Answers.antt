@@ -1,10 +1,17 @@
-use Rattle.pcl_shrink.proofs.Looked.{answered, refused}
+use Rattle.pcl_shrink.proofs.Looked.{unlike_first}
+use Rattle.pcl_shrink.proofs.Everywhere.{kept_alone, kept_there, found_also}
 use Rattle.pcl_shrink.proofs.looking.is_same.Goals as goal
 
-pub returns-in-Ok : goal.returns-in-Ok
-returns-in-Ok c = λ job kept.
-    answered c.one_asked_answer.ensures c.in-Ok.comparison c.is_same.result c.is_same.ensures (c.in-Ok.ensures job kept)
+pub returns-then-not-branch : goal.returns-then-not-branch
+returns-then-not-branch c = λ job kept.
+    unlike_first c.args.at.first c.args.at.also job c.args.candidate.now _ c.if-not-branch.true (c.in_ok-is_same_at.ensures job kept.0)
 
-pub returns-in-Err-Refused : goal.returns-in-Err-Refused
-returns-in-Err-Refused c = λ job kept.
-    refused c.one_asked_answer.ensures c.args.dpi job c.args.candidate.now c.in-Err-Refused.field-0-is (c.in-Err-Refused.ensures job kept)
+pub returns-in-Some-Some : goal.returns-in-Some-Some
+returns-in-Some-Some c = λ job kept.
+    found_also c.args.at.first c.args.at.also job c.args.candidate.now _ _ c.if-not-branch.false c.in-Some-Some.is-1
+    (c.in_ok-is_same_at.ensures job kept.0)
+    (c.is_same_at-in-Some-Some.ensures job (kept_there _ job _ c.in-Some-Some.is-1 c.in-Some-Some.is-0 kept.1))
+
+pub returns-in_default-2 : goal.returns-in_default-2
+returns-in_default-2 c = λ job kept.
+    (rw c.if-not-branch.false at (c.in_ok-is_same_at.ensures job kept.0), kept_alone _ job _ _ c.in_default.is-0 kept.1)

@@ -11,5 +11,5 @@ pub returns : goal.returns
 returns c = λ kept limit.
     let found = c.in_ok-texts.ensures in
     raster_job c.one_meaning.ensures.pages c.one_meaning.ensures.asks c.written_jobs_say_copies_and_sizes.ensures
-    (least_of c.in_ok-texts.texts.items) found.1 kept.asked found.2
+    (least_of c.in_ok-texts.texts.items) found.1 kept.0.asked found.2
     (rw (c.asks.ensures, c.deref.ensures.value) at c.in_ok-asked_job.ensures) (c.in_ok-shorter.ensures kept)

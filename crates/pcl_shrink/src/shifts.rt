@@ -1,0 +1,95 @@
+//! Where the dots of pages of 300 dots per inch lie at 600.
+
+ghost use Rattle.pcl_shrink.specs.Outcome.{IsOutcome};
+
+use pcl_base::{Dpi, JobFault};
+use pcl_bitmap::Bitmap;
+use pcl_page::{Page, PageSink, perform};
+use std::alloc::{AllocError, Global};
+use std::marker::Model;
+
+/// Where the dots of a page of 300 dots per inch lie at 600.
+#[derive(Clone, Copy, Debug, PartialEq, Eq)]
+pub enum Shift {
+    /// Each is a square of two dots, from the upper left corner on.
+    Whole,
+    /// The same, half a dot lower.
+    HalfLower,
+    /// Neither.
+    Other,
+}
+
+/// The shift of each page of a job that is accepted at 600 dots per inch. A refusal is the job's.
+pub fn page_shifts(alloc: Global, job: &[u8]) -> Result<Vec<Shift>, JobFault>
+    ensures { IsOutcome Dpi.Dpi600 job.now result }
+{
+    let mut finder = ShiftFinder {
+        shifts: Vec::new(alloc),
+    };
+    perform(alloc, job, Dpi::Dpi600, &mut finder)?;
+    Ok(finder.shifts)
+}
+
+/// The shift of the page of this number, from 0: whole where none was looked for.
+pub fn shift_at(shifts: &[Shift], number: usize) -> Shift {
+    shifts.get(number).copied().unwrap_or(Shift::Whole)
+}
+
+/// The shift of a page at 600 dots per inch.
+fn shift_of(bitmap: &Bitmap) -> Shift {
+    let row_bytes = bitmap.size().row_bytes(bitmap.dpi()).max(1);
+    let bytes = bitmap.bytes();
+    if !bytes.iter().all(|byte| is_doubled(*byte)) {
+        return Shift::Other;
+    }
+    if are_pairs(bytes, row_bytes) {
+        return Shift::Whole;
+    }
+    let (first, rest) = bytes.split_at(row_bytes.min(bytes.len()));
+    if first.iter().all(|byte| *byte == 0) && are_pairs(rest, row_bytes) {
+        Shift::HalfLower
+    } else {
+        Shift::Other
+    }
+}
+
+/// Whether each dot of a byte is there twice.
+fn is_doubled(byte: u8) -> bool {
+    (byte ^ (byte >> 1)) & 0x55 == 0
+}
+
+/// Whether rows of this many bytes are each there twice; the last one may be there once.
+fn are_pairs(bytes: &[u8], row_bytes: usize) -> bool {
+    let row_bytes = row_bytes.max(1);
+    bytes
+        .chunks(row_bytes.saturating_mul(2))
+        .all(|rows| is_pair(rows, row_bytes))
+}
+
+/// Whether two rows of this many bytes are the same, if there are two.
+fn is_pair(rows: &[u8], row_bytes: usize) -> bool {
+    let (upper, lower) = rows.split_at(row_bytes.min(rows.len()));
+    lower.is_empty() || upper == lower
+}
+
+/// Finds the shift of each page that comes.
+#[derive(Drop)]
+struct ShiftFinder {
+    shifts: Vec<Shift>,
+}
+
+impl Model for ShiftFinder {
+    // Nothing is said of what was found.
+    ghost Value = { Unit {0} };
+
+    ghost view = { λ _. tt };
+}
+
+impl PageSink for ShiftFinder {
+    ghost takes = { λ old page new. Unit {0} };
+
+    fn page(&mut self, page: &Page) -> Result<(), AllocError> {
+        self.shifts.push(shift_of(&page.bitmap))?;
+        Ok(())
+    }
+}
