@@ -7,11 +7,11 @@ use crate::rewriting::Filter;
 use clap::Error;
 use clap::error::ErrorKind;
 use pcl_answers::Ending;
+use pcl_arguments::{parse_batch, parse_request};
 use pcl_batch::run_named;
 use pcl_command::carry_out;
 use pcl_files::{Failure, JobFiles, Reporter, USAGE_STATUS, refuse_terminal};
 use pcl_request::Request;
-use pcl_words::{parse_batch, parse_request};
 use std::alloc::Global;
 use std::convert::AsStr;
 use std::io::{Read, Write};
@@ -31,8 +31,8 @@ pub fn run<F: JobFiles, S: AsStr, R: Read, W: Write, P: Reporter + Copy>(
         (R.remaining reader.old) (R.remaining reader.new) (W.contents out.old) (W.contents out.new) result }
 {
     if ask_for_batch(words) {
-        let told = if is_terminal { None } else { Some(reporter) };
-        return run_batch_words(files, alloc, words, reader, out, told);
+        let reporter = if is_terminal { None } else { Some(reporter) };
+        return run_batch_words(files, alloc, words, reader, out, reporter);
     }
     let request = parse_request(alloc, words);
     run_request(files, alloc, request, reader, out, is_terminal, reporter)
