@@ -54,8 +54,8 @@ IsPreviewRun dpi choice given left old new (Err TooLong) = IsUnread given left o
 IsPreviewRun dpi choice given left old new shown =
     (job : List ℕ) × IsRead given left job × IsPagesPreview dpi job choice old new shown
 
--- what a reader gave and a writer holds after a text on the job that it gives was written, which tells of the job what is to be told,
--- or after it was refused
+-- what a reader gave and a writer holds after a text was written, which says of the job that the reader gives what it is to say, or
+-- after that job was refused
 abbrev pub IsTextRun : (Tells : List ℕ → List ℕ → Type 0) → (Refuses : List ℕ → Refusal → Type 0)
     → (given left old new : Option (List ℕ)) → Result (Unit {0}) Fault → Type 0
 IsTextRun Tells Refuses given left old new (Ok unit) =

@@ -55,15 +55,15 @@ fn do_request<F: JobFiles, R: Read, W: Write, P: Reporter>(
 {
     match request {
         Request::Run(run) => {
-            let told = told_of(run.quiet, watcher);
-            match do_run(files, alloc, run, reader, out, told) {
+            let watcher = unless_quiet(run.quiet, watcher);
+            match do_run(files, alloc, run, reader, out, watcher) {
                 Ok(()) => Ending::Done,
                 Err(failure) => Ending::Failed(failure),
             }
         }
         Request::Check(asked) => {
-            let told = told_of(asked.quiet, watcher);
-            match check(files, alloc, asked, out, told) {
+            let watcher = unless_quiet(asked.quiet, watcher);
+            match check(files, alloc, asked, out, watcher) {
                 Ok(answer) => Ending::Checked(answer),
                 Err(fault) => Ending::Failed(Failure::of(alloc, &fault, 0)),
             }
@@ -76,7 +76,7 @@ fn do_request<F: JobFiles, R: Read, W: Write, P: Reporter>(
 }
 
 /// The watcher of the pages of a run: none where it is to be quiet.
-fn told_of<P: Reporter>(quiet: bool, watcher: P) -> Option<P>
+fn unless_quiet<P: Reporter>(quiet: bool, watcher: P) -> Option<P>
     ensures { result ≡ (if quiet then None else Some watcher) }
 {
     if quiet { None } else { Some(watcher) }
