@@ -5,6 +5,7 @@ ghost use Rattle.pcl_page.specs.Delivering.{IsRefusal};
 ghost use Rattle.pcl_explain.specs.Findings.{Explains};
 ghost use Rattle.pcl_shrink.specs.Shrinking.{IsSmallerJob};
 ghost use Rattle.pcl_command.specs.Runs.{HasCarriedOut, HasDone, HasDoneSeen, HasDoneTask, HasEnded, HasWritten, HasWrittenTo, IsKindExplained, IsPreviewRun, IsTextRun, NeverRefuses, TellsOfPages};
+ghost use Rattle.pcl_command.specs.World.{world};
 
 use crate::certifying::certify;
 use crate::clashes::{clashes, refuse_clash};
@@ -32,8 +33,8 @@ pub fn carry_out<F: JobFiles, R: Read, W: Write, P: Reporter>(
     out: &mut W,
     watcher: P,
 ) -> Ending
-    ensures { HasEnded F.acts request.entry files.old files.new (R.remaining reader.old) (R.remaining reader.new)
-        (W.contents out.old) (W.contents out.new) result }
+    ensures { HasEnded F.acts request.entry (world files.old (R.remaining reader.old) (W.contents out.old))
+        (world files.new (R.remaining reader.new) (W.contents out.new)) result }
 {
     if clashes(files, request) {
         return Ending::Failed(refuse_clash(alloc, request));
@@ -50,8 +51,8 @@ fn do_request<F: JobFiles, R: Read, W: Write, P: Reporter>(
     out: &mut W,
     watcher: P,
 ) -> Ending
-    ensures { HasCarriedOut F.acts request.entry files.old files.new (R.remaining reader.old) (R.remaining reader.new)
-        (W.contents out.old) (W.contents out.new) result }
+    ensures { HasCarriedOut F.acts request.entry (world files.old (R.remaining reader.old) (W.contents out.old))
+        (world files.new (R.remaining reader.new) (W.contents out.new)) result }
 {
     match request {
         Request::Run(run) => {
@@ -91,8 +92,8 @@ fn do_run<F: JobFiles, R: Read, W: Write, P: Reporter>(
     out: &mut W,
     watcher: P,
 ) -> Result<(), Failure>
-    ensures { HasDone F.acts run.entry files.old files.new (R.remaining reader.old) (R.remaining reader.new)
-        (W.contents out.old) (W.contents out.new) result }
+    ensures { HasDone F.acts run.entry (world files.old (R.remaining reader.old) (W.contents out.old))
+        (world files.new (R.remaining reader.new) (W.contents out.new)) result }
 {
     match run.source {
         Source::StandardInput => write_result(files, alloc, run, reader, out, watcher),
@@ -112,8 +113,8 @@ fn write_result<F: JobFiles, R: Read, W: Write, P: Reporter>(
     out: &mut W,
     watcher: P,
 ) -> Result<(), Failure>
-    ensures { HasWritten F.acts run.entry files.old files.new (R.remaining reader.old) (R.remaining reader.new)
-        (W.contents out.old) (W.contents out.new) result }
+    ensures { HasWritten F.acts run.entry (world files.old (R.remaining reader.old) (W.contents out.old))
+        (world files.new (R.remaining reader.new) (W.contents out.new)) result }
 {
     match run.work {
         Work::Task(task) => {
@@ -148,8 +149,8 @@ fn write_to<F: JobFiles, R: Read, W: Write, P: Reporter>(
     out: &mut W,
     watcher: P,
 ) -> Result<(), Failure>
-    ensures { HasWrittenTo F.acts task resolution target.entry files.old files.new (R.remaining reader.old) (R.remaining reader.new)
-        (W.contents out.old) (W.contents out.new) result }
+    ensures { HasWrittenTo F.acts task resolution target.entry (world files.old (R.remaining reader.old) (W.contents out.old))
+        (world files.new (R.remaining reader.new) (W.contents out.new)) result }
 {
     match target {
         Target::StandardOutput => {

@@ -1,6 +1,7 @@
 //! A run by the words of a command line, and its status.
 
 ghost use Rattle.std.specs.Prelude.{◌⊎◌, ◌↔◌, map, IsTrue};
+ghost use Rattle.pcl_command.specs.World.{world};
 ghost use Rattle.pcl_program.specs.Runs.{IsShown, HasRunAsked, HasRunWords, AskForBatch, IsExitStatus};
 
 use crate::rewriting::Filter;
@@ -27,8 +28,9 @@ pub fn run<F: JobFiles, S: AsStr, R: Read, W: Write, P: Reporter + Copy>(
     is_terminal: bool,
     reporter: P,
 ) -> Result<Ending, Error>
-    ensures { AskForBatch (map S.text words.now) ⊎ HasRunWords F.acts is_terminal files.old files.new
-        (R.remaining reader.old) (R.remaining reader.new) (W.contents out.old) (W.contents out.new) result }
+    ensures { AskForBatch (map S.text words.now) ⊎ HasRunWords F.acts is_terminal
+        (world files.old (R.remaining reader.old) (W.contents out.old))
+        (world files.new (R.remaining reader.new) (W.contents out.new)) result }
 {
     if ask_for_batch(words) {
         let reporter = if is_terminal { None } else { Some(reporter) };
@@ -89,8 +91,8 @@ pub fn run_request<F: JobFiles, R: Read, W: Write, P: Reporter>(
     is_terminal: bool,
     reporter: P,
 ) -> Result<Ending, Error>
-    ensures { HasRunAsked F.acts is_terminal asked.entry files.old files.new (R.remaining reader.old) (R.remaining reader.new)
-        (W.contents out.old) (W.contents out.new) result }
+    ensures { HasRunAsked F.acts is_terminal asked.entry (world files.old (R.remaining reader.old) (W.contents out.old))
+        (world files.new (R.remaining reader.new) (W.contents out.new)) result }
 {
     match asked {
         Ok(request) if is_terminal && request.writes_raw() => {
