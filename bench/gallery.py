@@ -22,8 +22,8 @@ DEPTH = 15  # of a picture: the number of white
 MOST_BYTES = 20000
 HEAD = """# Ten jobs of real clients
 
-A title names the driver, its options, and the document. The picture is page 1 by `pclmin pbm`, made smaller; the bytes are those
-of all pages. What `min` and `shrink` write prints the same pages as the job that was sent, dot for dot, by `pclmin same`.
+A title names the driver, its options, and the document; the picture is page 1 by `pclmin pbm`, made smaller. Bytes are those of all
+pages. What `min` and `shrink` write prints the same pages as the job that was sent, by `pclmin same`.
 
 `bench/gallery.py PROGRAM` makes this page anew.
 """
@@ -48,9 +48,8 @@ def entry(program, folder, gallery, number, job):
     drawn = picture(program, result.dpi, os.path.join(folder, str(number), "job.pcl"), os.path.join(gallery, file))
     if drawn > MOST_BYTES:
         sys.exit("%s has %d bytes" % (file, drawn))
-    sizes = "{:,} | {:,} | {:,}".format(result.sent, result.least, result.smaller)
-    return "\n## %s\n\n| dpi | As sent | `min` | `shrink` |\n|---:|---:|---:|---:|\n| %d | %s |\n\n![Page 1 of %s](gallery/%s)\n" % (
-        name, result.dpi, sizes, name, file)
+    sizes = "sent {:,} bytes, `min` {:,}, `shrink` {:,}".format(result.sent, result.least, result.smaller)
+    return "\n## %s\n\n%d dots per inch: %s\n\n![Page 1 of %s](gallery/%s)\n" % (name, result.dpi, sizes, name, file)
 
 
 def main(program):

@@ -67,10 +67,10 @@ impl Write for Taken {
 
 /// Counts what is reported to it.
 #[derive(Drop)]
-struct Told {
-    /// The number of pages that was told last.
+struct Reports {
+    /// The number of pages that was reported last.
     pages: Cell<u32>,
-    /// How often pages were told.
+    /// How often pages were reported.
     times: Cell<u32>,
     /// How often the end was.
     ends: Cell<u32>,
@@ -79,10 +79,10 @@ struct Told {
     alloc: Global,
 }
 
-impl Told {
+impl Reports {
     /// Before the run.
-    fn new(alloc: Global) -> Told {
-        Told {
+    fn new(alloc: Global) -> Reports {
+        Reports {
             pages: Cell::new(0),
             times: Cell::new(0),
             ends: Cell::new(0),
@@ -92,7 +92,7 @@ impl Told {
     }
 }
 
-impl Reporter for &Told {
+impl Reporter for &Reports {
     fn report(&self, line: &[u8]) {
         let mut said = self.said.replace(Vec::new(self.alloc));
         let _ = said.extend_from_slice(line);
@@ -102,7 +102,7 @@ impl Reporter for &Told {
     fn jobs_done(&self, _done: usize, _jobs: usize) {}
 }
 
-impl Watcher for &Told {
+impl Watcher for &Reports {
     fn pages_done(&self, pages: u32) {
         self.pages.set(pages);
         self.times.set(self.times.get().saturating_add(1));
@@ -156,7 +156,7 @@ pub struct Commands {
     said: String,
     is_whole: bool,
     /// The pages that are reported, and how often the end is.
-    told: (usize, usize),
+    reported: (usize, usize),
     /// The file that is made, and what it begins with.
     made: Option<(String, Begin)>,
 }
@@ -174,7 +174,7 @@ impl Commands {
             written: nothing(alloc),
             said: String::new(alloc),
             is_whole: true,
-            told: (0, 0),
+            reported: (0, 0),
             made: None,
         }
     }
@@ -185,7 +185,7 @@ impl Commands {
         self.written = nothing(alloc);
         self.said = String::new(alloc);
         self.is_whole = true;
-        self.told = (0, 0);
+        self.reported = (0, 0);
         self.made = None;
         Ok(())
     }
@@ -200,7 +200,7 @@ impl Commands {
                 self.said = String::from_str(alloc, rest)?;
                 self.is_whole = false;
             }
-            "tells" => self.told = counts_of(rest)?,
+            "tells" => self.reported = counts_of(rest)?,
             "makes" => {
                 let (file, begin) = rest.split_once(' ').ok_or(TableFault::Unknown)?;
                 self.made = Some((String::from_str(alloc, file)?, Begin::parse(alloc, begin)?));
@@ -254,7 +254,7 @@ impl Commands {
         let words = self.line.as_str().split(' ').collect::<Vec<&str>>(alloc)?;
         let mut given = Given(self.job.as_deref());
         let mut taken = Taken(self.is_held.then_some(Held::new(alloc)));
-        let told = Told::new(alloc);
+        let reports = Reports::new(alloc);
         let ended = run(
             folder,
             alloc,
@@ -262,10 +262,10 @@ impl Commands {
             &mut given,
             &mut taken,
             self.is_terminal,
-            &told,
+            &reports,
         );
-        let reported = told.said.replace(Vec::new(alloc));
-        let mut said = String::from_utf8_lossy(alloc, &reported)?;
+        let lines = reports.said.replace(Vec::new(alloc));
+        let mut said = String::from_utf8_lossy(alloc, &lines)?;
         said.push_str(text_of(alloc, &ended)?.as_str())?;
         let held = taken.0.unwrap_or(Held::new(alloc));
         let written = held.bytes();
@@ -273,18 +273,18 @@ impl Commands {
             && self.written.is_of(written)
             && held.is_flushed()
             && self.is_said(&said)
-            && self.is_told(&told)
+            && self.is_reported(&reports)
             && self.is_made(folder);
         if is_right {
             return Ok(None);
         }
         let came = format!(in alloc;
-            "status {}, {} bytes written, pages told {} in {} times, {} ends: {said}",
+            "status {}, {} bytes written, pages reported {} in {} times, {} ends: {said}",
             exit_status(&ended),
             written.len(),
-            told.pages.get(),
-            told.times.get(),
-            told.ends.get()
+            reports.pages.get(),
+            reports.times.get(),
+            reports.ends.get()
         )?;
         Ok(Some(came))
     }
@@ -298,12 +298,12 @@ impl Commands {
         }
     }
 
-    /// Whether as much was told as is wanted, each page once.
-    fn is_told(&self, told: &Told) -> bool {
-        let (pages, ends) = self.told;
-        told.pages.get() as usize == pages
-            && told.times.get() as usize == pages
-            && told.ends.get() as usize == ends
+    /// Whether as much was reported as is wanted, each page once.
+    fn is_reported(&self, reports: &Reports) -> bool {
+        let (pages, ends) = self.reported;
+        reports.pages.get() as usize == pages
+            && reports.times.get() as usize == pages
+            && reports.ends.get() as usize == ends
     }
 
     /// Whether the file that is wanted was made.

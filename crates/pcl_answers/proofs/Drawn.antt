@@ -1,5 +1,5 @@
 -- Faults that come of an image.
-use Rattle.pcl_answers.proofs.Names.{List, ℕ, Option, Some, Err, inl, refl, arith, Bor, Dpi, Picture, Fault, Memory, WriteFault, IsImageWritten, FileFault, FileAct, write_fault_of, IsDifferingPage, IsImageMade, IsDrawnTo}
+use Rattle.pcl_answers.proofs.Names.{List, ℕ, Option, Some, Err, inl, refl, arith, Bor, Dpi, Picture, Fault, Memory, WriteFault, IsImageWritten, FileFault, FileAct, write_fault_of, IsDifferingPage, IsImageMade, IsImageDrawnTo}
 
 -- a fault that an image can have
 abbrev pub IsImageFault : Fault → Type 0
@@ -19,13 +19,13 @@ made_fault : {F : Type 0} (acts : F → FileAct → F → Type 0) (name : List �
 made_fault acts name image files kept fault m = grind (arith, unmade_fault, written_fault)
 
 pub drawn_fault : {F : Type 0} (acts : F → FileAct → F → Type 0) (name : Option (Bor (List ℕ))) (number : Option ℕ) (dpi : Dpi)
-    (first second : List ℕ) (files kept : F) (fault : Fault) → IsDrawnTo acts name number dpi first second files kept (Err fault)
+    (first second : List ℕ) (files kept : F) (fault : Fault) → IsImageDrawnTo acts name number dpi first second files kept (Err fault)
     → IsImageFault fault
 drawn_fault acts name number dpi first second files kept fault m = grind (arith, made_fault)
 
 -- an image that can't be drawn
 pub undrawn : {F : Type 0} (acts : F → FileAct → F → Type 0) (name : Bor (List ℕ)) (number : ℕ) (dpi : Dpi) (first second : List ℕ)
     (files : F) (fault : Fault) → IsDifferingPage dpi first second number (Err fault)
-    → IsDrawnTo acts (Some name) (Some number) dpi first second files files (Err fault)
+    → IsImageDrawnTo acts (Some name) (Some number) dpi first second files files (Err fault)
 undrawn acts name number dpi first second files Memory d = inl (refl, refl)
 undrawn acts name number dpi first second files other d = absurd d

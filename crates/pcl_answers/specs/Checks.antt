@@ -32,8 +32,8 @@ pub record AreRead {F : Type 0} (acts : F → FileAct → F → Type 0) (files :
   pub certificate_is : IsFileRead acts files asked.certificate.now (Ok certificate)
 
 -- the first of the three files that can't be read fails so
-abbrev pub IsUnread : {F : Type 0} → (F → FileAct → F → Type 0) → F → CheckedFiles → Fault → Type 0
-IsUnread acts files asked fault =
+abbrev pub IsFileUnread : {F : Type 0} → (F → FileAct → F → Type 0) → F → CheckedFiles → Fault → Type 0
+IsFileUnread acts files asked fault =
     IsFileRead acts files asked.input.now (Err fault)
     ⊎ ((input : Vec ℕ) × IsFileRead acts files asked.input.now (Ok input) × IsFileRead acts files asked.output.now (Err fault))
     ⊎ ((input output : Vec ℕ) × IsFileRead acts files asked.input.now (Ok input) × IsFileRead acts files asked.output.now (Ok output)
@@ -58,8 +58,8 @@ IsAnswer acts files asked given =
     × IsAnswerBeside asked.beside dpi input.items output.items certificate.items given
 
 -- the job that is performed is refused so, and the three files were read
-abbrev pub IsRefused : {F : Type 0} → (F → FileAct → F → Type 0) → F → CheckedFiles → Refusal → Type 0
-IsRefused acts files asked refusal =
+abbrev pub IsCheckRefused : {F : Type 0} → (F → FileAct → F → Type 0) → F → CheckedFiles → Refusal → Type 0
+IsCheckRefused acts files asked refusal =
     (input output certificate : Vec ℕ) × (dpi : Dpi) × AreRead acts files asked input output certificate
     × IsSeenAt asked.resolution (performed asked.beside input.items output.items) dpi
     × IsRefusal dpi (performed asked.beside input.items output.items) refusal
@@ -70,9 +70,9 @@ abbrev pub IsCheckRun : {F : Type 0} → (F → FileAct → F → Type 0) → F 
 IsCheckRun acts files asked old new (Ok given) = IsAnswer acts files asked given × Appends old new (answer_line_of given)
 IsCheckRun acts files asked old new (Err WriteFault) =
     (given : CheckAnswer) × IsAnswer acts files asked given × AppendsFront old new (answer_line_of given)
-IsCheckRun acts files asked old new (Err (Refused refusal)) = IsRefused acts files asked refusal × Keeps old new
-IsCheckRun acts files asked old new (Err ReadFault) = IsUnread acts files asked ReadFault × Keeps old new
-IsCheckRun acts files asked old new (Err TooLong) = IsUnread acts files asked TooLong × Keeps old new
+IsCheckRun acts files asked old new (Err (Refused refusal)) = IsCheckRefused acts files asked refusal × Keeps old new
+IsCheckRun acts files asked old new (Err ReadFault) = IsFileUnread acts files asked ReadFault × Keeps old new
+IsCheckRun acts files asked old new (Err TooLong) = IsFileUnread acts files asked TooLong × Keeps old new
 IsCheckRun acts files asked old new (Err Memory) = Keeps old new
 IsCheckRun acts files asked old new (Err CertificateTooLong) = ⊥
 IsCheckRun acts files asked old new (Err NoSuchPage) = ⊥

@@ -20,7 +20,7 @@ use Rattle.pcl_request.specs.declared.request.ComparedFiles.{ComparedFiles}
 use Rattle.pcl_answers.specs.declared.comparisons.CompareFault.{CompareFault}
 use Rattle.pcl_answers.specs.declared.comparisons.CompareFault.TheVariants.{Refused, Failed}
 use Rattle.pcl_answers.specs.ComparisonLines.{comparison_line_of}
-use Rattle.pcl_answers.specs.DifferenceImages.{IsDrawn}
+use Rattle.pcl_answers.specs.DifferenceImages.{IsImageDrawn}
 
 -- what the comparison of two jobs answers, as a fault of a run
 abbrev pub compare_fault_of : SameFault → CompareFault
@@ -49,7 +49,7 @@ IsOneUnread acts files asked unread =
     ⊎ ((first : Vec ℕ) × IsFileRead acts files asked.first.now (Ok first) × IsFileRead acts files asked.second.now (Err unread))
 
 -- the bytes of the two files, and the resolution at which they are seen
-pub record AreSeen {F : Type 0} (acts : F → FileAct → F → Type 0) (files : F) (asked : ComparedFiles) : Type 0 where
+pub record AreFilesSeen {F : Type 0} (acts : F → FileAct → F → Type 0) (files : F) (asked : ComparedFiles) : Type 0 where
   pub first : Vec ℕ
   pub second : Vec ℕ
   pub read : BothRead acts files asked first second
@@ -59,14 +59,14 @@ pub record AreSeen {F : Type 0} (acts : F → FileAct → F → Type 0) (files :
 -- the first of the two jobs that is refused is so
 abbrev pub IsRefusedOf : {F : Type 0} → (F → FileAct → F → Type 0) → F → ComparedFiles → Job → Refusal → Type 0
 IsRefusedOf acts files asked which refusal =
-    (seen : AreSeen acts files asked) × IsCompared seen.dpi seen.first.items seen.second.items (Err (same.Refused which refusal))
+    (seen : AreFilesSeen acts files asked) × IsCompared seen.dpi seen.first.items seen.second.items (Err (same.Refused which refusal))
 
 -- the comparison is right of the bytes of the two files, and this becomes of the image
 abbrev pub IsComparedAndDrawn : {F : Type 0} → (F → FileAct → F → Type 0) → ComparedFiles → (files kept : F) → AskedComparison
     → Result (Unit {0}) Fault → Type 0
 IsComparedAndDrawn acts asked files kept comparison drawn =
-    (seen : AreSeen acts files asked) × IsComparisonFor asked.asks seen.dpi seen.first.items seen.second.items comparison
-    × IsDrawn acts asked.image seen.dpi seen.first.items seen.second.items (of_pages comparison) files kept drawn
+    (seen : AreFilesSeen acts files asked) × IsComparisonFor asked.asks seen.dpi seen.first.items seen.second.items comparison
+    × IsImageDrawn acts asked.image seen.dpi seen.first.items seen.second.items (of_pages comparison) files kept drawn
 
 -- The image that is asked for is drawn, and then the line of the comparison is written: nothing where a fault came before, and a
 -- prefix of the line where its write failed. No file is made but for the image.

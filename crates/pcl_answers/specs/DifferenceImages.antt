@@ -52,15 +52,15 @@ IsImageMade {F} acts name image files kept done =
     × IsImageWritten held holds image written × IsSettled acts name holds written begun kept done)
 
 -- where no image is asked for, or no page differs in dots first, no file is begun; memory may run out before one is
-abbrev pub IsDrawnTo : {F : Type 0} → (F → FileAct → F → Type 0) → Option (Bor (List ℕ)) → Option ℕ → Dpi → (first second : List ℕ)
+abbrev pub IsImageDrawnTo : {F : Type 0} → (F → FileAct → F → Type 0) → Option (Bor (List ℕ)) → Option ℕ → Dpi → (first second : List ℕ)
     → (files kept : F) → Result (Unit {0}) Fault → Type 0
-IsDrawnTo acts (Some name) (Some number) dpi first second files kept done =
+IsImageDrawnTo acts (Some name) (Some number) dpi first second files kept done =
     ((kept ≡ files) × (done ≡ Err Memory))
     ⊎ ((image : Picture) × IsDifferenceOf dpi first second number image × IsImageMade acts name.now image files kept done)
-IsDrawnTo acts name number dpi first second files kept done = (kept ≡ files) × (done ≡ Ok tt)
+IsImageDrawnTo acts name number dpi first second files kept done = (kept ≡ files) × (done ≡ Ok tt)
 
 -- what becomes of the image of a comparison
-abbrev pub IsDrawn : {F : Type 0} → (F → FileAct → F → Type 0) → Option (Bor (List ℕ)) → Dpi → (first second : List ℕ) → Comparison
+abbrev pub IsImageDrawn : {F : Type 0} → (F → FileAct → F → Type 0) → Option (Bor (List ℕ)) → Dpi → (first second : List ℕ) → Comparison
     → (files kept : F) → Result (Unit {0}) Fault → Type 0
-IsDrawn acts name dpi first second comparison files kept done =
-    IsDrawnTo acts name (dotted_page comparison) dpi first second files kept done
+IsImageDrawn acts name dpi first second comparison files kept done =
+    IsImageDrawnTo acts name (dotted_page comparison) dpi first second files kept done

@@ -24,16 +24,16 @@ abbrev pub numbers_text : ℕ → Method → List ℕ
 numbers_text row method = codes " row " ++ decimal row ++ codes " method " ++ decimal (method_code method)
 
 -- a node inside a sequence is open
-abbrev pub side_text : Bool → List ℕ
-side_text true = codes " open"
-side_text false = codes " closed"
+abbrev pub openness_text : Bool → List ℕ
+openness_text true = codes " open"
+openness_text false = codes " closed"
 
 abbrev pub verdict_text : Verdict → List ℕ
 verdict_text NotGrammar = codes "NotGrammar"
 verdict_text OtherPage = codes "OtherPage"
 verdict_text Rows = codes "Rows"
 verdict_text (Place row method place) = codes "Place" ++ numbers_text row method ++ codes " place " ++ decimal place
-verdict_text (Edge row method inside) = codes "Edge" ++ numbers_text row method ++ side_text inside
+verdict_text (Edge row method inside) = codes "Edge" ++ numbers_text row method ++ openness_text inside
 verdict_text Length = codes "Length"
 verdict_text Proved = codes "Proved"
 

@@ -2,7 +2,7 @@
 
 ghost use Rattle.std.specs.Prelude.{◌≡◌, ℕ};
 ghost use Rattle.pcl_same.specs.Comparing.{IsComparison};
-ghost use Rattle.pcl_answers.specs.DifferenceImages.{dotted_page, DifferInDots, IsDifferingPage, IsImageMade, IsDrawn};
+ghost use Rattle.pcl_answers.specs.DifferenceImages.{dotted_page, DifferInDots, IsDifferingPage, IsImageMade, IsImageDrawn};
 
 use pcl_base::Dpi;
 use pcl_bitmap::Bitmap;
@@ -23,7 +23,7 @@ pub fn draw_difference<F: JobFiles>(
     comparison: &Comparison,
 ) -> Result<(), Fault>
     requires { IsComparison dpi first.now second.now comparison.now }
-    ensures { IsDrawn F.acts image.entry dpi first.now second.now comparison.now files.old files.new result }
+    ensures { IsImageDrawn F.acts image.entry dpi first.now second.now comparison.now files.old files.new result }
 {
     match (image, dotted_page(comparison)) {
         (Some(name), Some(page)) => {

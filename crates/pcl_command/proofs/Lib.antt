@@ -1,3 +1,3 @@
 pub mod Names
 pub mod Shown
-pub mod Told
+pub mod TextRuns

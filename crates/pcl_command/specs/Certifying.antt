@@ -16,6 +16,7 @@ use Rattle.pcl_request.specs.declared.request.Resolution.TheVariants.{Given, Fir
 use Rattle.pcl_request.specs.declared.request.Target.{Target}
 use Rattle.pcl_request.specs.declared.request.Target.TheVariants.{StandardOutput, File}
 use Rattle.pcl_command.specs.Reads.{IsUnread}
+use Rattle.pcl_command.specs.World.{World}
 
 -- The job is written again with its certificate at a resolution that is given. Else the job can't be read, or it is done with the
 -- bytes of the job, at the first resolution at which that is accepted.
@@ -31,30 +32,32 @@ HasCertifiedSeen format FirstAccepted given left old new aside_old aside_new don
 -- The job goes to a file that is begun, and both files are settled. Or it can't be begun: then the certificate is dropped, and
 -- nothing was read.
 abbrev pub HasCertifiedFile : {F : Type 0} → (F → FileAct → F → Type 0) → Certificate → (aside : Option (List ℕ)) → Resolution
-    → (name : List ℕ) → (files kept : F) → (given left : Option (List ℕ)) → Result (Unit {0}) Failure → Type 0
-HasCertifiedFile {F} acts certificate aside resolution name files kept given left ended =
-    ((why : FileFault) × (failure : Failure) × (unbegun : F) × acts files (Unbegun name why) unbegun
-    × acts unbegun (Dropped certificate.file.now) kept × (left ≡ given) × (ended ≡ Err failure) × HasFailedFile why failure)
+    → (name : List ℕ) → (before after : World F) → Result (Unit {0}) Failure → Type 0
+HasCertifiedFile {F} acts certificate aside resolution name before after ended =
+    ((why : FileFault) × (failure : Failure) × (unbegun : F) × acts before.files (Unbegun name why) unbegun
+    × acts unbegun (Dropped certificate.file.now) after.files × (after.given ≡ before.given) × (ended ≡ Err failure)
+    × HasFailedFile why failure)
     ⊎ ((begun : F) × (held holds aside_holds : Option (List ℕ)) × (done settled : Result (Unit {0}) Fault)
-    × acts files (Begun name held) begun × HasCertifiedSeen certificate.format resolution given left held holds aside aside_holds done
-    × AreSettled acts name holds certificate.file.now aside_holds done begun kept settled × IsOutcome 0 settled ended)
+    × acts before.files (Begun name held) begun
+    × HasCertifiedSeen certificate.format resolution before.given after.given held holds aside aside_holds done
+    × AreSettled acts name holds certificate.file.now aside_holds done begun after.files settled × IsOutcome 0 settled ended)
 
 -- The same by where the job goes, with a certificate's file that was begun and holds this: nothing reaches the writer where the job
 -- goes to a file.
 abbrev pub HasCertifiedTo : {F : Type 0} → (F → FileAct → F → Type 0) → Certificate → (aside : Option (List ℕ)) → Resolution → Target
-    → (files kept : F) → (given left old new : Option (List ℕ)) → Result (Unit {0}) Failure → Type 0
-HasCertifiedTo acts certificate aside resolution StandardOutput files kept given left old new ended =
+    → (before after : World F) → Result (Unit {0}) Failure → Type 0
+HasCertifiedTo acts certificate aside resolution StandardOutput before after ended =
     (aside_holds : Option (List ℕ)) × (done settled : Result (Unit {0}) Fault)
-    × HasCertifiedSeen certificate.format resolution given left old new aside aside_holds done
-    × IsSettledAside acts certificate.file.now aside_holds done files kept settled × IsOutcome 0 settled ended
-HasCertifiedTo acts certificate aside resolution (File name) files kept given left old new ended =
-    (new ≡ old) × HasCertifiedFile acts certificate aside resolution name.now files kept given left ended
+    × HasCertifiedSeen certificate.format resolution before.given after.given before.written after.written aside aside_holds done
+    × IsSettledAside acts certificate.file.now aside_holds done before.files after.files settled × IsOutcome 0 settled ended
+HasCertifiedTo acts certificate aside resolution (File name) before after ended =
+    (after.written ≡ before.written) × HasCertifiedFile acts certificate aside resolution name.now before after ended
 
 -- The certificate's file is begun before anything is read. Or it can't be, and then nothing was read or written.
-abbrev pub HasCertified : {F : Type 0} → (F → FileAct → F → Type 0) → Certificate → Resolution → Target → (files kept : F)
-    → (given left old new : Option (List ℕ)) → Result (Unit {0}) Failure → Type 0
-HasCertified {F} acts certificate resolution target files kept given left old new ended =
-    ((why : FileFault) × (failure : Failure) × acts files (Unbegun certificate.file.now why) kept × (left ≡ given) × (new ≡ old)
-    × (ended ≡ Err failure) × HasFailedFile why failure)
-    ⊎ ((begun : F) × (aside : Option (List ℕ)) × acts files (Begun certificate.file.now aside) begun
-    × HasCertifiedTo acts certificate aside resolution target begun kept given left old new ended)
+abbrev pub HasCertified : {F : Type 0} → (F → FileAct → F → Type 0) → Certificate → Resolution → Target → (before after : World F)
+    → Result (Unit {0}) Failure → Type 0
+HasCertified {F} acts certificate resolution target before after ended =
+    ((why : FileFault) × (failure : Failure) × acts before.files (Unbegun certificate.file.now why) after.files
+    × (after.given ≡ before.given) × (after.written ≡ before.written) × (ended ≡ Err failure) × HasFailedFile why failure)
+    ⊎ ((begun : F) × (aside : Option (List ℕ)) × acts before.files (Begun certificate.file.now aside) begun
+    × HasCertifiedTo acts certificate aside resolution target (record before { files = begun }) after ended)

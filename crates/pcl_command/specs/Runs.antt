@@ -45,6 +45,7 @@ use Rattle.pcl_request.specs.declared.request.Request.TheVariants as asked
 use Rattle.pcl_command.specs.Certifying.{HasCertified}
 use Rattle.pcl_command.specs.Clashes.{SayIfClash, clash_line}
 use Rattle.pcl_command.specs.Reads.{IsUnread}
+use Rattle.pcl_command.specs.World.{World}
 
 -- what a reader gave and a writer holds after the preview of pages of the job that it gives
 abbrev pub IsPreviewRun : Dpi → PageChoice → (given left old new : Option (List ℕ)) → Result (Unit {0}) Fault → Type 0
@@ -54,8 +55,8 @@ IsPreviewRun dpi choice given left old new (Err TooLong) = IsUnread given left o
 IsPreviewRun dpi choice given left old new shown =
     (job : List ℕ) × IsRead given left job × IsPagesPreview dpi job choice old new shown
 
--- what a reader gave and a writer holds after a text on the job that it gives was written, which tells of the job what is to be told,
--- or after it was refused
+-- what a reader gave and a writer holds after a text was written, which says of the job that the reader gives what it is to say, or
+-- after that job was refused
 abbrev pub IsTextRun : (Tells : List ℕ → List ℕ → Type 0) → (Refuses : List ℕ → Refusal → Type 0)
     → (given left old new : Option (List ℕ)) → Result (Unit {0}) Fault → Type 0
 IsTextRun Tells Refuses given left old new (Ok unit) =
@@ -79,10 +80,6 @@ abbrev pub IsKindExplained : Kind → (old new : Option (List ℕ)) → Result (
 IsKindExplained kind old new (Err Memory) = Keeps old new
 IsKindExplained kind old new done = (text : List ℕ) × ExplainsKind kind text × IsWritten old new text done
 
--- no file was made, nothing was read and nothing written
-abbrev pub HasStayed : {F : Type 0} → (files kept : F) → (given left old new : Option (List ℕ)) → Type 0
-HasStayed files kept given left old new = (kept ≡ files) × (left ≡ given) × (new ≡ old)
-
 -- what was asked for is done, or failed so
 abbrev pub HasDoneTask : Task → Dpi → (given left old new : Option (List ℕ)) → Result (Unit {0}) Fault → Type 0
 HasDoneTask Minimize dpi given left old new done = IsFiltered dpi given left old new done
@@ -103,97 +100,86 @@ HasDoneSeen task FirstAccepted given left old new done =
 
 -- the task is done, or failed so, with what a file holds that was begun for this name, and the file was settled; or it can't be
 -- begun, and then nothing was read
-abbrev pub HasWrittenFile : {F : Type 0} → (F → FileAct → F → Type 0) → Task → Resolution → List ℕ → (files kept : F)
-    → (given left : Option (List ℕ)) → Result (Unit {0}) Failure → Type 0
-HasWrittenFile {F} acts task resolution name files kept given left ended =
-    ((why : FileFault) × (failure : Failure) × acts files (Unbegun name why) kept × (left ≡ given) × (ended ≡ Err failure)
-    × HasFailedFile why failure)
-    ⊎ ((begun : F) × (held holds : Option (List ℕ)) × (done settled : Result (Unit {0}) Fault) × acts files (Begun name held) begun
-    × HasDoneSeen task resolution given left held holds done × IsSettled acts name holds done begun kept settled
+abbrev pub HasWrittenFile : {F : Type 0} → (F → FileAct → F → Type 0) → Task → Resolution → List ℕ → (before after : World F)
+    → Result (Unit {0}) Failure → Type 0
+HasWrittenFile {F} acts task resolution name before after ended =
+    ((why : FileFault) × (failure : Failure) × acts before.files (Unbegun name why) after.files × (after.given ≡ before.given)
+    × (ended ≡ Err failure) × HasFailedFile why failure)
+    ⊎ ((begun : F) × (held holds : Option (List ℕ)) × (done settled : Result (Unit {0}) Fault) × acts before.files (Begun name held) begun
+    × HasDoneSeen task resolution before.given after.given held holds done × IsSettled acts name holds done begun after.files settled
     × IsOutcome (task_page task) settled ended)
 
 -- the same by where it writes to: nothing reaches the writer where that is a file
-abbrev pub HasWrittenTo : {F : Type 0} → (F → FileAct → F → Type 0) → Task → Resolution → Target → (files kept : F)
-    → (given left old new : Option (List ℕ)) → Result (Unit {0}) Failure → Type 0
-HasWrittenTo acts task resolution target.StandardOutput files kept given left old new ended =
-    (done : Result (Unit {0}) Fault) × (kept ≡ files) × HasDoneSeen task resolution given left old new done
-    × IsOutcome (task_page task) done ended
-HasWrittenTo acts task resolution (target.File name) files kept given left old new ended =
-    (new ≡ old) × HasWrittenFile acts task resolution name.now files kept given left ended
+abbrev pub HasWrittenTo : {F : Type 0} → (F → FileAct → F → Type 0) → Task → Resolution → Target → (before after : World F)
+    → Result (Unit {0}) Failure → Type 0
+HasWrittenTo acts task resolution target.StandardOutput before after ended =
+    (done : Result (Unit {0}) Fault) × (after.files ≡ before.files)
+    × HasDoneSeen task resolution before.given after.given before.written after.written done × IsOutcome (task_page task) done ended
+HasWrittenTo acts task resolution (target.File name) before after ended =
+    (after.written ≡ before.written) × HasWrittenFile acts task resolution name.now before after ended
 
 -- what is asked for is written, with the job that a reader gives
-abbrev pub HasWrittenWork : {F : Type 0} → (F → FileAct → F → Type 0) → Work → Resolution → Target → (files kept : F)
-    → (given left old new : Option (List ℕ)) → Result (Unit {0}) Failure → Type 0
-HasWrittenWork acts (work.Task task) resolution target files kept given left old new ended =
-    HasWrittenTo acts task resolution target files kept given left old new ended
-HasWrittenWork acts (work.Certify certificate) resolution target files kept given left old new ended =
-    HasCertified acts certificate resolution target files kept given left old new ended
-
-abbrev pub HasWritten : {F : Type 0} → (F → FileAct → F → Type 0) → Run → (files kept : F) → (given left old new : Option (List ℕ))
+abbrev pub HasWrittenWork : {F : Type 0} → (F → FileAct → F → Type 0) → Work → Resolution → Target → (before after : World F)
     → Result (Unit {0}) Failure → Type 0
-HasWritten acts run files kept given left old new ended =
-    HasWrittenWork acts run.work run.resolution run.target files kept given left old new ended
+HasWrittenWork acts (work.Task task) resolution target before after ended = HasWrittenTo acts task resolution target before after ended
+HasWrittenWork acts (work.Certify certificate) resolution target before after ended =
+    HasCertified acts certificate resolution target before after ended
+
+abbrev pub HasWritten : {F : Type 0} → (F → FileAct → F → Type 0) → Run → (before after : World F) → Result (Unit {0}) Failure → Type 0
+HasWritten acts run before after ended = HasWrittenWork acts run.work run.resolution run.target before after ended
 
 -- the same by where its job comes from: a file that can't be opened is a fault of reading, and then no file was made and nothing
 -- written; nothing is read of the reader where the job is that of a file
-abbrev pub HasDoneFrom : {F : Type 0} → (F → FileAct → F → Type 0) → Run → Source → (files kept : F)
-    → (given left old new : Option (List ℕ)) → Result (Unit {0}) Failure → Type 0
-HasDoneFrom acts run source.StandardInput files kept given left old new ended = HasWritten acts run files kept given left old new ended
-HasDoneFrom acts run (source.File name) files kept given left old new ended =
-    (left ≡ given)
-    × ((acts files (Unopened name.now) files × (kept ≡ files) × (new ≡ old) × IsOutcome 0 (Err ReadFault) ended)
-    ⊎ ((there after : Option (List ℕ)) × acts files (Opened name.now there) files
-    × HasWritten acts run files kept there after old new ended))
+abbrev pub HasDoneFrom : {F : Type 0} → (F → FileAct → F → Type 0) → Run → Source → (before after : World F)
+    → Result (Unit {0}) Failure → Type 0
+HasDoneFrom acts run source.StandardInput before after ended = HasWritten acts run before after ended
+HasDoneFrom acts run (source.File name) before after ended =
+    (acts before.files (Unopened name.now) before.files × (after ≡ before) × IsOutcome 0 (Err ReadFault) ended)
+    ⊎ ((there left : Option (List ℕ)) × acts before.files (Opened name.now there) before.files × (after.given ≡ before.given)
+    × HasWritten acts run (record before { given = there }) (record after { given = left }) ended)
 
 -- a run is done, or failed so
-abbrev pub HasDone : {F : Type 0} → (F → FileAct → F → Type 0) → Run → (files kept : F) → (given left old new : Option (List ℕ))
-    → Result (Unit {0}) Failure → Type 0
-HasDone acts run files kept given left old new ended = HasDoneFrom acts run run.source files kept given left old new ended
+abbrev pub HasDone : {F : Type 0} → (F → FileAct → F → Type 0) → Run → (before after : World F) → Result (Unit {0}) Failure → Type 0
+HasDone acts run before after ended = HasDoneFrom acts run run.source before after ended
 
 -- how a run ends, by what it read and wrote
-abbrev pub HasRun : {F : Type 0} → (F → FileAct → F → Type 0) → Run → (files kept : F) → (given left old new : Option (List ℕ))
-    → Ending → Type 0
-HasRun acts run files kept given left old new Done = HasDone acts run files kept given left old new (Ok tt)
-HasRun acts run files kept given left old new (Failed failure) = HasDone acts run files kept given left old new (Err failure)
-HasRun acts run files kept given left old new other = ⊥
+abbrev pub HasRun : {F : Type 0} → (F → FileAct → F → Type 0) → Run → (before after : World F) → Ending → Type 0
+HasRun acts run before after Done = HasDone acts run before after (Ok tt)
+HasRun acts run before after (Failed failure) = HasDone acts run before after (Err failure)
+HasRun acts run before after other = ⊥
 
 -- how a check ends: no file was made, and nothing was read of the reader
-abbrev pub HasChecked : {F : Type 0} → (F → FileAct → F → Type 0) → CheckedFiles → (files kept : F)
-    → (given left old new : Option (List ℕ)) → Ending → Type 0
-HasChecked acts asked files kept given left old new (Checked answer) =
-    (kept ≡ files) × (left ≡ given) × IsCheckRun acts files asked old new (Ok answer)
-HasChecked acts asked files kept given left old new (Failed failure) =
-    (fault : Fault) × (kept ≡ files) × (left ≡ given) × IsCheckRun acts files asked old new (Err fault)
-    × HasFailed (line_of fault 0) (status_for fault) failure
-HasChecked acts asked files kept given left old new other = ⊥
+abbrev pub HasChecked : {F : Type 0} → (F → FileAct → F → Type 0) → CheckedFiles → (before after : World F) → Ending → Type 0
+HasChecked acts asked before after (Checked answer) =
+    (after.files ≡ before.files) × (after.given ≡ before.given)
+    × IsCheckRun acts before.files asked before.written after.written (Ok answer)
+HasChecked acts asked before after (Failed failure) =
+    (fault : Fault) × (after.files ≡ before.files) × (after.given ≡ before.given)
+    × IsCheckRun acts before.files asked before.written after.written (Err fault) × HasFailed (line_of fault 0) (status_for fault) failure
+HasChecked acts asked before after other = ⊥
 
 -- how a comparison ends: nothing was read of the reader
-abbrev pub HasCompared : {F : Type 0} → (F → FileAct → F → Type 0) → ComparedFiles → (files kept : F)
-    → (given left old new : Option (List ℕ)) → Ending → Type 0
-HasCompared acts asked files kept given left old new (Compared comparison) =
-    (left ≡ given) × IsCompareRun acts asked files kept old new (Ok comparison)
-HasCompared acts asked files kept given left old new (Failed failure) =
-    (fault : CompareFault) × (left ≡ given) × IsCompareRun acts asked files kept old new (Err fault)
+abbrev pub HasCompared : {F : Type 0} → (F → FileAct → F → Type 0) → ComparedFiles → (before after : World F) → Ending → Type 0
+HasCompared acts asked before after (Compared comparison) =
+    (after.given ≡ before.given) × IsCompareRun acts asked before.files after.files before.written after.written (Ok comparison)
+HasCompared acts asked before after (Failed failure) =
+    (fault : CompareFault) × (after.given ≡ before.given)
+    × IsCompareRun acts asked before.files after.files before.written after.written (Err fault)
     × HasFailed (compare_line_of fault) (compare_status_for fault) failure
-HasCompared acts asked files kept given left old new other = ⊥
+HasCompared acts asked before after other = ⊥
 
 -- how what was asked for ends, by what it did with files, read and wrote
-abbrev pub HasCarriedOut : {F : Type 0} → (F → FileAct → F → Type 0) → Request → (files kept : F)
-    → (given left old new : Option (List ℕ)) → Ending → Type 0
-HasCarriedOut acts (asked.Run run) files kept given left old new ending = HasRun acts run files kept given left old new ending
-HasCarriedOut acts (asked.Check files_asked) files kept given left old new ending =
-    HasChecked acts files_asked files kept given left old new ending
-HasCarriedOut acts (asked.Compare files_asked) files kept given left old new ending =
-    HasCompared acts files_asked files kept given left old new ending
+abbrev pub HasCarriedOut : {F : Type 0} → (F → FileAct → F → Type 0) → Request → (before after : World F) → Ending → Type 0
+HasCarriedOut acts (asked.Run run) before after ending = HasRun acts run before after ending
+HasCarriedOut acts (asked.Check files_asked) before after ending = HasChecked acts files_asked before after ending
+HasCarriedOut acts (asked.Compare files_asked) before after ending = HasCompared acts files_asked before after ending
 
 -- where the file of a certificate or of an image is that of a job, nothing is done, and that is said
-abbrev pub HasRefusedClash : {F : Type 0} → Request → (files kept : F) → (given left old new : Option (List ℕ)) → Ending → Type 0
-HasRefusedClash request files kept given left old new (Failed failure) =
-    HasStayed files kept given left old new × HasFailed (clash_line request) 2 failure
-HasRefusedClash request files kept given left old new other = ⊥
+abbrev pub HasRefusedClash : {F : Type 0} → Request → (before after : World F) → Ending → Type 0
+HasRefusedClash request before after (Failed failure) = (after ≡ before) × HasFailed (clash_line request) 2 failure
+HasRefusedClash request before after other = ⊥
 
-abbrev pub HasEnded : {F : Type 0} → (F → FileAct → F → Type 0) → Request → (files kept : F) → (given left old new : Option (List ℕ))
-    → Ending → Type 0
-HasEnded acts request files kept given left old new ending =
-    (SayIfClash acts files request true × HasRefusedClash request files kept given left old new ending)
-    ⊎ (SayIfClash acts files request false × HasCarriedOut acts request files kept given left old new ending)
+abbrev pub HasEnded : {F : Type 0} → (F → FileAct → F → Type 0) → Request → (before after : World F) → Ending → Type 0
+HasEnded acts request before after ending =
+    (SayIfClash acts before.files request true × HasRefusedClash request before after ending)
+    ⊎ (SayIfClash acts before.files request false × HasCarriedOut acts request before after ending)

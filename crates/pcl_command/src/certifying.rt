@@ -1,6 +1,7 @@
 //! A job that is written again with a certificate.
 
 ghost use Rattle.pcl_command.specs.Certifying.{HasCertified, HasCertifiedSeen, HasCertifiedTo};
+ghost use Rattle.pcl_command.specs.World.{world};
 
 use pcl_cert::Format;
 use pcl_files::{Failure, JobFiles, outcome, settle_aside, settle_both};
@@ -23,8 +24,8 @@ pub fn certify<F: JobFiles, R: Read, W: Write, P: Watcher>(
     out: &mut W,
     watcher: P,
 ) -> Result<(), Failure>
-    ensures { HasCertified F.acts certificate.entry resolution target.entry files.old files.new (R.remaining reader.old)
-        (R.remaining reader.new) (W.contents out.old) (W.contents out.new) result }
+    ensures { HasCertified F.acts certificate.entry resolution target.entry (world files.old (R.remaining reader.old) (W.contents out.old))
+        (world files.new (R.remaining reader.new) (W.contents out.new)) result }
 {
     match files.begin_aside(certificate.file) {
         Ok(file) => certify_to(
@@ -54,8 +55,8 @@ fn certify_to<F: JobFiles, R: Read, W: Write, P: Watcher>(
     out: &mut W,
     watcher: P,
 ) -> Result<(), Failure>
-    ensures { HasCertifiedTo F.acts certificate.entry (F.Writer.contents aside) resolution target.entry files.old files.new
-        (R.remaining reader.old) (R.remaining reader.new) (W.contents out.old) (W.contents out.new) result }
+    ensures { HasCertifiedTo F.acts certificate.entry (F.Writer.contents aside) resolution target.entry (world files.old (R.remaining reader.old) (W.contents out.old))
+        (world files.new (R.remaining reader.new) (W.contents out.new)) result }
 {
     let Certificate { file: name, format } = certificate;
     let mut aside = aside;

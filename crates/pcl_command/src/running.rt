@@ -5,6 +5,7 @@ ghost use Rattle.pcl_page.specs.Delivering.{IsRefusal};
 ghost use Rattle.pcl_explain.specs.Findings.{Explains};
 ghost use Rattle.pcl_shrink.specs.Shrinking.{IsSmallerJob};
 ghost use Rattle.pcl_command.specs.Runs.{HasCarriedOut, HasDone, HasDoneSeen, HasDoneTask, HasEnded, HasWritten, HasWrittenTo, IsKindExplained, IsPreviewRun, IsTextRun, NeverRefuses, TellsOfPages};
+ghost use Rattle.pcl_command.specs.World.{world};
 
 use crate::certifying::certify;
 use crate::clashes::{clashes, refuse_clash};
@@ -32,8 +33,8 @@ pub fn carry_out<F: JobFiles, R: Read, W: Write, P: Reporter>(
     out: &mut W,
     watcher: P,
 ) -> Ending
-    ensures { HasEnded F.acts request.entry files.old files.new (R.remaining reader.old) (R.remaining reader.new)
-        (W.contents out.old) (W.contents out.new) result }
+    ensures { HasEnded F.acts request.entry (world files.old (R.remaining reader.old) (W.contents out.old))
+        (world files.new (R.remaining reader.new) (W.contents out.new)) result }
 {
     if clashes(files, request) {
         return Ending::Failed(refuse_clash(alloc, request));
@@ -50,20 +51,20 @@ fn do_request<F: JobFiles, R: Read, W: Write, P: Reporter>(
     out: &mut W,
     watcher: P,
 ) -> Ending
-    ensures { HasCarriedOut F.acts request.entry files.old files.new (R.remaining reader.old) (R.remaining reader.new)
-        (W.contents out.old) (W.contents out.new) result }
+    ensures { HasCarriedOut F.acts request.entry (world files.old (R.remaining reader.old) (W.contents out.old))
+        (world files.new (R.remaining reader.new) (W.contents out.new)) result }
 {
     match request {
         Request::Run(run) => {
-            let told = told_of(run.quiet, watcher);
-            match do_run(files, alloc, run, reader, out, told) {
+            let watcher = unless_quiet(run.quiet, watcher);
+            match do_run(files, alloc, run, reader, out, watcher) {
                 Ok(()) => Ending::Done,
                 Err(failure) => Ending::Failed(failure),
             }
         }
         Request::Check(asked) => {
-            let told = told_of(asked.quiet, watcher);
-            match check(files, alloc, asked, out, told) {
+            let watcher = unless_quiet(asked.quiet, watcher);
+            match check(files, alloc, asked, out, watcher) {
                 Ok(answer) => Ending::Checked(answer),
                 Err(fault) => Ending::Failed(Failure::of(alloc, &fault, 0)),
             }
@@ -76,7 +77,7 @@ fn do_request<F: JobFiles, R: Read, W: Write, P: Reporter>(
 }
 
 /// The watcher of the pages of a run: none where it is to be quiet.
-fn told_of<P: Reporter>(quiet: bool, watcher: P) -> Option<P>
+fn unless_quiet<P: Reporter>(quiet: bool, watcher: P) -> Option<P>
     ensures { result ≡ (if quiet then None else Some watcher) }
 {
     if quiet { None } else { Some(watcher) }
@@ -91,8 +92,8 @@ fn do_run<F: JobFiles, R: Read, W: Write, P: Reporter>(
     out: &mut W,
     watcher: P,
 ) -> Result<(), Failure>
-    ensures { HasDone F.acts run.entry files.old files.new (R.remaining reader.old) (R.remaining reader.new)
-        (W.contents out.old) (W.contents out.new) result }
+    ensures { HasDone F.acts run.entry (world files.old (R.remaining reader.old) (W.contents out.old))
+        (world files.new (R.remaining reader.new) (W.contents out.new)) result }
 {
     match run.source {
         Source::StandardInput => write_result(files, alloc, run, reader, out, watcher),
@@ -112,8 +113,8 @@ fn write_result<F: JobFiles, R: Read, W: Write, P: Reporter>(
     out: &mut W,
     watcher: P,
 ) -> Result<(), Failure>
-    ensures { HasWritten F.acts run.entry files.old files.new (R.remaining reader.old) (R.remaining reader.new)
-        (W.contents out.old) (W.contents out.new) result }
+    ensures { HasWritten F.acts run.entry (world files.old (R.remaining reader.old) (W.contents out.old))
+        (world files.new (R.remaining reader.new) (W.contents out.new)) result }
 {
     match run.work {
         Work::Task(task) => {
@@ -148,8 +149,8 @@ fn write_to<F: JobFiles, R: Read, W: Write, P: Reporter>(
     out: &mut W,
     watcher: P,
 ) -> Result<(), Failure>
-    ensures { HasWrittenTo F.acts task resolution target.entry files.old files.new (R.remaining reader.old) (R.remaining reader.new)
-        (W.contents out.old) (W.contents out.new) result }
+    ensures { HasWrittenTo F.acts task resolution target.entry (world files.old (R.remaining reader.old) (W.contents out.old))
+        (world files.new (R.remaining reader.new) (W.contents out.new)) result }
 {
     match target {
         Target::StandardOutput => {

@@ -19,19 +19,19 @@ abbrev pub AreFindings : Dpi → List ℕ → Option Findings → Type 0
 AreFindings dpi job None = IsFirstRefusal dpi job None
 AreFindings dpi job (Some findings) = IsFirstRefusal dpi job (Some findings.first.refusal)
 
--- the text begins with these bytes
-abbrev pub BeginsWith : List ℕ → List ℕ → Type 0
-BeginsWith start text = take (length start) text ≡ start
+-- the text starts with these bytes
+abbrev pub StartsWith : List ℕ → List ℕ → Type 0
+StartsWith start text = take (length start) text ≡ start
 
--- a text on findings: it begins with the first refusal as messages print it
+-- a text on findings: it starts with the first refusal as messages print it
 abbrev pub IsTextOn : Option Findings → List ℕ → Type 0
 IsTextOn None text = text ≡ codes "nothing is refused\n"
-IsTextOn (Some findings) text = BeginsWith (refusal_text findings.first.refusal) text
+IsTextOn (Some findings) text = StartsWith (refusal_text findings.first.refusal) text
 
 -- what is said of a job
 abbrev pub Explains : Dpi → List ℕ → List ℕ → Type 0
 Explains dpi job text = (findings : Option Findings) × AreFindings dpi job findings × IsTextOn findings text
 
--- what is said of a kind of refusal begins with its name
+-- what is said of a kind of refusal starts with its name
 abbrev pub ExplainsKind : Kind → List ℕ → Type 0
-ExplainsKind kind text = BeginsWith (kind_name kind) text
+ExplainsKind kind text = StartsWith (kind_name kind) text

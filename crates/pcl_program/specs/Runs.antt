@@ -11,13 +11,13 @@ use Rattle.pcl_answers.specs.Endings.{IsStatus}
 use Rattle.pcl_files.specs.declared.failures.Failure.TheVariants.{NoMemory}
 use Rattle.pcl_files.specs.Failures.{HasFailed, terminal_line}
 use Rattle.pcl_files.specs.Files.{FileAct}
-use Rattle.pcl_command.specs.Runs.{HasEnded, HasStayed}
+use Rattle.pcl_command.specs.Runs.{HasEnded}
+use Rattle.pcl_command.specs.World.{World}
 
 -- nothing was done, so that no job and no image reaches a terminal, and that is said
-abbrev pub SparesTerminal : {F : Type 0} → (files kept : F) → (given left old new : Option (List ℕ)) → Ending → Type 0
-SparesTerminal files kept given left old new (Failed failure) =
-    HasStayed files kept given left old new × HasFailed terminal_line 2 failure
-SparesTerminal files kept given left old new other = ⊥
+abbrev pub SparesTerminal : {F : Type 0} → (before after : World F) → Ending → Type 0
+SparesTerminal before after (Failed failure) = (after ≡ before) × HasFailed terminal_line 2 failure
+SparesTerminal before after other = ⊥
 
 -- an error is shown, but for memory that ran out, which ends a run
 abbrev pub IsShown : Error → Result Ending Error → Type 0
@@ -26,19 +26,18 @@ IsShown why (Err error) = (kind_of why ≢ OutOfMemory) × (error ≡ why)
 
 -- how a run ends that is given what its words ask for, or why they ask for nothing that reads or writes: what is asked for is done,
 -- unless it would write to a terminal
-abbrev pub HasRunAsked : {F : Type 0} → (F → FileAct → F → Type 0) → (is_terminal : Bool) → Result Request Error → (files kept : F)
-    → (given left old new : Option (List ℕ)) → Result Ending Error → Type 0
-HasRunAsked acts is_terminal (Ok request) files kept given left old new (Ok ending) =
-    MatchBool (is_terminal && writes_raw request) (SparesTerminal files kept given left old new ending)
-    (HasEnded acts request files kept given left old new ending)
-HasRunAsked acts is_terminal (Ok request) files kept given left old new (Err error) = ⊥
-HasRunAsked acts is_terminal (Err why) files kept given left old new result = IsShown why result × HasStayed files kept given left old new
+abbrev pub HasRunAsked : {F : Type 0} → (F → FileAct → F → Type 0) → (is_terminal : Bool) → Result Request Error
+    → (before after : World F) → Result Ending Error → Type 0
+HasRunAsked acts is_terminal (Ok request) before after (Ok ending) =
+    MatchBool (is_terminal && writes_raw request) (SparesTerminal before after ending) (HasEnded acts request before after ending)
+HasRunAsked acts is_terminal (Ok request) before after (Err error) = ⊥
+HasRunAsked acts is_terminal (Err why) before after result = IsShown why result × (after ≡ before)
 
 -- how a run by words ends, by what it did with files, read and wrote
-abbrev pub HasRunWords : {F : Type 0} → (F → FileAct → F → Type 0) → (is_terminal : Bool) → (files kept : F)
-    → (given left old new : Option (List ℕ)) → Result Ending Error → Type 0
-HasRunWords acts is_terminal files kept given left old new result =
-    (asked : Result Request Error) × HasRunAsked acts is_terminal asked files kept given left old new result
+abbrev pub HasRunWords : {F : Type 0} → (F → FileAct → F → Type 0) → (is_terminal : Bool) → (before after : World F)
+    → Result Ending Error → Type 0
+HasRunWords acts is_terminal before after result =
+    (asked : Result Request Error) × HasRunAsked acts is_terminal asked before after result
 
 -- ---- the words of a batch
 

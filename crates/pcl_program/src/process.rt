@@ -3,15 +3,12 @@
 use crate::running::{exit_status, run};
 use clap::Error;
 use pcl_answers::Ending;
-use pcl_files::{Failure, USAGE_STATUS};
+use pcl_files::{FILE_STATUS, Failure, USAGE_STATUS};
 use pcl_system::{Input, SystemFiles, Voice};
 use std::alloc::AllocError;
 use std::env;
 use std::io::{self, ErrorKind, IsTerminal};
 use std::process::ExitCode;
-
-/// The status where help or the version can't be written.
-const WRITE_STATUS: u8 = 3;
 
 /// Does what the words of the command line ask for, and gives the status. It has the files of the system, standard input and
 /// standard output, and prints on standard error what is to be said.
@@ -44,7 +41,7 @@ fn arguments(rt: &HostRuntime) -> Result<Option<Vec<String>>, AllocError> {
     }
 }
 
-/// Prints what is left to be printed, and answers the status. What standard error doesn't take is lost.
+/// Prints what is left to be printed, and gives the status. What standard error doesn't take is lost.
 fn end(rt: &(impl Print + Eprint), ended: &Result<Ending, Error>) -> u8 {
     match ended {
         Ok(Ending::Done | Ending::Checked(_) | Ending::Compared(_)) => {}
@@ -59,7 +56,7 @@ fn end(rt: &(impl Print + Eprint), ended: &Result<Ending, Error>) -> u8 {
         Err(error) => {
             if error.print(rt).is_err() && !error.use_stderr() {
                 let _ = rt.eprint("pclmin: cannot write\n");
-                return WRITE_STATUS;
+                return FILE_STATUS;
             }
         }
     }

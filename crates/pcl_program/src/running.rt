@@ -1,17 +1,18 @@
 //! A run by the words of a command line, and its status.
 
 ghost use Rattle.std.specs.Prelude.{◌⊎◌, ◌↔◌, map, IsTrue};
+ghost use Rattle.pcl_command.specs.World.{world};
 ghost use Rattle.pcl_program.specs.Runs.{IsShown, HasRunAsked, HasRunWords, AskForBatch, IsExitStatus};
 
 use crate::rewriting::Filter;
 use clap::Error;
 use clap::error::ErrorKind;
 use pcl_answers::Ending;
+use pcl_arguments::{parse_batch, parse_request};
 use pcl_batch::run_named;
 use pcl_command::carry_out;
 use pcl_files::{Failure, JobFiles, Reporter, USAGE_STATUS, refuse_terminal};
 use pcl_request::Request;
-use pcl_words::{parse_batch, parse_request};
 use std::alloc::Global;
 use std::convert::AsStr;
 use std::io::{Read, Write};
@@ -27,12 +28,13 @@ pub fn run<F: JobFiles, S: AsStr, R: Read, W: Write, P: Reporter + Copy>(
     is_terminal: bool,
     reporter: P,
 ) -> Result<Ending, Error>
-    ensures { AskForBatch (map S.text words.now) ⊎ HasRunWords F.acts is_terminal files.old files.new
-        (R.remaining reader.old) (R.remaining reader.new) (W.contents out.old) (W.contents out.new) result }
+    ensures { AskForBatch (map S.text words.now) ⊎ HasRunWords F.acts is_terminal
+        (world files.old (R.remaining reader.old) (W.contents out.old))
+        (world files.new (R.remaining reader.new) (W.contents out.new)) result }
 {
     if ask_for_batch(words) {
-        let told = if is_terminal { None } else { Some(reporter) };
-        return run_batch_words(files, alloc, words, reader, out, told);
+        let reporter = if is_terminal { None } else { Some(reporter) };
+        return run_batch_words(files, alloc, words, reader, out, reporter);
     }
     let request = parse_request(alloc, words);
     run_request(files, alloc, request, reader, out, is_terminal, reporter)
@@ -89,8 +91,8 @@ pub fn run_request<F: JobFiles, R: Read, W: Write, P: Reporter>(
     is_terminal: bool,
     reporter: P,
 ) -> Result<Ending, Error>
-    ensures { HasRunAsked F.acts is_terminal asked.entry files.old files.new (R.remaining reader.old) (R.remaining reader.new)
-        (W.contents out.old) (W.contents out.new) result }
+    ensures { HasRunAsked F.acts is_terminal asked.entry (world files.old (R.remaining reader.old) (W.contents out.old))
+        (world files.new (R.remaining reader.new) (W.contents out.new)) result }
 {
     match asked {
         Ok(request) if is_terminal && request.writes_raw() => {

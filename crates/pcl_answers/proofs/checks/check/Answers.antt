@@ -1,5 +1,5 @@
 use Rattle.std.proofs.Common.{◌≡◌, ◌∙◌, List, ℕ, Option, Result, Ok, Err, inl, inr, subst}
-use Rattle.pcl_answers.proofs.Names.{Vec, err_from_is_err_and, Keeps-refl, Dpi, Fault, Refused, Memory, ReadFault, TooLong, WriteFault, CheckAnswer, AppendsFront, IsWritten, CheckedFiles, FileAct, IsSeenAt, answer_line_of, AreRead, IsAnswer, IsCheckRun, IsCheckedBeside, IsFileRead, IsUnread, performed}
+use Rattle.pcl_answers.proofs.Names.{Vec, err_from_is_err_and, Keeps-refl, Dpi, Fault, Refused, Memory, ReadFault, TooLong, WriteFault, CheckAnswer, AppendsFront, IsWritten, CheckedFiles, FileAct, IsSeenAt, answer_line_of, AreRead, IsAnswer, IsCheckRun, IsCheckedBeside, IsFileRead, IsFileUnread, performed}
 use Rattle.pcl_files.proofs.FileReads.{read_fault}
 use Rattle.pcl_answers.proofs.checks.check.Goals as goal
 
@@ -12,7 +12,7 @@ stops old new verdict line other a e w = absurd w
 
 -- the first of the files that can't be read
 unread : {F : Type 0} (acts : F → FileAct → F → Type 0) {files : F} (asked : CheckedFiles) (name : List ℕ) (held : Option (List ℕ))
-    (fault : Fault) → IsFileRead acts files name (Err fault) → IsUnread acts files asked fault
+    (fault : Fault) → IsFileRead acts files name (Err fault) → IsFileUnread acts files asked fault
     → IsCheckRun acts files asked held held (Err fault)
 unread acts asked name held ReadFault r u = (u, Keeps-refl held)
 unread acts asked name held TooLong r u = (u, Keeps-refl held)

@@ -1,5 +1,5 @@
 use Rattle.std.proofs.Common.{◌≡◌, ◌∙◌, List, ℕ, Option, Result, Ok, Err, inl, inr, refl, sym, subst}
-use Rattle.pcl_answers.proofs.Names.{Vec, err_from_is_err_and, Keeps-refl, Dpi, Fault, Memory, ReadFault, TooLong, WriteFault, AppendsFront, IsWritten, AskedComparison, Comparison, SameFault, IsComparison, IsCompared, of_pages, FileAct, AreSeenAt, IsFileRead, ComparedFiles, Failed, comparison_line_of, AreSeen, IsOneUnread, IsComparisonFor, IsComparedAndDrawn, IsCompareRun, compare_fault_of, dotted_page, IsDrawn}
+use Rattle.pcl_answers.proofs.Names.{Vec, err_from_is_err_and, Keeps-refl, Dpi, Fault, Memory, ReadFault, TooLong, WriteFault, AppendsFront, IsWritten, AskedComparison, Comparison, SameFault, IsComparison, IsCompared, of_pages, FileAct, AreSeenAt, IsFileRead, ComparedFiles, Failed, comparison_line_of, AreFilesSeen, IsOneUnread, IsComparisonFor, IsComparedAndDrawn, IsCompareRun, compare_fault_of, dotted_page, IsImageDrawn}
 use Rattle.pcl_same.specs.declared.fault.SameFault.TheVariants as same
 use Rattle.pcl_files.proofs.FileReads.{read_fault}
 use Rattle.pcl_answers.proofs.ComparedFor.{by_pages}
@@ -22,7 +22,7 @@ of_bytes P p q h = rw (← p, ← q) h
 -- the bytes of the two files, and where they are seen, whatever lent them
 abbrev are_seen : {F : Type 0} {acts : F → FileAct → F → Type 0} {files : F} (asked : ComparedFiles) (dpi : Dpi) {first second : Vec ℕ}
     {one other : List ℕ} → IsFileRead acts files asked.first.now (Ok first) → IsFileRead acts files asked.second.now (Ok second)
-    → one ≡ first.items → other ≡ second.items → AreSeenAt asked.resolution one other dpi → AreSeen acts files asked
+    → one ≡ first.items → other ≡ second.items → AreSeenAt asked.resolution one other dpi → AreFilesSeen acts files asked
 are_seen asked dpi {first} {second} f s p q seen = record {
   first = first;
   second = second;
@@ -33,19 +33,20 @@ are_seen asked dpi {first} {second} f s p q seen = record {
 
 -- their comparison, and its image, whatever lent the bytes
 drawn_beside : {F : Type 0} (acts : F → FileAct → F → Type 0) (files kept : F) (asked : ComparedFiles) (comparison : AskedComparison)
-    (pages : Comparison) (done : Result (Unit {0}) Fault) (seen : AreSeen acts files asked) {one other third fourth : List ℕ}
+    (pages : Comparison) (done : Result (Unit {0}) Fault) (seen : AreFilesSeen acts files asked) {one other third fourth : List ℕ}
     → one ≡ seen.first.items → other ≡ seen.second.items → IsComparisonFor asked.asks seen.dpi one other comparison
     → pages ≡ of_pages comparison → third ≡ seen.first.items → fourth ≡ seen.second.items
-    → IsDrawn acts asked.image seen.dpi third fourth pages files kept done → IsComparedAndDrawn acts asked files kept comparison done
+    → IsImageDrawn acts asked.image seen.dpi third fourth pages files kept done → IsComparedAndDrawn acts asked files kept comparison done
 drawn_beside acts files kept asked comparison pages done seen p q compared e r s drawn = (
   seen,
   of_bytes (λ (one other : List ℕ). IsComparisonFor asked.asks seen.dpi one other comparison) p q compared,
-  of_bytes (λ (one other : List ℕ). IsDrawn acts asked.image seen.dpi one other (of_pages comparison) files kept done) r s (rw e at drawn),
+  of_bytes (λ (one other : List ℕ). IsImageDrawn acts asked.image seen.dpi one other (of_pages comparison) files kept done) r s
+      (rw e at drawn),
 )
 
 -- jobs that can't be compared
 uncompared : {F : Type 0} (acts : F → FileAct → F → Type 0) (files : F) (asked : ComparedFiles) (held : Option (List ℕ))
-    (fault : SameFault) (seen : AreSeen acts files asked) → IsCompared seen.dpi seen.first.items seen.second.items (Err fault)
+    (fault : SameFault) (seen : AreFilesSeen acts files asked) → IsCompared seen.dpi seen.first.items seen.second.items (Err fault)
     → IsCompareRun acts asked files files held held (Err (compare_fault_of fault))
 uncompared acts files asked held (same.Refused which refusal) seen a = (refl, (seen, a), Keeps-refl held)
 uncompared acts files asked held same.Memory seen a = (inl refl, Keeps-refl held)

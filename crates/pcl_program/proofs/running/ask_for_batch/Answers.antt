@@ -1,5 +1,4 @@
-use Rattle.std.proofs.Common.{◌≡◌, ◌∙◌, ap, sym, subst, IsTrue, Some, List, ℕ, map, rules, codes, Option}
-use Rattle.pcl_program.specs.Runs.{command_word}
+use Rattle.std.proofs.Common.{◌≡◌, ◌∙◌, ap, sym, subst, IsTrue, Some, List, ℕ, rules, codes, Option}
 use Rattle.pcl_program.proofs.Words.{second_word}
 use Rattle.pcl_program.proofs.running.ask_for_batch.Goals as goal
 

@@ -1,28 +1,27 @@
-//! The words that the command line of `pclmin` has, and what its help says of them.
-#![tactic(auto)]
+//! The subcommands of `pclmin` and their arguments, and what help says of them.
 
 use clap::{Arg, ArgAction, Command, value_parser};
 use std::alloc::{AllocError, Global};
 
-/// A command: its name, what help says of it, and the words that it takes.
-struct Words {
+/// A subcommand: its name, what help says of it, and the arguments that it takes.
+struct Subcommand {
     name: &'static str,
     about: &'static str,
-    takes: &'static [Word],
+    takes: &'static [Argument],
 }
 
-/// A word that commands take.
+/// An argument that subcommands take.
 #[derive(Clone, Copy)]
-enum Word {
+enum Argument {
     /// The file of the job that is read, which may be missing.
     Job,
     /// The files of the jobs of a batch.
     Jobs,
     /// A file of this name in the help, and what that says of it; it has to be there.
     File(&'static str, &'static str),
-    /// A word of this name, which is there or isn't, and its help.
+    /// An option of this name without a value, which is there or isn't, and its help.
     Flag(&'static str, &'static str),
-    /// A word of this name with a value after it, that value's name in the help, and the help.
+    /// An option of this name with a value after it, that value's name in the help, and the help.
     Option(&'static str, &'static str, &'static str),
     /// Where the job is written.
     Output,
@@ -50,127 +49,127 @@ const STATUSES: &str =
     "Statuses: 0 done, proved or the same, 1 refused, no such page, not proved or not the same, 2 usage, \
                         3 reading, writing or memory.";
 
-/// The commands, in the order of the help.
-const COMMANDS: [Words; 8] = [
-    Words {
+/// The subcommands, in the order of the help.
+const SUBCOMMANDS: [Subcommand; 8] = [
+    Subcommand {
         name: "min",
         about: "Writes a job again as the least raster job of the same pages",
         takes: &[
-            Word::Job,
-            Word::Output,
-            Word::Option(
+            Argument::Job,
+            Argument::Output,
+            Argument::Option(
                 "cert",
                 "FILE",
                 "Also write a certificate of the job to this file, which gets it once all is done; a refused job empties it",
             ),
-            Word::Format,
-            Word::Quiet,
-            Word::Dpi,
+            Argument::Format,
+            Argument::Quiet,
+            Argument::Dpi,
         ],
     },
-    Words {
+    Subcommand {
         name: "same",
         about: "Tells whether two jobs print the same pages, and where not",
         takes: &[
-            Word::File("A", "The one job"),
-            Word::File("B", "The other job"),
-            Word::Flag(
+            Argument::File("A", "The one job"),
+            Argument::File("B", "The other job"),
+            Argument::Flag(
                 "asked",
                 "Compare what they ask of the printer too: copies, paper, sides, resets, and @PJL lines",
             ),
-            Word::Option(
+            Argument::Option(
                 "image",
                 "FILE",
                 "Where the first difference is a dot, write a PBM image (P4) of all dots of its page that differ to \
                  this file; else it isn't made",
             ),
-            Word::Dpi,
+            Argument::Dpi,
         ],
     },
-    Words {
+    Subcommand {
         name: "explain",
         about: "Names everything in a job that is refused, and says what to set instead; given the name of a kind \
                 of refusal in place of a file, as NoFont, says what that means",
-        takes: &[Word::Job, Word::Output, Word::Dpi],
+        takes: &[Argument::Job, Argument::Output, Argument::Dpi],
     },
-    Words {
+    Subcommand {
         name: "pages",
         about: "Lists the pages of a job: resolution, size, copies, sides, paper source, black dots in percent, \
                 bytes as least raster, and bytes of row data by method",
         takes: &[
-            Word::Job,
-            Word::Output,
-            Word::Json,
-            Word::Flag(
+            Argument::Job,
+            Argument::Output,
+            Argument::Json,
+            Argument::Flag(
                 "tsv",
                 "Write lines of columns that tabs part, which is what comes where nothing is asked for",
             ),
-            Word::Dpi,
+            Argument::Dpi,
         ],
     },
-    Words {
+    Subcommand {
         name: "shrink",
         about: "Writes the smallest job that is found with the same dots, paper, sides and @PJL lines",
         takes: &[
-            Word::Job,
-            Word::Output,
-            Word::Flag(
+            Argument::Job,
+            Argument::Output,
+            Argument::Flag(
                 "report",
                 "Tell on standard error the bytes of both jobs, the pages, and how they are written",
             ),
-            Word::Dpi,
+            Argument::Dpi,
         ],
     },
-    Words {
+    Subcommand {
         name: "batch",
         about: "Shrinks many jobs into a folder, and reports on each; one that fails doesn't stop the others, and \
                 what is done isn't done again",
         takes: &[
-            Word::Folder,
-            Word::Flag(
+            Argument::Folder,
+            Argument::Flag(
                 "keep-folders",
                 "Keep the folders of the jobs' files below DIR, so that two jobs may have one name",
             ),
-            Word::InPlace,
-            Word::Flag(
+            Argument::InPlace,
+            Argument::Flag(
                 "min",
                 "Write least raster jobs as min does, each with a certificate beside it",
             ),
-            Word::Flag("json", "Report in JSON, an object on each line"),
-            Word::Dpi,
-            Word::Jobs,
+            Argument::Flag("json", "Report in JSON, an object on each line"),
+            Argument::Dpi,
+            Argument::Jobs,
         ],
     },
-    Words {
+    Subcommand {
         name: "check",
         about: "Checks by a certificate that a written job prints the pages of another one, and that none is shorter",
         takes: &[
-            Word::File(
+            Argument::File(
                 "IN",
                 "The job as it was, or with --page images of its pages",
             ),
-            Word::File("OUT", "The job that it was written as"),
-            Word::File("CERT", "The certificate of the written job"),
-            Word::Flag(
+            Argument::File("OUT", "The job that it was written as"),
+            Argument::File("CERT", "The certificate of the written job"),
+            Argument::Flag(
                 "page",
                 "IN has PBM images (P4) of the pages, one after the other, as pbm writes them",
             ),
-            Word::Quiet,
-            Word::Dpi,
+            Argument::Quiet,
+            Argument::Dpi,
         ],
     },
-    Words {
+    Subcommand {
         name: "pbm",
         about: "Writes pages of a job as PBM images (P4), one after the other",
         takes: &[
-            Word::Job,
-            Word::Output,
-            Word::Option(
+            Argument::Job,
+            Argument::Output,
+            Argument::Option(
                 "page",
                 "N",
                 "The number of the page, from 1 to 256, or a range such as 2-5; all pages where it isn't given",
             ),
-            Word::Dpi,
+            Argument::Dpi,
         ],
     },
 ];
@@ -178,8 +177,8 @@ const COMMANDS: [Words; 8] = [
 /// The program's command line.
 pub fn pclmin<'a>(alloc: Global) -> Result<Command<'a>, AllocError> {
     let mut commands = Vec::new(alloc);
-    for words in &COMMANDS {
-        commands.push(command(alloc, words)?)?;
+    for subcommand in &SUBCOMMANDS {
+        commands.push(command(alloc, subcommand)?)?;
     }
     program(alloc)
         .subcommand_required(true)
@@ -187,7 +186,7 @@ pub fn pclmin<'a>(alloc: Global) -> Result<Command<'a>, AllocError> {
         .subcommands(commands)
 }
 
-/// The program, without its commands.
+/// The program, without its subcommands.
 fn program<'a>(alloc: Global) -> Command<'a> {
     Command::new(alloc, "pclmin")
         .version(VERSION)
@@ -195,42 +194,42 @@ fn program<'a>(alloc: Global) -> Command<'a> {
         .after_help(STATUSES)
 }
 
-/// A command with the words that it takes.
-fn command<'a>(alloc: Global, words: &Words) -> Result<Command<'a>, AllocError> {
-    let args = args(alloc, words.takes)?;
-    Command::new(alloc, words.name)
-        .about(words.about)
+/// A subcommand with the arguments that it takes.
+fn command<'a>(alloc: Global, subcommand: &Subcommand) -> Result<Command<'a>, AllocError> {
+    let args = args(alloc, subcommand.takes)?;
+    Command::new(alloc, subcommand.name)
+        .about(subcommand.about)
         .args(args)
 }
 
-/// The words that a command takes, as they are read and shown.
-fn args<'a>(alloc: Global, takes: &[Word]) -> Result<Vec<Arg<'a>>, AllocError> {
+/// The arguments that a subcommand takes, as they are read and shown.
+fn args<'a>(alloc: Global, takes: &[Argument]) -> Result<Vec<Arg<'a>>, AllocError> {
     let mut args = Vec::new(alloc);
-    for word in takes {
-        args.push(arg(alloc, *word)?)?;
+    for argument in takes {
+        args.push(arg(alloc, *argument)?)?;
     }
     Ok(args)
 }
 
-/// A word, as it is read and shown.
-fn arg<'a>(alloc: Global, word: Word) -> Result<Arg<'a>, AllocError> {
-    match word {
-        Word::Job => Ok(job(alloc)),
-        Word::Jobs => Ok(jobs(alloc)),
-        Word::File(name, help) => Ok(file(alloc, name, help)),
-        Word::Flag(name, help) => Ok(flag(alloc, name, help)),
-        Word::Option(name, value, help) => Ok(option(alloc, name, value, help)),
-        Word::Output => Ok(output(alloc)),
-        Word::Folder => folder(alloc),
-        Word::InPlace => in_place(alloc),
-        Word::Format => format(alloc),
-        Word::Json => json(alloc),
-        Word::Quiet => Ok(quiet(alloc)),
-        Word::Dpi => Ok(dpi(alloc)),
+/// An argument, as it is read and shown.
+fn arg<'a>(alloc: Global, argument: Argument) -> Result<Arg<'a>, AllocError> {
+    match argument {
+        Argument::Job => Ok(job(alloc)),
+        Argument::Jobs => Ok(jobs(alloc)),
+        Argument::File(name, help) => Ok(file(alloc, name, help)),
+        Argument::Flag(name, help) => Ok(flag(alloc, name, help)),
+        Argument::Option(name, value, help) => Ok(option(alloc, name, value, help)),
+        Argument::Output => Ok(output(alloc)),
+        Argument::Folder => folder(alloc),
+        Argument::InPlace => in_place(alloc),
+        Argument::Format => format(alloc),
+        Argument::Json => json(alloc),
+        Argument::Quiet => Ok(quiet(alloc)),
+        Argument::Dpi => Ok(dpi(alloc)),
     }
 }
 
-/// A word such as `--quiet`, which is there or isn't.
+/// An option such as `--quiet`, which is there or isn't.
 fn flag<'a>(alloc: Global, name: &'a str, help: &'a str) -> Arg<'a> {
     Arg::new(alloc, name)
         .long(name)
@@ -238,7 +237,7 @@ fn flag<'a>(alloc: Global, name: &'a str, help: &'a str) -> Arg<'a> {
         .help(help)
 }
 
-/// A word such as `--dpi`, with a value after it.
+/// An option such as `--dpi`, with a value after it.
 fn option<'a>(alloc: Global, name: &'a str, value: &'a str, help: &'a str) -> Arg<'a> {
     Arg::new(alloc, name)
         .long(name)

@@ -1,5 +1,6 @@
 //! What the words of a command line ask for.
 
+use crate::command_line::{VERSION, pclmin};
 use clap::error::ErrorKind;
 use clap::{ArgMatches, Error};
 use pcl_base::{Dpi, PAGE_LIMIT};
@@ -10,7 +11,6 @@ use pcl_request::{
     Request, Resolution, Rewriting, Run, Source, Target, Task, Work, resolution_named,
 };
 use pcl_streams::PageChoice;
-use pcl_vocabulary::{VERSION, pclmin};
 use std::alloc::{AllocError, Global};
 use std::convert::AsStr;
 
@@ -33,7 +33,7 @@ pub fn parse_batch<'w, S: AsStr>(alloc: Global, words: &'w [S]) -> Result<AskedB
     batch_or_fault(alloc, &matches)
 }
 
-/// The words of a command line, told apart.
+/// The words of a command line, by the arguments that they give.
 fn matches_of<'w, S: AsStr>(alloc: Global, words: &'w [S]) -> Result<ArgMatches<'w>, Error> {
     pclmin(alloc)?.try_get_matches_from(words)
 }
