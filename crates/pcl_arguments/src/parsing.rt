@@ -75,15 +75,16 @@ fn batch_of<'w, 'm>(
 
 /// What the words after `batch` ask for.
 fn batch_with<'w>(batch: &ArgMatches<'w>) -> Result<Batch<'w>, WrongWord<'w>> {
+    let resolution = resolution_of(batch)?;
     Ok(Batch {
         version: VERSION,
         place: place_of(batch)?,
-        rewriting: if batch.get_flag("min") {
-            Rewriting::Certify
-        } else {
-            Rewriting::Shrink
+        rewriting: match resolution {
+            _ if batch.get_flag("min") => Rewriting::Certify,
+            Resolution::FirstAccepted => Rewriting::ShrinkEverywhere,
+            Resolution::Given(_) => Rewriting::Shrink,
         },
-        resolution: resolution_of(batch)?,
+        resolution,
         form: if batch.get_flag("json") {
             ReportForm::Json
         } else {

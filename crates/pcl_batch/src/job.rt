@@ -158,12 +158,12 @@ impl Came {
 /// The version, the command and the resolution, as digests name them.
 fn how_of(alloc: Global, batch: Batch<'_>, dpi: Dpi) -> Result<String, AllocError> {
     let version = batch.version;
-    let command = match batch.rewriting {
-        Rewriting::Shrink => "shrink",
-        Rewriting::Certify => "min --cert",
-    };
     let dots = dpi.dots();
-    format!(in alloc; "pclmin {version} {command} --dpi {dots}")
+    match batch.rewriting {
+        Rewriting::Shrink => format!(in alloc; "pclmin {version} shrink --dpi {dots}"),
+        Rewriting::ShrinkEverywhere => format!(in alloc; "pclmin {version} shrink --dpi auto"),
+        Rewriting::Certify => format!(in alloc; "pclmin {version} min --cert --dpi {dots}"),
+    }
 }
 
 /// Writes a job that was read, unless an earlier batch did.
@@ -247,7 +247,7 @@ fn is_of(job: Job<'_>, sums: Sums<'_>) -> bool {
 fn has_foreign_certificate<F: JobFiles>(files: &F, job: Job<'_>, is_named: bool) -> bool {
     let is_there = files.kind_of(job.paths.certificate.as_str()).is_some();
     match job.rewriting {
-        Rewriting::Shrink => is_there && is_named,
+        Rewriting::Shrink | Rewriting::ShrinkEverywhere => is_there && is_named,
         Rewriting::Certify => is_there && !is_named,
     }
 }
@@ -264,7 +264,7 @@ fn found_earlier<F: JobFiles>(
         return Ok(Found::Earlier);
     };
     let certificate = match job.rewriting {
-        Rewriting::Shrink => None,
+        Rewriting::Shrink | Rewriting::ShrinkEverywhere => None,
         Rewriting::Certify => sum_of(files, alloc, job.paths.certificate.as_str())?,
     };
     let certificate = certificate.as_ref();

@@ -1,29 +1,47 @@
 -- A job of a batch that is written again.
-use Rattle.std.specs.Prelude.{ℕ, List, Option, Some, None, Result, Ok, Err}
+use Rattle.std.specs.Prelude.{◌≡◌, ℕ, List, Option, Some, None, Result, Ok, Err}
 use Rattle.std.specs.Global.{Vec}
 use Rattle.pcl_base.specs.declared.dpi.Dpi.{Dpi}
+use Rattle.pcl_base.specs.declared.fault.JobFault.{JobFault}
+use Rattle.pcl_base.specs.declared.refusal.Refusal.{Refusal}
 use Rattle.pcl_page.specs.Delivering.{IsRefusal}
 use Rattle.pcl_cert.specs.declared.format.Format.TheVariants.{One}
 use Rattle.pcl_streams.specs.declared.fault.Fault.{Fault}
 use Rattle.pcl_streams.specs.JobFaults.{RefusedOrMemory}
 use Rattle.pcl_tool.specs.Minimizing.{IsCertifiedJobOf}
-use Rattle.pcl_shrink.specs.Shrinking.{IsSmallerJob}
+use Rattle.pcl_shrink.specs.Shrinking.{IsSmallerJob, IsSmallerEverywhere, IsRefusedEverywhere}
 use Rattle.pcl_files.specs.Failures.{HasFailed}
 use Rattle.pcl_files.specs.Messages.{line_of, status_for}
 use Rattle.pcl_files.specs.declared.failures.Failure.{Failure}
 use Rattle.pcl_request.specs.declared.batch.Rewriting.{Rewriting}
-use Rattle.pcl_request.specs.declared.batch.Rewriting.TheVariants.{Shrink, Certify}
+use Rattle.pcl_request.specs.declared.batch.Rewriting.TheVariants.{Shrink, ShrinkEverywhere, Certify}
+use Rattle.pcl_shrink.specs.declared.candidate.Shrunk.{Shrunk}
 use Rattle.pcl_command.specs.declared.rewriting.Again.{Again}
 
 -- the smallest job that is found, alone, or the least raster job and its certificate
 abbrev pub IsRewrittenTo : Rewriting → Dpi → (job again : List ℕ) → Option (Vec ℕ) → Type 0
 IsRewrittenTo Shrink dpi job again None = IsSmallerJob dpi job again
 IsRewrittenTo Shrink dpi job again (Some certificate) = ⊥
+IsRewrittenTo ShrinkEverywhere dpi job again None = IsSmallerEverywhere job again
+IsRewrittenTo ShrinkEverywhere dpi job again (Some certificate) = ⊥
 IsRewrittenTo Certify dpi job again (Some certificate) = IsCertifiedJobOf dpi One job again certificate.items
 IsRewrittenTo Certify dpi job again None = ⊥
+
+-- a refusal is the one at the resolution; or at both
+abbrev pub RefusesAgain : Rewriting → Dpi → List ℕ → Refusal → Type 0
+RefusesAgain ShrinkEverywhere dpi job refusal = IsRefusedEverywhere job refusal
+RefusesAgain other dpi job refusal = IsRefusal dpi job refusal
 
 -- where it isn't written again it is refused so, or memory ran out
 abbrev pub IsRewritten : Rewriting → Dpi → List ℕ → Result Again Failure → Type 0
 IsRewritten rewriting dpi job (Ok again) = IsRewrittenTo rewriting dpi job again.job.items again.certificate
 IsRewritten rewriting dpi job (Err failure) =
-    (fault : Fault) × RefusedOrMemory (IsRefusal dpi job) fault × HasFailed (line_of fault 0) (status_for fault) failure
+    (fault : Fault) × RefusedOrMemory (RefusesAgain rewriting dpi job) fault × HasFailed (line_of fault 0) (status_for fault) failure
+
+-- ---- of the code
+
+-- what was shrunk is written again without a certificate; or why it wasn't is what failed
+abbrev pub IsShrunkAgain : Result Shrunk JobFault → Result Again Failure → Type 0
+IsShrunkAgain (Ok shrunk) (Ok again) = (again.job.items ≡ shrunk.job.items) × (again.certificate ≡ None)
+IsShrunkAgain (Err why) (Err failure) = HasFailed (line_of (fault_of why) 0) (status_for (fault_of why)) failure
+IsShrunkAgain shrunk again = ⊥

@@ -13,7 +13,7 @@ use Rattle.pcl_streams.specs.PageImages.{IsPagesPreview}
 use Rattle.pcl_streams.specs.Transfer.{AppendsFront, IsWritten}
 use Rattle.pcl_tool.specs.Minimizing.{IsFiltered, IsRead}
 use Rattle.pcl_explain.specs.Findings.{Explains, ExplainsKind}
-use Rattle.pcl_shrink.specs.Shrinking.{IsSmallerJob}
+use Rattle.pcl_shrink.specs.Shrinking.{IsSmallerJob, IsSmallerEverywhere, IsRefusedEverywhere}
 use Rattle.pcl_files.specs.Failures.{HasFailed, HasFailedFile, IsOutcome}
 use Rattle.pcl_files.specs.Files.{FileAct, Opened, Unopened, Begun, Unbegun}
 use Rattle.pcl_files.specs.Messages.{line_of, status_for}
@@ -89,14 +89,22 @@ HasDoneTask (ExplainKind kind) dpi given left old new done = (left ≡ given) ×
 HasDoneTask (DescribePages layout) dpi given left old new done = IsTextRun (TellsOfPages dpi) (IsRefusal dpi) given left old new done
 HasDoneTask (Shrink report) dpi given left old new done = IsTextRun (IsSmallerJob dpi) (IsRefusal dpi) given left old new done
 
--- the same at a resolution that is given; else the job can't be read, or it is done with the bytes of the job, at the first
--- resolution at which that is accepted
-abbrev pub HasDoneSeen : Task → Resolution → (given left old new : Option (List ℕ)) → Result (Unit {0}) Fault → Type 0
-HasDoneSeen task (Given dpi) given left old new done = HasDoneTask task dpi given left old new done
-HasDoneSeen task FirstAccepted given left old new done =
+-- the job can't be read, or the task is done with the bytes of the job, at the first resolution at which that is accepted
+abbrev pub HasDoneFirst : Task → (given left old new : Option (List ℕ)) → Result (Unit {0}) Fault → Type 0
+HasDoneFirst task given left old new done =
     ((fault : Fault) × (done ≡ Err fault) × IsUnread given left old new fault)
     ⊎ ((job : List ℕ) × (rest : Option (List ℕ)) × (dpi : Dpi) × IsRead given left job × IsFirstAccepted job dpi
     × HasDoneTask task dpi (Some job) rest old new done)
+
+-- a job is shrunk for each resolution at which it is accepted
+abbrev pub HasDoneAccepted : Task → (given left old new : Option (List ℕ)) → Result (Unit {0}) Fault → Type 0
+HasDoneAccepted (Shrink report) given left old new done = IsTextRun IsSmallerEverywhere IsRefusedEverywhere given left old new done
+HasDoneAccepted task given left old new done = HasDoneFirst task given left old new done
+
+-- the task at a resolution that is given, or at those at which the job is accepted
+abbrev pub HasDoneSeen : Task → Resolution → (given left old new : Option (List ℕ)) → Result (Unit {0}) Fault → Type 0
+HasDoneSeen task (Given dpi) given left old new done = HasDoneTask task dpi given left old new done
+HasDoneSeen task FirstAccepted given left old new done = HasDoneAccepted task given left old new done
 
 -- the task is done, or failed so, with what a file holds that was begun for this name, and the file was settled; or it can't be
 -- begun, and then nothing was read

@@ -1,12 +1,12 @@
 //! A job of a batch.
 
-ghost use Rattle.pcl_command.specs.Rewriting.{IsRewritten};
+ghost use Rattle.pcl_command.specs.Rewriting.{IsRewritten, IsShrunkAgain};
 
-use pcl_base::Dpi;
+use pcl_base::{Dpi, JobFault};
 use pcl_cert::Format;
 use pcl_files::Failure;
 use pcl_request::Rewriting;
-use pcl_shrink::shrink;
+use pcl_shrink::{Shrunk, shrink, shrink_everywhere};
 use pcl_streams::Fault;
 use pcl_tool::minimize;
 use std::alloc::Global;
@@ -24,13 +24,8 @@ pub fn rewrite(alloc: Global, job: &[u8], dpi: Dpi, rewriting: Rewriting) -> Res
     ensures { IsRewritten rewriting dpi job.now result }
 {
     match rewriting {
-        Rewriting::Shrink => match shrink(alloc, job, dpi) {
-            Ok(shrunk) => Ok(Again {
-                job: shrunk.job,
-                certificate: None,
-            }),
-            Err(fault) => Err(Failure::of(alloc, &Fault::from(fault), 0)),
-        },
+        Rewriting::Shrink => shrunk_again(alloc, shrink(alloc, job, dpi)),
+        Rewriting::ShrinkEverywhere => shrunk_again(alloc, shrink_everywhere(alloc, job)),
         Rewriting::Certify => match minimize(alloc, job, dpi, Format::One) {
             Ok(output) => Ok(Again {
                 job: output.job,
@@ -38,5 +33,18 @@ pub fn rewrite(alloc: Global, job: &[u8], dpi: Dpi, rewriting: Rewriting) -> Res
             }),
             Err(fault) => Err(Failure::of(alloc, &fault, 0)),
         },
+    }
+}
+
+/// A job that was shrunk, or why it wasn't.
+fn shrunk_again(alloc: Global, shrunk: Result<Shrunk, JobFault>) -> Result<Again, Failure>
+    ensures { IsShrunkAgain shrunk.entry result }
+{
+    match shrunk {
+        Ok(shrunk) => Ok(Again {
+            job: shrunk.job,
+            certificate: None,
+        }),
+        Err(fault) => Err(Failure::of(alloc, &Fault::from(fault), 0)),
     }
 }

@@ -3,8 +3,8 @@
 ghost use Rattle.std.specs.Prelude.{◌≡◌, if◌then◌else◌, None, Some};
 ghost use Rattle.pcl_page.specs.Delivering.{IsRefusal};
 ghost use Rattle.pcl_explain.specs.Findings.{Explains};
-ghost use Rattle.pcl_shrink.specs.Shrinking.{IsSmallerJob};
-ghost use Rattle.pcl_command.specs.Runs.{HasCarriedOut, HasDone, HasDoneSeen, HasDoneTask, HasEnded, HasWritten, HasWrittenTo, IsKindExplained, IsPreviewRun, IsTextRun, NeverRefuses, TellsOfPages};
+ghost use Rattle.pcl_shrink.specs.Shrinking.{IsSmallerJob, IsSmallerEverywhere, IsRefusedEverywhere};
+ghost use Rattle.pcl_command.specs.Runs.{HasCarriedOut, HasDone, HasDoneAccepted, HasDoneFirst, HasDoneSeen, HasDoneTask, HasEnded, HasWritten, HasWrittenTo, IsKindExplained, IsPreviewRun, IsTextRun, NeverRefuses, TellsOfPages};
 ghost use Rattle.pcl_command.specs.World.{world};
 
 use crate::certifying::certify;
@@ -17,7 +17,7 @@ use pcl_files::{Failure, JobFiles, Reporter, outcome, settle};
 use pcl_page::first_accepted;
 use pcl_pages::describe_pages;
 use pcl_request::{Layout, Request, Resolution, Run, Source, Target, Task, Work};
-use pcl_shrink::shrink;
+use pcl_shrink::{shrink, shrink_everywhere};
 use pcl_streams::{Fault, PageChoice, preview_pages, read_all, write_all};
 use pcl_tool::{INPUT_LIMIT, filter_watched};
 use std::alloc::Global;
@@ -168,7 +168,7 @@ fn write_to<F: JobFiles, R: Read, W: Write, P: Reporter>(
     }
 }
 
-/// Does a task with the job that a reader gives, at a resolution: where that depends on the job, it is read first.
+/// Does a task with the job that a reader gives, at a resolution, or at those at which the job is accepted.
 fn do_seen<R: Read, W: Write, P: Reporter>(
     alloc: Global,
     task: Task,
@@ -182,13 +182,44 @@ fn do_seen<R: Read, W: Write, P: Reporter>(
 {
     match resolution {
         Resolution::Given(dpi) => do_task(alloc, task, dpi, reader, out, watcher),
-        Resolution::FirstAccepted => {
-            let job = read_all(alloc, reader, INPUT_LIMIT)?;
-            let dpi = first_accepted(alloc, &job)?;
-            let mut bytes: &[u8] = &job;
-            do_task(alloc, task, dpi, &mut bytes, out, watcher)
-        }
+        Resolution::FirstAccepted => do_accepted(alloc, task, reader, out, watcher),
     }
+}
+
+/// Does a task with the job that a reader gives, at the first resolution at which that is accepted. It is shrunk for each of them.
+fn do_accepted<R: Read, W: Write, P: Reporter>(
+    alloc: Global,
+    task: Task,
+    reader: &mut R,
+    out: &mut W,
+    watcher: P,
+) -> Result<(), Fault>
+    ensures { HasDoneAccepted task (R.remaining reader.old) (R.remaining reader.new) (W.contents out.old) (W.contents out.new) result }
+{
+    match task {
+        Task::Shrink { report } => write_smallest(alloc, report, reader, out, watcher),
+        Task::Minimize
+        | Task::Preview { .. }
+        | Task::Explain
+        | Task::ExplainKind { .. }
+        | Task::DescribePages { .. } => do_first(alloc, task, reader, out, watcher),
+    }
+}
+
+/// Does a task with the job that a reader gives, which is read first, at the first resolution at which that is accepted.
+fn do_first<R: Read, W: Write, P: Reporter>(
+    alloc: Global,
+    task: Task,
+    reader: &mut R,
+    out: &mut W,
+    watcher: P,
+) -> Result<(), Fault>
+    ensures { HasDoneFirst task (R.remaining reader.old) (R.remaining reader.new) (W.contents out.old) (W.contents out.new) result }
+{
+    let job = read_all(alloc, reader, INPUT_LIMIT)?;
+    let dpi = first_accepted(alloc, &job)?;
+    let mut bytes: &[u8] = &job;
+    do_task(alloc, task, dpi, &mut bytes, out, watcher)
 }
 
 /// Does a task with the job that a reader gives, at a resolution.
@@ -284,6 +315,23 @@ fn write_smaller<R: Read, W: Write, P: Reporter>(
 {
     let job = read_all(alloc, reader, INPUT_LIMIT)?;
     let shrunk = shrink(alloc, &job, dpi)?;
+    report_shrunk(alloc, job.len(), &shrunk, report, reporter)?;
+    write_all(out, &shrunk.job)
+}
+
+/// The same at each resolution at which the job is accepted.
+fn write_smallest<R: Read, W: Write, P: Reporter>(
+    alloc: Global,
+    report: bool,
+    reader: &mut R,
+    out: &mut W,
+    reporter: P,
+) -> Result<(), Fault>
+    ensures { IsTextRun IsSmallerEverywhere IsRefusedEverywhere (R.remaining reader.old) (R.remaining reader.new)
+        (W.contents out.old) (W.contents out.new) result }
+{
+    let job = read_all(alloc, reader, INPUT_LIMIT)?;
+    let shrunk = shrink_everywhere(alloc, &job)?;
     report_shrunk(alloc, job.len(), &shrunk, report, reporter)?;
     write_all(out, &shrunk.job)
 }

@@ -7,6 +7,8 @@ use crate::request::Resolution;
 pub enum Rewriting {
     /// As the smallest job that is found with the same dots.
     Shrink,
+    /// The same at each resolution at which the job is accepted.
+    ShrinkEverywhere,
     /// As the least raster job, with a certificate of the first format in a file of its own.
     Certify,
 }
