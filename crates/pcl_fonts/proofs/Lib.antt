@@ -1,4 +1,5 @@
 pub mod Names
 mod Glyphs
 pub mod Histories
+mod Permanent
 mod Tables

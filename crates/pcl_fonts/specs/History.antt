@@ -1,5 +1,6 @@
 -- The fonts and characters that are there after a history of headers, characters and font controls, the newest first.
 use Rattle.std.specs.Prelude.{ℕ, Bool, true, false, ◌&&◌, nat_eq, if◌then◌else◌, List, [], ◌∷◌, Option, None, Some, is_some}
+use Rattle.std.specs.List.{list_any}
 use Rattle.std.specs.Option.{option_map}
 use Rattle.pcl_fonts.specs.Fields.{Font, Character, font_of, character_of}
 use Rattle.pcl_fonts.specs.declared.fonts.FontControl.{FontControl}
@@ -35,6 +36,16 @@ font_step other id font = font
 abbrev pub font_after : List FontEvent → ℕ → Option Font
 font_after [] id = None
 font_after (event ∷ older) id = font_step event id (font_after older id)
+
+-- the ID that an event is for
+abbrev pub id_of : FontEvent → ℕ
+id_of (header id bytes) = id
+id_of (character id code bytes) = id
+id_of (control what id code) = id
+
+-- a font is there that is permanent
+abbrev pub has_permanent : List FontEvent → Bool
+has_permanent history = list_any (λ event. is_some (if_permanent (font_after history (id_of event)))) history
 
 -- What an event makes of the character of an ID and a code, where this font of the ID was there. Without one a character that
 -- is sent is dropped.

@@ -73,7 +73,7 @@ impl<'a> Fonts<'a> {
     ghost use Rattle.std.specs.Map.{lookup};
     ghost use Rattle.std.specs.Option.{option_map};
     ghost use Rattle.pcl_fonts.specs.Fields.{is_header, is_character};
-    ghost use Rattle.pcl_fonts.specs.History.{header, character, control};
+    ghost use Rattle.pcl_fonts.specs.History.{FontEvent, header, character, control, has_permanent};
     ghost use Rattle.pcl_fonts.specs.Table.{Holds, Follows, IsSame, HasHeader, HasCharacter, printed, font_at, info_of, character_in, stored_in};
 
     /// No fonts.
@@ -219,6 +219,13 @@ impl<'a> Fonts<'a> {
         ensures { result ≡ info_of (font_at self.now id) }
     {
         self.entry(id).map(|entry| entry.info)
+    }
+
+    /// Whether a font is there that is permanent.
+    pub fn has_permanent(&self) -> bool
+        ensures { (history : List FontEvent) → Holds self.now history → result ≡ has_permanent history }
+    {
+        self.entries.values().any(|entry| entry.is_permanent)
     }
 
     /// The character that a code prints in the font of an ID, if there is one. The code is one that fonts of this

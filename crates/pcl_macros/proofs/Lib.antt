@@ -1,3 +1,4 @@
 pub mod Names
 pub mod Histories
+mod Permanent
 mod Tables

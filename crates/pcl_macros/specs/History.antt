@@ -1,5 +1,6 @@
 -- The macros that are there after a history of definitions and macro controls, the newest first.
-use Rattle.std.specs.Prelude.{ℕ, Bool, true, false, nat_eq, if◌then◌else◌, List, [], ◌∷◌, Option, None, Some}
+use Rattle.std.specs.Prelude.{ℕ, Bool, true, false, nat_eq, if◌then◌else◌, List, [], ◌∷◌, Option, None, Some, is_some}
+use Rattle.std.specs.List.{list_any}
 use Rattle.std.specs.Option.{option_map}
 use Rattle.pcl_macros.specs.declared.table.MacroControl.{MacroControl}
 use Rattle.pcl_macros.specs.declared.table.MacroControl.TheVariants.{All, Temporary, One, MakeTemporary, MakePermanent}
@@ -39,3 +40,12 @@ body_step (control MakePermanent of) id body = if nat_eq of id then option_map (
 abbrev pub body_after : List MacroEvent → ℕ → Option MacroBody
 body_after [] id = None
 body_after (event ∷ older) id = body_step event id (body_after older id)
+
+-- the ID that an event is for
+abbrev pub id_of : MacroEvent → ℕ
+id_of (defined id from to) = id
+id_of (control what id) = id
+
+-- a macro is there that is permanent
+abbrev pub has_permanent : List MacroEvent → Bool
+has_permanent history = list_any (λ event. is_some (if_permanent (body_after history (id_of event)))) history

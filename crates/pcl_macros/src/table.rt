@@ -77,7 +77,7 @@ impl Model for Macros {
 
 impl Macros {
     ghost use Rattle.std.specs.Prelude.{ℕ, List, [], None, Some, false, if◌then◌else◌};
-    ghost use Rattle.pcl_macros.specs.History.{control};
+    ghost use Rattle.pcl_macros.specs.History.{MacroEvent, control, has_permanent};
     ghost use Rattle.pcl_macros.specs.Table.{Holds, Follows, HasEnd, Controls, is_begun, macro_at, places_of};
 
     /// No macros, and no definition.
@@ -192,6 +192,13 @@ impl Macros {
         }
         body.is_permanent = is_permanent;
         body.deletions = deletions;
+    }
+
+    /// Whether a macro is there that is permanent.
+    pub fn has_permanent(&self) -> bool
+        ensures { (history : List MacroEvent) → Holds self.now history → result ≡ has_permanent history }
+    {
+        self.bodies.values().any(|body| body.is_permanent)
     }
 
     /// Whether a definition is open.

@@ -1,8 +1,10 @@
 -- The performer follows the situation, command by command.
 use Rattle.std.proofs.Common.{◌≡◌, ℕ, ◌+◌, ◌<◌, ◌≤◌, Bool, true, false, cond, nat_le, List, [], ◌∷◌, ◌++◌, length, Option, Some, None, Result, Ok, Err, refl, sym, ap, ◌∙◌, append-nil, length-append, inl, inr, arith, rules, is_some, ◌&&◌}
-use Rattle.pcl_page.proofs.Names.{nat_tests, Dpi, CallFault, Refused, Memory, Kind, TooManyPages, Operation, FillRectangle, ControlFonts, DownloadFont, DownloadCharacter, PrintText, command_limit, operation_of, is_below_zero, Said, Effect, Stay, Settings, defaults, Outcome, stays, Page, Performer, ends_raster, is_ignored_in_raster, Shows, IsIn, IsEjected, Takes, Draws, HandsMore, IsTurned, IsTried, Asked, asks_of, restarted, with_page}
+use Rattle.pcl_page.proofs.Names.{nat_tests, Dpi, CallFault, Refused, Memory, Kind, TooManyPages, Operation, FillRectangle, ControlFonts, DownloadFont, DownloadCharacter, PrintText, command_limit, operation_of, is_below_zero, Said, Effect, Stay, Settings, defaults, Outcome, stays, Page, Performer, ends_raster, is_ignored_in_raster, Shows, IsIn, IsEjected, Takes, Draws, HandsMore, IsTurned, IsTried, Asked, Asks, asks_of, lasting_if, restarted, with_page}
 use Rattle.pcl_env.specs.Outcome.{outcome}
-use Rattle.pcl_page.specs.Situation.{Sheet, Situation, turned_page, put_back, draw_refusal, unless_refused, ◌|>◌, drawn_on, end_raster, is_marked, sheet_of, turned, turned_by, drawn, counted, prepared, is_ignored, after, after_named, at_end, page_refusal, within_page_limit, tried}
+use Rattle.pcl_fonts.specs.History.{has_permanent as is_font_permanent}
+use Rattle.pcl_macros.specs.History.{has_permanent as is_macro_permanent}
+use Rattle.pcl_page.specs.Situation.{Sheet, Situation, turned_page, put_back, with_what_stays, draw_refusal, unless_refused, ◌|>◌, drawn_on, end_raster, is_marked, sheet_of, turned, turned_by, drawn, counted, prepared, is_ignored, after, after_named, at_end, page_refusal, within_page_limit, tried}
 use Rattle.pcl_page.proofs.Turns.{prepared_page, with_settings, pages_fit, pages_past, handed_sheet, below_same}
 use Rattle.pcl_page.proofs.Keeping.{drawn_keeps}
 
@@ -182,11 +184,15 @@ module _ {S : Type 0} (takes : S → Page → S → Type 0) (dpi : Dpi) (operati
 abbrev EndsAt : {S : Type 0} → (S → Page → S → Type 0) → Dpi → Situation → Situation → Performer → S → S → Type 0
 EndsAt {S} takes dpi s end new sink later = (page_refusal end ≡ None) × HandsMore takes dpi s end sink later × (asks_of new.asks ≡ end.asks)
 
+-- what the end makes of what is asked
+abbrev pub end_asks : Situation → Asks → Asks
+end_asks s asks = restarted (lasting_if (is_macro_permanent s.macros) (lasting_if (is_font_permanent s.fonts) asks))
+
 pub end_marked : {S : Type 0} (takes : S → Page → S → Type 0) (dpi : Dpi) (s : Situation) (copies : ℕ) (asked : Asked)
     (old middle new : Performer) (sink later : S) → IsIn dpi s old
     → old.is_marked ≡ true → old.ejected < 256 → copies ≡ old.environment.copies → asked ≡ old.environment.asked
-    → IsEjected asked old middle → Takes takes copies old sink later → asks_of new.asks ≡ restarted (asks_of middle.asks)
-    → EndsAt takes dpi s (at_end dpi s) new sink later
+    → IsEjected asked old middle → Takes takes copies old sink later
+    → asks_of new.asks ≡ end_asks s (asks_of middle.asks) → EndsAt takes dpi s (at_end dpi s) new sink later
 end_marked takes dpi s copies asked old middle new sink later i m few c a e t again =
     let end = end_raster dpi s in
     let is : is_marked s ≡ true = cc in
@@ -196,20 +202,20 @@ end_marked takes dpi s copies asked old middle new sink later i m few c a e t ag
     let copied : copies ≡ s.settings.copies = cc (c, i.settings) in
     let shows : Shows dpi t.0 (sheet_of end) = rw (below.0, below.1) (handed_sheet s i.painted (i.sized is) copied t.1) in
     rw is (
-      pages_fit (put_back (turned_page defaults end)) (omega (arith, i.ejected, count)),
+      pages_fit (put_back (with_what_stays s.fonts s.macros (turned_page defaults end))) (omega (arith, i.ejected, count)),
       (sheet_of end ∷ [], refl, (t.0, later, shows, t.2, refl)),
-      again ∙ ap restarted (e.asks ∙ ap (λ (x : Asked). with_page x (asks_of old.asks)) said ∙ ap (with_page end.settings.asked) i.asks),
+      again ∙ ap (end_asks s) (e.asks ∙ ap (λ (x : Asked). with_page x (asks_of old.asks)) said ∙ ap (with_page end.settings.asked) i.asks),
     )
 
 pub end_unmarked : {S : Type 0} (takes : S → Page → S → Type 0) (dpi : Dpi) (s : Situation) (old new : Performer) (sink later : S)
-    → IsIn dpi s old → old.is_marked ≡ false → old.ejected ≤ 256 → later ≡ sink → asks_of new.asks ≡ restarted (asks_of old.asks)
+    → IsIn dpi s old → old.is_marked ≡ false → old.ejected ≤ 256 → later ≡ sink → asks_of new.asks ≡ end_asks s (asks_of old.asks)
     → EndsAt takes dpi s (at_end dpi s) new sink later
 end_unmarked takes dpi s old new sink later i m few same again =
     let is : is_marked s ≡ false = cc in
     rw is (
-      pages_fit (put_back (with_settings defaults (end_raster dpi s))) (omega (arith, i.ejected)),
+      pages_fit (put_back (with_what_stays s.fonts s.macros (with_settings defaults (end_raster dpi s)))) (omega (arith, i.ejected)),
       ([], sym (append-nil s.pages), same),
-      again ∙ ap restarted i.asks,
+      again ∙ ap (end_asks s) i.asks,
     )
 
 pub end_past : {dpi : Dpi} {s : Situation} {old : Performer} → IsIn dpi s old → old.is_marked ≡ true → 256 ≤ old.ejected
@@ -218,4 +224,4 @@ end_past {dpi} {s} i m many =
     let end = end_raster dpi s in
     let count = length-append s.pages (sheet_of end ∷ []) in
     let is : is_marked s ≡ true = cc in
-    rw is (pages_past (put_back (turned_page defaults end)) (omega (arith, i.ejected, count)))
+    rw is (pages_past (put_back (with_what_stays s.fonts s.macros (turned_page defaults end))) (omega (arith, i.ejected, count)))

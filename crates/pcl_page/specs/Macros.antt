@@ -75,14 +75,13 @@ acted place other s = Ok s
 abbrev pub macro_now : Situation → Option MacroBody
 macro_now s = body_after s.macros s.settings.macro_id
 
--- a macro control changes what stays in the printer: all macros, one that is made permanent, or one that the job didn't define; and a
--- macro that the job didn't define may stand in the printer, where it is run
+-- a macro control changes what stays in the printer: all macros, or one that the job didn't define; and a macro that the job didn't define
+-- may stand in the printer, where it is run
 abbrev pub macro_lasts : Action → Bool → Bool
 macro_lasts Begin is_defined = false
 macro_lasts End is_defined = false
 macro_lasts (Control All) is_defined = true
 macro_lasts (Control Temporary) is_defined = false
-macro_lasts (Control MakePermanent) is_defined = true
 macro_lasts other is_defined = not is_defined
 
 -- the macro whose ID is set was defined

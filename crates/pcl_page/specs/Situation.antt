@@ -22,10 +22,10 @@ use Rattle.pcl_env.specs.declared.effect.Effect.TheVariants.{Stay, Eject, EjectM
 use Rattle.pcl_env.specs.Settings.{Position, Settings, defaults, put, to_first_line, font_in_use}
 use Rattle.pcl_env.specs.Outcome.{Outcome, outcome}
 use Rattle.pcl_fonts.specs.declared.fonts.FontControl.{FontControl}
-use Rattle.pcl_fonts.specs.declared.fonts.FontControl.TheVariants.{All, Temporary, MakePermanent}
+use Rattle.pcl_fonts.specs.declared.fonts.FontControl.TheVariants.{All, Temporary}
 use Rattle.pcl_fonts.specs.Fields.{Font, Character}
-use Rattle.pcl_fonts.specs.History.{FontEvent, header, character, control, font_after}
-use Rattle.pcl_macros.specs.History.{MacroEvent}
+use Rattle.pcl_fonts.specs.History.{FontEvent, header, character, control, font_after, has_permanent as is_font_permanent}
+use Rattle.pcl_macros.specs.History.{MacroEvent, has_permanent as is_macro_permanent}
 use Rattle.pcl_macros.specs.Table.{Begun}
 use Rattle.pcl_page.specs.Asks.{Asks, no_asks, with_page, with_exit, restarted, with_side, lasting_if}
 use Rattle.pcl_page.specs.Marks.{Mark, are_marked, dot_at, dots_of}
@@ -150,11 +150,10 @@ abbrev pub with_character : List ℕ → Situation → Situation
 with_character [] s = s
 with_character (byte ∷ bytes) s = with_event (character s.settings.font_id s.settings.character_code (byte ∷ bytes)) s
 
--- a font control changes what stays in the printer: all fonts, one that is made permanent, or one that the job didn't send
+-- a font control changes what stays in the printer: all fonts, or one that the job didn't send
 abbrev pub font_lasts : FontControl → Bool → Bool
 font_lasts All is_sent = true
 font_lasts Temporary is_sent = false
-font_lasts MakePermanent is_sent = true
 font_lasts other is_sent = not is_sent
 
 abbrev pub with_lasting : Bool → Situation → Situation
@@ -297,6 +296,10 @@ tried dpi command s = counted_in_limit s |> after_named dpi (operation_of comman
 
 -- ---- the end of the input
 
+-- fonts and macros that the job made permanent stay in the printer
+abbrev pub with_what_stays : List FontEvent → List MacroEvent → Situation → Situation
+with_what_stays fonts macros s = with_lasting (is_macro_permanent macros) (with_lasting (is_font_permanent fonts) s)
+
 -- the end of the input acts as a reset that counts nothing; no macro runs after it
 abbrev pub at_end : Dpi → Situation → Situation
-at_end dpi s = put_back (turned defaults EjectMarked (end_raster dpi s))
+at_end dpi s = put_back (with_what_stays s.fonts s.macros (turned defaults EjectMarked (end_raster dpi s)))

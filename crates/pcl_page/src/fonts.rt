@@ -94,8 +94,11 @@ fn font_lasts(what: FontControl, is_sent: bool) -> bool
 {
     match what {
         FontControl::Temporary => false,
-        FontControl::All | FontControl::MakePermanent => true,
-        FontControl::One | FontControl::Character | FontControl::MakeTemporary => !is_sent,
+        FontControl::All => true,
+        FontControl::One
+        | FontControl::Character
+        | FontControl::MakeTemporary
+        | FontControl::MakePermanent => !is_sent,
     }
 }
 

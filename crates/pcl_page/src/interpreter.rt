@@ -297,6 +297,7 @@ impl<'a> Interpreter<'a> {
         if self.macros.is_begun() {
             return Err(JobFault::Refused(Refusal::new(Kind::MacroOpen, end, Name::Empty)));
         }
-        self.performer.finish(end, sink)
+        let is_macro_permanent = self.macros.has_permanent();
+        self.performer.finish(end, is_macro_permanent, sink)
     }
 }

@@ -60,10 +60,12 @@ pub fn macro_lasts(action: Action, is_defined: bool) -> bool
 {
     match action {
         Action::Begin | Action::End | Action::Control(MacroControl::Temporary) => false,
-        Action::Control(MacroControl::All | MacroControl::MakePermanent) => true,
+        Action::Control(MacroControl::All) => true,
         Action::Execute
         | Action::Call
-        | Action::Control(MacroControl::One | MacroControl::MakeTemporary) => !is_defined,
+        | Action::Control(
+            MacroControl::One | MacroControl::MakeTemporary | MacroControl::MakePermanent,
+        ) => !is_defined,
     }
 }
 

@@ -55,6 +55,11 @@ impl<'a> Performer<'a> {
     ghost use Rattle.pcl_env.specs.Outcome.{outcome};
     ghost use Rattle.pcl_page.specs.Situation.{Situation, at_begin, is_marked, drawn, draw_refusal, ink_of, filled_with, rectangle_mark, skipped_in, exited, put_back, with_lasting};
     ghost use Rattle.pcl_page.specs.Macros.{macro_ended};
+    ghost use Rattle.std.specs.Prelude.{List};
+    ghost use Rattle.pcl_fonts.specs.History.{FontEvent, has_permanent};
+    ghost use Rattle.pcl_fonts.specs.Table.{Holds};
+    ghost use Rattle.pcl_macros.specs.History.{has_permanent as is_kept};
+    ghost use Rattle.pcl_page.specs.Asks.{asks_of, restarted, lasting_if};
     ghost use Rattle.pcl_bitmap.specs.declared.page.Page.{Page};
     ghost use Rattle.pcl_page.specs.inner.Reflecting.{IsIn, IsPrepared, HasRaster, Takes, IsFollowed, IsEjected, IsDrawn, Draws, IsSent, IsTurned, IsTried, EndDone};
 
@@ -336,9 +341,15 @@ impl<'a> Performer<'a> {
         Ok(())
     }
 
-    /// Does what the end of the input does, `end` bytes from its start: it acts as a reset.
-    pub fn finish<S: PageSink>(&mut self, end: usize, sink: &mut S) -> Result<(), JobFault>
-        ensures { (dpi : Dpi) (s : Situation) → IsIn dpi s self.old → EndDone S.takes dpi end s result self.new sink.old sink.new }
+    /// Does what the end of the input does, `end` bytes from its start: it acts as a reset. Whether a macro is permanent is given.
+    pub fn finish<S: PageSink>(
+        &mut self,
+        end: usize,
+        is_macro_permanent: bool,
+        sink: &mut S,
+    ) -> Result<(), JobFault>
+        ensures { (dpi : Dpi) (s : Situation) → IsIn dpi s self.old → is_macro_permanent ≡ is_kept s.macros
+            → EndDone S.takes dpi end s result self.new sink.old sink.new }
     {
         if self.is_marked {
             if self.ejected >= PAGE_LIMIT {
@@ -347,11 +358,21 @@ impl<'a> Performer<'a> {
             let copies = self.environment.copies();
             let asked = self.environment.asked();
             self.eject(copies, asked, sink)?;
-            self.asks.restart();
+            self.end_asks(is_macro_permanent);
             return Ok(());
         }
-        self.asks.restart();
+        self.end_asks(is_macro_permanent);
         Ok(())
+    }
+
+    /// Notes whether fonts or macros of the job stay in the printer, which is then put back to its defaults.
+    fn end_asks(&mut self, is_macro_permanent: bool)
+        ensures { (fonts : List FontEvent) → Holds self.old.fonts fonts → asks_of self.new.asks
+            ≡ restarted (lasting_if is_macro_permanent (lasting_if (has_permanent fonts) (asks_of self.old.asks))) }
+    {
+        self.asks.last_if(self.fonts.has_permanent());
+        self.asks.last_if(is_macro_permanent);
+        self.asks.restart();
     }
 }
 
