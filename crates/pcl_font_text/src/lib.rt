@@ -5,8 +5,10 @@ mod codes;
 mod fonts;
 mod layout;
 mod pen;
+mod permanence;
 mod spacing;
 
 pub use fonts::append_fonts;
 pub use layout::{Layout, lay_out};
 pub use pen::{Pen, append_text};
+pub use permanence::{append_deletion, append_permanent};

@@ -5,7 +5,7 @@ use crate::macro_writing::MacroWriter;
 use pcl_bitmap::Page;
 use pcl_font_text::{Layout, append_fonts, lay_out};
 use pcl_letters::{find_letters, join_shapes};
-use pcl_macro_text::{MacroLayout, append_definitions, lay_out_macros};
+use pcl_macro_text::{MacroLayout, append_definitions, append_settings, lay_out_macros};
 use pcl_patterns::{Form, Letters};
 use pcl_shapes::Collection;
 use std::alloc::{AllocError, Global};
@@ -58,6 +58,30 @@ impl Lettering {
         match self {
             Lettering::Characters(layout) => append_fonts(layout, out),
             Lettering::Macros(layout) => append_definitions(alloc, layout, out),
+        }
+    }
+
+    /// Appends what makes the fonts or the macros permanent: then a reset leaves them.
+    pub fn append_permanent(&self, out: &mut Vec<u8>) -> Result<(), AllocError> {
+        match self {
+            Lettering::Characters(layout) => pcl_font_text::append_permanent(layout, out),
+            Lettering::Macros(layout) => pcl_macro_text::append_permanent(layout, out),
+        }
+    }
+
+    /// Appends what is sent after a reset that left the fonts or the macros, before pages with letters.
+    pub fn append_settings(&self, out: &mut Vec<u8>) -> Result<(), AllocError> {
+        match self {
+            Lettering::Characters(_) => Ok(()),
+            Lettering::Macros(layout) => append_settings(layout, out),
+        }
+    }
+
+    /// Appends what deletes the fonts or the macros.
+    pub fn append_deletion(&self, out: &mut Vec<u8>) -> Result<(), AllocError> {
+        match self {
+            Lettering::Characters(layout) => pcl_font_text::append_deletion(layout, out),
+            Lettering::Macros(layout) => pcl_macro_text::append_deletion(layout, out),
         }
     }
 }

@@ -63,8 +63,25 @@ impl Blanks {
         out.extend_from_slice(b"D\x1b)s64W")?;
         out.extend_from_slice(HEADER)?;
         self.append_characters(out)?;
+        self.append_selection(out)
+    }
+
+    /// Appends what selects the font of the blanks, if there are any.
+    pub fn append_selection(&self, out: &mut Vec<u8>) -> Result<(), AllocError> {
+        if self.gaps.is_empty() {
+            return Ok(());
+        }
         append_labelled(b"\x1b(", FONT_ID, out)?;
         out.extend_from_slice(b"X")
+    }
+
+    /// Appends a control of the font of the blanks, with the letter of its ID and its number, if there are any.
+    pub fn append_control(&self, control: &[u8], out: &mut Vec<u8>) -> Result<(), AllocError> {
+        if self.gaps.is_empty() {
+            return Ok(());
+        }
+        append_labelled(b"\x1b*c", FONT_ID, out)?;
+        out.extend_from_slice(control)
     }
 
     /// Appends the characters.

@@ -10,9 +10,11 @@ mod macro_layout;
 mod macros;
 mod marks;
 mod metrics;
+mod permanence;
 mod phrases;
 
 pub use definitions::append_definitions;
 pub use lines::append_lines;
 pub use macro_layout::{MacroLayout, lay_out_macros};
 pub use marks::Line;
+pub use permanence::{append_deletion, append_permanent, append_settings};

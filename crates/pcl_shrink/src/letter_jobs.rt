@@ -41,16 +41,16 @@ fn after_pages<S: PageSink + Drop>(
     Ok(sink)
 }
 
-/// Writes the pages that come. A reset deletes fonts and macros: so the pages up to the next one are a stretch, which is written after
-/// the letters, and without any where that takes fewer bytes.
+/// Writes the pages that come. A universal exit may delete fonts and macros: so the pages up to the next one are a stretch, which is written
+/// after the letters, and without any where that takes fewer bytes. Where a reset stands within it, the letters are permanent, and are
+/// deleted at its end.
 #[derive(Drop)]
 struct LetterWriter<'a, 'b> {
     /// What the job asks for.
     asks: &'b Asks<'a>,
     /// The texts of its pages without letters.
     texts: &'b [Vec<u8>],
-    /// The fonts or the macros.
-    start: Vec<u8>,
+    lettering: &'b Lettering,
     writer: PageWriter<'b>,
     /// How many pages came.
     pages: usize,
@@ -60,6 +60,8 @@ struct LetterWriter<'a, 'b> {
     plain: usize,
     /// Where the stretch begins in what is written.
     place: usize,
+    /// Whether a reset stands within it.
+    spans_reset: bool,
     /// Whether a stretch before it has letters.
     has_letters: bool,
     /// What is written, with the stretch after the letters.
@@ -79,17 +81,16 @@ impl<'a, 'b> LetterWriter<'a, 'b> {
         lettering: &'b Lettering,
         limit: usize,
     ) -> Result<LetterWriter<'a, 'b>, AllocError> {
-        let mut start = Vec::new(alloc);
-        lettering.append_start(alloc, &mut start)?;
         Ok(LetterWriter {
             asks,
             texts,
-            start,
+            lettering,
             writer: PageWriter::new(lettering),
             pages: 0,
             first: 0,
             plain: 0,
             place: 0,
+            spans_reset: false,
             has_letters: false,
             out: Vec::new(alloc),
             limit,
@@ -108,22 +109,41 @@ impl<'a, 'b> LetterWriter<'a, 'b> {
 
     /// Appends what stands before the next page.
     fn begin_page(&mut self) -> Result<(), AllocError> {
+        let starts = self.pages == 0 || has_exit(self.asks, self.pages);
+        if starts {
+            self.end_stretch()?;
+        }
         let mut start = Vec::new(*self.out.allocator());
         let is_reset = append_page_start(self.asks, self.pages, &mut start)?;
-        if is_reset {
-            self.end_stretch()?;
-            self.writer.restart();
-        }
         self.plain = self.plain.saturating_add(start.len());
         self.out.extend_from_slice(&start)?;
+        if starts {
+            self.spans_reset = spans_reset(self.asks, self.pages);
+            self.append_letters()?;
+        } else if is_reset {
+            self.lettering.append_settings(&mut self.out)?;
+        }
         if is_reset {
-            self.out.extend_from_slice(&self.start)?;
+            self.writer.restart();
+        }
+        Ok(())
+    }
+
+    /// Appends the letters of the stretch.
+    fn append_letters(&mut self) -> Result<(), AllocError> {
+        let alloc = *self.out.allocator();
+        self.lettering.append_start(alloc, &mut self.out)?;
+        if self.spans_reset {
+            self.lettering.append_permanent(&mut self.out)?;
         }
         Ok(())
     }
 
     /// Ends the stretch, which stays as it is written where that is shorter than without letters.
     fn end_stretch(&mut self) -> Result<(), AllocError> {
+        if self.spans_reset {
+            self.lettering.append_deletion(&mut self.out)?;
+        }
         if self.out.len().saturating_sub(self.place) < self.plain {
             self.has_letters = true;
         } else {
@@ -133,6 +153,7 @@ impl<'a, 'b> LetterWriter<'a, 'b> {
         self.first = self.pages;
         self.plain = 0;
         self.place = self.out.len();
+        self.spans_reset = false;
         Ok(())
     }
 
@@ -187,6 +208,26 @@ impl<'a, 'b> LetterWriter<'a, 'b> {
         self.give_up_if_too_long();
         Ok(())
     }
+}
+
+/// Whether a universal exit stands before the page of this number, from 0.
+fn has_exit(asks: &Asks<'_>, page: usize) -> bool {
+    asks.exits.iter().any(|exit| exit.pages as usize == page)
+}
+
+/// Whether a reset stands between pages of the stretch that starts with the page of this number, from 0.
+fn spans_reset(asks: &Asks<'_>, first: usize) -> bool {
+    for (page, asked) in asks.pages.iter().enumerate() {
+        if page > first {
+            if has_exit(asks, page) {
+                return false;
+            }
+            if asked.start.is_first {
+                return true;
+            }
+        }
+    }
+    false
 }
 
 impl<'a, 'b> Model for LetterWriter<'a, 'b> {
