@@ -335,7 +335,7 @@ fn dpi<'a>(alloc: Global) -> Arg<'a> {
         alloc,
         "dpi",
         "N",
-        "The resolution in dots per inch: 300, 600, or auto for the first of these at which the job is accepted",
+        "The resolution in dots per inch: 300, 600, or auto for the first of these at which the job is accepted; shrink and batch keep the dots at each",
     )
     .default_value("300")
 }

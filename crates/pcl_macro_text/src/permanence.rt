@@ -39,5 +39,5 @@ fn append_controls(
     }
     // The last letter ends the sequence.
     out.pop();
-    out.push(b'X')
+    out.extend_from_slice(b"X")
 }

@@ -88,7 +88,8 @@ impl Collection {
 
     /// Passes over a page: none of its shapes is collected.
     pub fn pass_page(&mut self, page: &Page) -> Result<(), AllocError> {
-        self.end_page(page, self.rows.len())
+        let first = self.rows.len();
+        self.end_page(page, first)
     }
 
     /// Ends a page whose first row is in this place.

@@ -14,7 +14,8 @@
 //! universal exit, 28, the font goes again, 124. For a reset between pages, 2, it is made permanent, 11, and deleted at the end, 11; the
 //! two macros at 600 take 21 and 19, and 7 for the unit of measure after the reset. A page with a dot takes 40 as a raster.
 //!
-//! A raster where a reset leaves the cursor stands half a dot lower at 600 dots per inch: by both it starts there, for two bytes.
+//! A raster where a reset leaves the cursor stands half a dot lower at 600 dots per inch: for both the raster starts there, for two bytes.
+//! A stroke of forty dots takes 40 bytes around its rows, 9 for the first row, 6 for the second, and 4 for each of the 38 others.
 #![tactic(auto)]
 
 use pcl_base::{Dpi, JobFault};
@@ -191,7 +192,38 @@ fn main(rt: HostRuntime) -> io::Result<()> {
         "one that 600 refuse as well",
         b"\x1b*cP\x1be",
         Dpi::Dpi600,
-    )
+    )?;
+    print_everywhere(&rt, &letters)
+}
+
+/// Prints the lines of jobs that are shrunk for both resolutions, among them one of letters.
+fn print_everywhere<R: Print + AllocGlobal>(rt: &R, letters: &[u8]) -> io::Result<()> {
+    let mut lower = Vec::new(rt.alloc());
+    append_stroke(40, &mut lower)?;
+    print_at_both(rt, "a stroke where a reset leaves the cursor", &lower)?;
+    print_at_both(rt, "a letter ninety times on whole dots", letters)?;
+    let mut between = Vec::from_slice(rt.alloc(), b"\x1b&u600D\x1b&l0E\x1b*p21x20Y")?;
+    append_stroke(40, &mut between)?;
+    print_at_both(rt, "a stroke between dots from left to right", &between)?;
+    print_at_both(rt, "a raster that 600 dots per inch accept alone", FINE)?;
+    print_at_both(rt, "one that neither accepts", b"\x1b*cP\x1be")
+}
+
+/// Prints the line of a job that is shrunk for both resolutions.
+fn print_at_both<R: Print + AllocGlobal>(rt: &R, name: &str, job: &[u8]) -> io::Result<()> {
+    match shrink_everywhere(rt.alloc(), job) {
+        Ok(shrunk) => print_lengths(rt, name, job, &shrunk),
+        Err(fault) => print_fault(rt, name, fault),
+    }
+}
+
+/// Appends a raster of this many rows with a dot each, one below the other.
+fn append_stroke(rows: usize, job: &mut Vec<u8>) -> Result<(), AllocError> {
+    job.extend_from_slice(b"\x1b*t300R\x1b*r1A")?;
+    for _ in 0..rows {
+        job.extend_from_slice(b"\x1b*b1W\x80")?;
+    }
+    Ok(())
 }
 
 /// Prints the line of a case.
