@@ -187,6 +187,17 @@ pub fn pclmin<'a>(alloc: Global) -> Result<Command<'a>, AllocError> {
         .subcommands(commands)
 }
 
+/// The command of this name alone, as a fault in its words shows its usage; the whole command line where there is none.
+pub fn command_named<'a>(alloc: Global, name: &str) -> Result<Command<'a>, AllocError> {
+    match COMMANDS.iter().find(|words| words.name == name) {
+        Some(words) => {
+            let called = format!(in alloc; "pclmin {name}")?;
+            command(alloc, words)?.bin_name(called.as_str())
+        }
+        None => pclmin(alloc),
+    }
+}
+
 /// The program, without its commands.
 fn program<'a>(alloc: Global) -> Command<'a> {
     Command::new(alloc, "pclmin")
