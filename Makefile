@@ -35,8 +35,8 @@ test-memory:
 	process/memory.py $(PROGRAM) crates/memory_cases/out/memory_cases crates/memory_cases/stdout
 
 # Compares what the process says and its status where files, standard streams and memory fail, what a terminal is told
-# (process/cases.txt), and help and usage faults whole (process/texts.txt), and makes each call of the system in some runs fail in turn
-# (process/calls.py). Needs Python 3, a C compiler, and the program that `make build` left.
+# (process/cases.txt), and help and usage faults whole (those of crates/command_cases), and makes each call of the system in some runs
+# fail in turn (process/calls.py). Needs Python 3, a C compiler, and the program that `make build` left.
 test-process:
 	process/run.py $(PROGRAM)
 	process/calls.py $(PROGRAM)

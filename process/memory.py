@@ -68,26 +68,22 @@ def try_batch(failing, program, run):
     def holds(ran):
         left = taken_files(failing.folder / "out")
         if (ran.returncode, ran.stderr) == (ample.returncode, ample.stderr):
-            return left == files and is_same_report(ran.stdout, ample.stdout)
-        return ran.returncode == 3 and is_right_batch(ran, left) and all(files.get(name) == left[name] for name in left)
+            return left == files and ran.stdout == ample.stdout
+        return ran.returncode == 3 and is_right_batch(ran, left, ample) and all(files.get(name) == left[name] for name in left)
 
     fail_each(failing, "pclmin " + run, words, holds)
 
 
-def is_same_report(report, ample):
-    """Whether a report is that with ample memory, but for numbers of pages that aren't known since memory ran out in counting them."""
-    lines, wanted = ([line.split("\t") for line in text.decode().splitlines()] for text in (report, ample))
-    return len(lines) == len(wanted) and all(
-        line == there or line == [*there[:4], "-", *there[5:]] for line, there in zip(lines, wanted))
-
-
-def is_right_batch(ran, left):
-    """Whether the report of a batch that ran out of memory says so, and says of no job that it is written which isn't all there."""
+def is_right_batch(ran, left, ample):
+    """Whether the report of a batch that ran out of memory says so, and says of no job that it is written which isn't all there. What it
+    says of a job that is written is what it says with ample memory."""
     lines = [line.split("\t") for line in ran.stdout.decode().splitlines() if "\t" in line][1:]
+    wanted = [line.split("\t") for line in ample.stdout.decode().splitlines()]
     written = [line[0] for line in lines if line[1] == "written"]
     failed = [line for line in lines if line[1] == "failed"]
     told = b"pclmin: %d of 3 jobs failed\n" % len(failed) if b"\n# jobs 3: " in ran.stdout else LINE
     return (all({name, name + ".sha256"} <= left.keys() for name in written)
+            and all(line in wanted for line in lines if line[1] == "written")
             and all(name.removesuffix(".cert") + ".sha256" in left for name in left if not name.endswith(".sha256"))
             and all((line[2], line[9]) in REASONS for line in failed)
             and ran.stderr in (told, LINE))

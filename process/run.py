@@ -9,9 +9,8 @@ The command runs in a folder of its own, which has the files of FILES; `pclmin` 
 with `#` say nothing. Standard input is empty and standard output is a file, where the command doesn't say otherwise. Where root
 runs it, files that can't be read or written are opened by nobody's rights.
 
-texts.txt has what is written whole: help and usage faults. A line of `$ `, a command, `=>` and the status begins each, and what is
-written stands below it, up to the next one and the line of `#` before it: by standard output where the status is 0, else by standard
-error, while the other gets nothing.
+Help and usage faults are compared whole: they are the cases of crates/command_cases/data/commands.txt that have lines of the word
+`shows`, each a line that is written, by standard output where the status is 0, else by standard error, while the other gets nothing.
 
 The limits of memory, what is long, and the terminal have tests of their own below the tables.
 """
@@ -24,6 +23,7 @@ import tempfile
 import time
 
 HERE = os.path.dirname(os.path.abspath(__file__))
+TEXTS = os.path.join(HERE, "../crates/command_cases/data/commands.txt")
 DOT = b"\x1b&l0E\x1b*p0x0Y\x1b*t300R\x1b*r0A\x1b*b1W\x80"
 WRITTEN = b"\x1bE\x1b&l1x2a0E\x1b*p0x0Y\x1b*t300R\x1b*r2400s0A\x1b*b1W\x80\x1b*rC\x0c\x1bE"
 FILES = {"dot.pcl": DOT, "dot.out": WRITTEN, "bad.pcl": b"\x1b"}
@@ -62,14 +62,18 @@ def cases():
 
 
 def texts():
-    """The texts of the other table: number of the line, command, status and what is written, without the last line feeds."""
-    with open(os.path.join(HERE, "texts.txt")) as table:
-        lines = [(number, line) for number, line in enumerate(table, 1) if not line.startswith("#")]
-    begins = [place for place, (_, line) in enumerate(lines) if line.startswith("$ ")]
-    for begin, end in zip(begins, begins[1:] + [len(lines)]):
-        number, line = lines[begin]
-        command, status = line[2:].rsplit(" => ", 1)
-        yield number, command, int(status), "".join(text for _, text in lines[begin + 1:end]).rstrip("\n")
+    """The texts of the gate's table: number of the line, command, status and what is written, without the last line feed."""
+    with open(TEXTS) as table:
+        for number, line in enumerate(table, 1):
+            word, _, rest = line.strip().partition(" ")
+            if word == "case":
+                command, text = "", []
+            elif word == "run":
+                command = rest
+            elif word == "shows":
+                text.append(rest)
+            elif word == "status" and text:
+                yield number, command, int(rest), "\n".join(text)
 
 
 def fill(folder, program):
@@ -136,7 +140,7 @@ def check_texts(program):
         came = (done.returncode, done.stdout.decode(), done.stderr.decode()) if done else ("no end", "", "")
         wanted = (status, text + "\n", "") if status == 0 else (status, "", text + "\n")
         if came != wanted:
-            wrong.append(f"texts.txt, line {number}: {command}\n  wanted {wanted}\n  came   {came}")
+            wrong.append(f"commands.txt, line {number}: {command}\n  wanted {wanted}\n  came   {came}")
     return wrong, count
 
 
@@ -272,7 +276,8 @@ def run_on_terminal(program, words, job):
 
 
 def check_terminal(program):
-    """A terminal is told how many pages are done, from the first second on and not before, and the line is cleared at the end."""
+    """A terminal is told how many pages are done, or how many jobs of a batch, from the first second on and not before, and the line is
+    cleared at the end."""
     wrong = []
     said, taken = run_on_terminal(program, ["min"], DOT)
     if taken < 1 and said:
@@ -288,7 +293,15 @@ def check_terminal(program):
     said, _ = run_on_terminal(program, ["min", "--quiet"], long)
     if said:
         wrong.append(f"a quiet run says {said[:80]!r}")
-    return wrong, 3
+    with tempfile.TemporaryDirectory() as folder:
+        names = [os.path.join(folder, name) for name in ("one.pcl", "two.pcl")]
+        for name in names:
+            with open(name, "wb") as out:
+                out.write(long)
+        said, _ = run_on_terminal(program, ["batch", "--min", "-o", os.path.join(folder, "small"), *names], b"")
+    if said != "\rpclmin: jobs done: 1 of 2\rpclmin: jobs done: 2 of 2\r\x1b[K":
+        wrong.append(f"a batch says {said!r}")
+    return wrong, 4
 
 
 def on_terminals(program, words, typed):

@@ -13,7 +13,8 @@
 //! case a page that isn't there       a case. What is wanted of it, in any order:
 //!   writes 48: ESCE                  how many bytes are written and flushed, and how they begin; none where it isn't said
 //!   says pclmin: no page 2           the whole line on standard error; none where nothing is said
-//!   mentions --page <N>              in its place a part of the text of help or of a usage fault
+//!   shows Usage: pclmin <COMMAND>    in its place a line of the text of help or of a usage fault, of which none is left out
+//!   mentions --page <N>              in its place a part of that text
 //!   tells 2 pages, 1 end             how many pages are reported, and how often the end; none where it isn't said
 //!   makes page.cert 12: {PCLCERT1}   the length of a file that was made, and how it begins
 //!   run pclmin pbm --page 2          the words
@@ -196,6 +197,10 @@ impl Commands {
             "run" => self.line = String::from_str(alloc, rest)?,
             "writes" => self.written = Begin::parse(alloc, rest)?,
             "says" => self.said = format!(in alloc; "{rest}\n")?,
+            "shows" => {
+                self.said.push_str(rest)?;
+                self.said.push('\n')?;
+            }
             "mentions" => {
                 self.said = String::from_str(alloc, rest)?;
                 self.is_whole = false;
@@ -251,7 +256,8 @@ impl Commands {
         folder: &mut Folder,
         status: usize,
     ) -> Result<Option<String>, TableFault> {
-        let words = self.line.as_str().split(' ').collect::<Vec<&str>>(alloc)?;
+        let words = self.line.as_str().split(' ').map(word_of);
+        let words = words.collect::<Vec<&str>>(alloc)?;
         let mut given = Given(self.job.as_deref());
         let mut taken = Taken(self.is_held.then_some(Held::new(alloc)));
         let reports = Reports::new(alloc);
@@ -337,6 +343,11 @@ impl CasesOfLines for Commands {
         }
         Ok(None)
     }
+}
+
+/// A word of a command line: an empty one stands between quotes.
+fn word_of(word: &str) -> &str {
+    if word == "''" { "" } else { word }
 }
 
 /// No byte.

@@ -186,6 +186,20 @@ pub fn pclmin<'a>(alloc: Global) -> Result<Command<'a>, AllocError> {
         .subcommands(commands)
 }
 
+/// The subcommand of this name alone, as a fault in its arguments shows its usage; the whole command line where there is none.
+pub fn subcommand_named<'a>(alloc: Global, name: &str) -> Result<Command<'a>, AllocError> {
+    match SUBCOMMANDS
+        .iter()
+        .find(|subcommand| subcommand.name == name)
+    {
+        Some(subcommand) => {
+            let called = format!(in alloc; "pclmin {name}")?;
+            command(alloc, subcommand)?.bin_name(called.as_str())
+        }
+        None => pclmin(alloc),
+    }
+}
+
 /// The program, without its subcommands.
 fn program<'a>(alloc: Global) -> Command<'a> {
     Command::new(alloc, "pclmin")

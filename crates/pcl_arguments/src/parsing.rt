@@ -1,6 +1,6 @@
 //! What the words of a command line ask for.
 
-use crate::command_line::{VERSION, pclmin};
+use crate::command_line::{VERSION, pclmin, subcommand_named};
 use clap::error::ErrorKind;
 use clap::{ArgMatches, Error};
 use pcl_base::{Dpi, PAGE_LIMIT};
@@ -42,7 +42,7 @@ fn matches_of<'w, S: AsStr>(alloc: Global, words: &'w [S]) -> Result<ArgMatches<
 fn request_or_fault<'w>(alloc: Global, matches: &ArgMatches<'w>) -> Result<Request<'w>, Error> {
     match request_of(matches) {
         Ok(request) => Ok(request),
-        Err(wrong) => Err(wrong.error(alloc)?),
+        Err(wrong) => Err(wrong.error(alloc, matches)?),
     }
 }
 
@@ -53,7 +53,7 @@ fn batch_or_fault<'w>(alloc: Global, matches: &ArgMatches<'w>) -> Result<AskedBa
             batch,
             paths: batch_paths(alloc, command)?,
         }),
-        Err(wrong) => Err(wrong.error(alloc)?),
+        Err(wrong) => Err(wrong.error(alloc, matches)?),
     }
 }
 
@@ -115,10 +115,14 @@ enum WrongWord<'w> {
 }
 
 impl WrongWord<'_> {
-    /// The fault to print.
-    fn error(self, alloc: Global) -> Result<Error, AllocError> {
+    /// The fault to print, with the usage of the command that has the word.
+    fn error(self, alloc: Global, matches: &ArgMatches<'_>) -> Result<Error, AllocError> {
         let text = self.text(alloc)?;
-        pclmin(alloc)?.error(ErrorKind::InvalidValue, text.as_str())
+        let mut command = match matches.subcommand_name() {
+            Some(name) => subcommand_named(alloc, name)?,
+            None => pclmin(alloc)?,
+        };
+        command.error(ErrorKind::InvalidValue, text.as_str())
     }
 
     /// What is said of it.

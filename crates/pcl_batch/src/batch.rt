@@ -1,5 +1,10 @@
 //! A batch: its jobs, one after the other, the report, and how it ends.
 
+ghost use Rattle.std.specs.Prelude.{◌≡◌, IfOk, IfErr};
+ghost use Rattle.pcl_report.specs.Reports.{IsHonest};
+ghost use Rattle.pcl_batch.specs.Failing.{HasFailingStatus};
+ghost use Rattle.pcl_batch.specs.inner.Jobs.{IsHonestTally};
+
 use crate::job::write_job;
 use crate::reasons::{Obstacle, Reason};
 use crate::rewriter::Rewriter;
@@ -27,7 +32,9 @@ impl Tally {
     };
 
     /// With one job more.
-    fn with(self, entry: &Entry<'_>) -> Tally {
+    fn with(self, entry: &Entry<'_>) -> Tally
+        ensures { IsHonestTally self → IsHonest entry.now → IsHonestTally result }
+    {
         Tally {
             totals: self.totals.with(entry),
             status: self.status.max(entry.status),
@@ -45,7 +52,9 @@ pub(crate) fn run_batch<F: JobFiles, W: Write, R: Rewriter, P: Reporter>(
     out: &mut W,
     rewriter: R,
     reporter: P,
-) -> Result<(), Failure> {
+) -> Result<(), Failure>
+    ensures { IfErr result HasFailingStatus }
+{
     if let Err(why) = make_folder_of(files, batch.place) {
         return Err(Failure::of_file(alloc, why));
     }
@@ -72,7 +81,9 @@ fn write_jobs<F: JobFiles, W: Write, R: Rewriter, P: Reporter>(
     out: &mut W,
     rewriter: R,
     reporter: P,
-) -> Result<Tally, Fault> {
+) -> Result<Tally, Fault>
+    ensures { IfOk result IsHonestTally }
+{
     let mut names = IndexSet::new(alloc);
     let mut tally = Tally::NOTHING;
     write_all(out, header(batch.form).as_bytes())?;
@@ -95,7 +106,9 @@ fn entry_of<'w, F: JobFiles, R: Rewriter>(
     path: &'w str,
     names: &mut IndexSet<String>,
     rewriter: R,
-) -> Result<Entry<'w>, AllocError> {
+) -> Result<Entry<'w>, AllocError>
+    ensures { IfOk result IsHonest }
+{
     let obstacle = match Paths::new(alloc, batch.place, path)? {
         Some(paths) if take_names(alloc, names, batch.rewriting, &paths)? => {
             return write_job(files, alloc, batch, path, &paths, rewriter);
@@ -136,7 +149,10 @@ fn take_name(
 }
 
 /// The end of a batch.
-fn ended(alloc: Global, tally: Tally) -> Result<(), Failure> {
+fn ended(alloc: Global, tally: Tally) -> Result<(), Failure>
+    ensures done { IfOk result (λ _. tally.status ≡ 0) }
+    ensures failed { IfErr result HasFailingStatus }
+{
     let Tally { totals, status } = tally;
     if status == 0 {
         return Ok(());

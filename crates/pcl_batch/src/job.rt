@@ -1,13 +1,18 @@
 //! One job of a batch: what it is, what lies in its place, and what is to be done.
 
+ghost use Rattle.std.specs.Prelude.{◌≢◌, IfOk};
+ghost use Rattle.pcl_report.specs.Reports.{IsHonest};
+ghost use Rattle.pcl_batch.specs.inner.Jobs.{FailsByReason, IsFailing};
+
 use crate::reasons::{Obstacle, Reason};
 use crate::rewriter::Rewriter;
 use crate::writing::write_again;
-use pcl_base::Dpi;
+use pcl_base::{Dpi, JobFault};
 use pcl_files::{FileKind, JobFiles, read_file, resolve};
 use pcl_page::page_count;
 use pcl_report::{Entry, FileSum, Outcome, Paths, Sums, file_name, sums_text};
 use pcl_request::{Batch, Destination, Rewriting};
+use pcl_streams::Fault;
 use std::alloc::{AllocError, Global};
 
 /// Writes the job of a file again to these paths, unless an earlier batch did, and says what came of it. It fails where there is no
@@ -19,7 +24,9 @@ pub(crate) fn write_job<'w, F: JobFiles, R: Rewriter>(
     file: &'w str,
     paths: &Paths,
     rewriter: R,
-) -> Result<Entry<'w>, AllocError> {
+) -> Result<Entry<'w>, AllocError>
+    ensures { IfOk result IsHonest }
+{
     if let Some(obstacle) = obstacle_of(files, batch.place, file, paths) {
         return Ok(unseen(file, Reason::of(alloc, obstacle)?));
     }
@@ -52,7 +59,9 @@ fn obstacle_of<F: JobFiles>(
 }
 
 /// What is reported of a job of which nothing is known.
-fn unseen<'w>(file: &'w str, reason: Reason) -> Entry<'w> {
+fn unseen<'w>(file: &'w str, reason: Reason) -> Entry<'w>
+    ensures { IsFailing reason → IsHonest result }
+{
     Entry::failed(file, reason.status, reason.said)
 }
 
@@ -65,13 +74,22 @@ fn write_bytes<'w, F: JobFiles, R: Rewriter>(
     paths: &Paths,
     bytes: &[u8],
     rewriter: R,
-) -> Result<Entry<'w>, AllocError> {
+) -> Result<Entry<'w>, AllocError>
+    ensures { IfOk result IsHonest }
+{
     let dpi = resolve(alloc, batch.resolution, bytes)?;
-    let pages = page_count(alloc, bytes, dpi).ok();
     let input = FileSum::of(alloc, bytes)?;
+    let pages = match page_count(alloc, bytes, dpi) {
+        Ok(pages) => Some(pages),
+        // that is what is said of it when it is written again
+        Err(JobFault::Refused(_)) => None,
+        Err(JobFault::Memory) => {
+            let came = Came::Failed(Reason::of_fault(alloc, &Fault::Memory)?);
+            return Ok(came.entry(file, Some(dpi.dots()), None, input));
+        }
+    };
     let came = write_digested(files, alloc, batch, paths, bytes, dpi, &input, rewriter)?;
-    let dpi = Some(dpi.dots());
-    Ok(came.entry(file, dpi, pages, input))
+    Ok(came.entry(file, Some(dpi.dots()), pages, input))
 }
 
 /// The same with the digest of these bytes.
@@ -84,7 +102,9 @@ fn write_digested<F: JobFiles, R: Rewriter>(
     dpi: Dpi,
     input: &FileSum,
     rewriter: R,
-) -> Result<Came, AllocError> {
+) -> Result<Came, AllocError>
+    ensures { IfOk result FailsByReason }
+{
     let how = how_of(alloc, batch, dpi)?;
     let job = Job {
         is_itself: matches!(batch.place, Destination::Itself),
@@ -137,7 +157,9 @@ impl Came {
         dpi: Option<u32>,
         pages: Option<usize>,
         input: FileSum,
-    ) -> Entry<'w> {
+    ) -> Entry<'w>
+        ensures { FailsByReason self → IsHonest result }
+    {
         let (outcome, status, output, said) = match self {
             Came::Done { outcome, output } => (outcome, 0, Some(output), None),
             Came::Failed(Reason { status, said }) => (Outcome::Failed, status, None, Some(said)),
@@ -172,7 +194,9 @@ fn write_seen<F: JobFiles, R: Rewriter>(
     alloc: Global,
     job: Job<'_>,
     rewriter: R,
-) -> Result<Came, AllocError> {
+) -> Result<Came, AllocError>
+    ensures { IfOk result FailsByReason }
+{
     match find(files, alloc, job)? {
         Found::Nothing => write_again(files, alloc, job, rewriter, false),
         Found::Earlier => write_again(files, alloc, job, rewriter, true),

@@ -1,5 +1,8 @@
 //! The names of the jobs of a batch.
 
+ghost use Rattle.std.specs.Prelude.{IfErr};
+ghost use Rattle.pcl_batch.specs.Failing.{HasFailingStatus};
+
 use crate::batch::run_batch;
 use crate::rewriter::Rewriter;
 use pcl_base::INPUT_LIMIT;
@@ -22,7 +25,9 @@ pub fn run_named<F: JobFiles, I: Read, W: Write, R: Rewriter, P: Reporter>(
     out: &mut W,
     rewriter: R,
     reporter: P,
-) -> Result<(), Failure> {
+) -> Result<(), Failure>
+    ensures { IfErr result HasFailingStatus }
+{
     if !paths.is_empty() {
         return run_batch(files, alloc, batch, paths, out, rewriter, reporter);
     }
@@ -41,7 +46,9 @@ fn run_listed<F: JobFiles, W: Write, R: Rewriter, P: Reporter>(
     out: &mut W,
     rewriter: R,
     reporter: P,
-) -> Result<(), Failure> {
+) -> Result<(), Failure>
+    ensures { IfErr result HasFailingStatus }
+{
     match std::str::from_utf8(text) {
         Ok(text) => match lines(alloc, text) {
             Ok(paths) => run_batch(files, alloc, batch, &paths, out, rewriter, reporter),

@@ -1,5 +1,9 @@
 //! What is said of a job that isn't written.
 
+ghost use Rattle.std.specs.Prelude.{◌≡◌, ◌≢◌, IfOk};
+ghost use Rattle.pcl_batch.specs.Failing.{HasFailingStatus};
+ghost use Rattle.pcl_batch.specs.inner.Jobs.{IsFailing};
+
 use pcl_files::{FILE_STATUS, Failure, MEMORY_STATUS, USAGE_STATUS, fault_line, status_of};
 use pcl_streams::Fault;
 use std::alloc::{AllocError, Global};
@@ -31,7 +35,9 @@ pub(crate) enum Obstacle {
 }
 
 impl Obstacle {
-    fn status(self) -> u8 {
+    fn status(self) -> u8
+        ensures { result ≢ 0 }
+    {
         match self {
             Obstacle::NoFile => FILE_STATUS,
             _ => USAGE_STATUS,
@@ -55,7 +61,9 @@ impl Obstacle {
 }
 
 impl Reason {
-    pub(crate) fn of(alloc: Global, obstacle: Obstacle) -> Result<Reason, AllocError> {
+    pub(crate) fn of(alloc: Global, obstacle: Obstacle) -> Result<Reason, AllocError>
+        ensures { IfOk result IsFailing }
+    {
         Ok(Reason {
             status: obstacle.status(),
             said: String::from_str(alloc, obstacle.text())?,
@@ -63,7 +71,9 @@ impl Reason {
     }
 
     /// Of a fault of reading or writing.
-    pub(crate) fn of_fault(alloc: Global, fault: &Fault) -> Result<Reason, AllocError> {
+    pub(crate) fn of_fault(alloc: Global, fault: &Fault) -> Result<Reason, AllocError>
+        ensures { IfOk result IsFailing }
+    {
         let line = fault_line(alloc, fault, 0)?;
         Ok(Reason {
             status: status_of(fault),
@@ -72,7 +82,9 @@ impl Reason {
     }
 
     /// Of a run that failed.
-    pub(crate) fn of_failure(alloc: Global, failure: &Failure) -> Result<Reason, AllocError> {
+    pub(crate) fn of_failure(alloc: Global, failure: &Failure) -> Result<Reason, AllocError>
+        ensures { IfOk result (λ reason. HasFailingStatus failure.now → IsFailing reason) }
+    {
         match failure {
             Failure::Said { line, status } => Ok(Reason {
                 status: *status,
@@ -86,7 +98,9 @@ impl Reason {
     }
 
     /// With what is left of an earlier batch.
-    pub(crate) fn beside_earlier(mut self) -> Result<Reason, AllocError> {
+    pub(crate) fn beside_earlier(mut self) -> Result<Reason, AllocError>
+        ensures { IfOk result (λ reason. reason.status ≡ self.status) }
+    {
         self.said
             .push_str("; what an earlier batch wrote is still there")?;
         Ok(self)

@@ -15,12 +15,16 @@ pub struct Rewritten {
 
 /// Writes jobs again. A batch works over whatever does so.
 pub trait Rewriter: Copy {
-    /// Writes a job again, as it is seen at a resolution.
+    ghost use Rattle.std.specs.Prelude.{IfErr};
+    ghost use Rattle.pcl_batch.specs.Failing.{HasFailingStatus};
+
+    /// Writes a job again, as it is seen at a resolution. The status of a failure isn't 0.
     fn rewrite(
         self,
         alloc: Global,
         job: &[u8],
         dpi: Dpi,
         rewriting: Rewriting,
-    ) -> Result<Rewritten, Failure>;
+    ) -> Result<Rewritten, Failure>
+        ensures { IfErr result HasFailingStatus };
 }

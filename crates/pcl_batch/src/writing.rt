@@ -1,5 +1,9 @@
 //! A job of a batch that is written again.
 
+ghost use Rattle.std.specs.Prelude.{IfOk};
+ghost use Rattle.pcl_batch.specs.Failing.{HasFailingStatus};
+ghost use Rattle.pcl_batch.specs.inner.Jobs.{FailsByReason};
+
 use crate::job::{Came, Found, Job, find};
 use crate::reasons::{Obstacle, Reason};
 use crate::rewriter::{Rewriter, Rewritten};
@@ -15,7 +19,9 @@ pub(crate) fn write_again<F: JobFiles, R: Rewriter>(
     job: Job<'_>,
     rewriter: R,
     is_earlier: bool,
-) -> Result<Came, AllocError> {
+) -> Result<Came, AllocError>
+    ensures { IfOk result FailsByReason }
+{
     match rewriter.rewrite(alloc, job.bytes, job.dpi, job.rewriting) {
         Ok(again) => write_all_of(files, alloc, job, &again),
         Err(failure) => unwritten(alloc, &failure, is_earlier),
@@ -23,7 +29,9 @@ pub(crate) fn write_again<F: JobFiles, R: Rewriter>(
 }
 
 /// What came of a job that can't be written again.
-fn unwritten(alloc: Global, failure: &Failure, is_earlier: bool) -> Result<Came, AllocError> {
+fn unwritten(alloc: Global, failure: &Failure, is_earlier: bool) -> Result<Came, AllocError>
+    ensures { IfOk result (λ came. HasFailingStatus failure.now → FailsByReason came) }
+{
     let reason = Reason::of_failure(alloc, failure)?;
     if is_earlier {
         Ok(Came::Failed(reason.beside_earlier()?))
@@ -39,7 +47,9 @@ fn write_all_of<F: JobFiles>(
     alloc: Global,
     job: Job<'_>,
     again: &Rewritten,
-) -> Result<Came, AllocError> {
+) -> Result<Came, AllocError>
+    ensures { IfOk result FailsByReason }
+{
     let output = FileSum::of(alloc, &again.job)?;
     let sums = sums_of(alloc, job, again, &output)?;
     match write_files(files, alloc, job, again, sums.as_bytes()) {

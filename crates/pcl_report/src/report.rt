@@ -1,5 +1,9 @@
 //! What a batch says of each job.
 
+ghost use Rattle.std.specs.Prelude.{◌≡◌, ◌≢◌, ◌↔◌};
+ghost use Rattle.pcl_report.specs.Reports.{HasNoFailure};
+ghost use Rattle.pcl_report.specs.declared.report.Outcome.TheVariants.{Failed};
+
 use crate::sums::FileSum;
 use pcl_request::ReportForm;
 use serde::Serialize;
@@ -49,7 +53,10 @@ pub struct Entry<'w> {
 
 impl<'w> Entry<'w> {
     /// Of a job that failed before anything was known of it.
-    pub fn failed(file: &'w str, status: u8, said: String) -> Entry<'w> {
+    pub fn failed(file: &'w str, status: u8, said: String) -> Entry<'w>
+        ensures outcome { result.outcome ≡ Failed }
+        ensures status { result.status ≡ status }
+    {
         Entry {
             file,
             outcome: Outcome::Failed,
@@ -151,13 +158,19 @@ impl Totals {
     };
 
     /// With one job more.
-    pub fn with(self, entry: &Entry<'_>) -> Totals {
-        let one = |outcome: Outcome| usize::from(entry.outcome == outcome);
+    pub fn with(self, entry: &Entry<'_>) -> Totals
+        ensures { HasNoFailure result ↔ (HasNoFailure self × (entry.now.outcome ≢ Failed)) }
+    {
+        let (written, kept, failed) = match entry.outcome {
+            Outcome::Written => (1, 0, 0),
+            Outcome::Kept => (0, 1, 0),
+            Outcome::Failed => (0, 0, 1),
+        };
         Totals {
             jobs: self.jobs.saturating_add(1),
-            written: self.written.saturating_add(one(Outcome::Written)),
-            kept: self.kept.saturating_add(one(Outcome::Kept)),
-            failed: self.failed.saturating_add(one(Outcome::Failed)),
+            written: self.written.saturating_add(written),
+            kept: self.kept.saturating_add(kept),
+            failed: self.failed.saturating_add(failed),
             bytes_in: self
                 .bytes_in
                 .saturating_add(entry.bytes_where_done(&entry.input)),
