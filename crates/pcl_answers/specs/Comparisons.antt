@@ -1,5 +1,5 @@
 -- What a comparison of two jobs writes, and how it ends.
-use Rattle.std.specs.Prelude.{◌≡◌, ◌⊎◌, ℕ, Bool, true, false, List, Option, Result, Ok, Err}
+use Rattle.std.specs.Prelude.{◌≡◌, ◌≢◌, ◌⊎◌, ℕ, Bool, true, false, List, Option, Result, Ok, Err}
 use Rattle.std.specs.Global.{Vec}
 use Rattle.std.specs.Io.KnownBytes.{Appends, Keeps}
 use Rattle.pcl_base.specs.declared.dpi.Dpi.{Dpi}
@@ -14,7 +14,10 @@ use Rattle.pcl_same.specs.declared.comparison.AskedComparison.TheVariants as ask
 use Rattle.pcl_same.specs.declared.fault.Job.{Job}
 use Rattle.pcl_same.specs.Comparing.{IsComparison, IsCompared, IsAskedComparison, of_pages}
 use Rattle.pcl_files.specs.Files.{FileAct}
-use Rattle.pcl_files.specs.Resolutions.{AreSeenAt}
+use Rattle.pcl_base.specs.declared.dpi.Dpi.TheVariants.{Dpi300, Dpi600}
+use Rattle.pcl_files.specs.Resolutions.{AreBothAccepted, IsOneRefused, IsFirstCommon}
+use Rattle.pcl_request.specs.declared.request.Resolution.{Resolution}
+use Rattle.pcl_request.specs.declared.request.Resolution.TheVariants.{Given, FirstAccepted}
 use Rattle.pcl_files.specs.WholeFiles.{IsFileRead}
 use Rattle.pcl_request.specs.declared.request.ComparedFiles.{ComparedFiles}
 use Rattle.pcl_answers.specs.declared.comparisons.CompareFault.{CompareFault}
@@ -37,6 +40,27 @@ abbrev pub IsComparedFor : (asks : Bool) → Dpi → (first second : List ℕ) �
 IsComparedFor asks dpi first second (Ok comparison) = IsComparisonFor asks dpi first second comparison
 IsComparedFor asks dpi first second (Err fault) = IsCompared dpi first second (Err fault)
 
+-- two jobs aren't the same at a resolution, or one is refused there
+abbrev pub AreUnlike : (asks : Bool) → Dpi → (first second : List ℕ) → Type 0
+AreUnlike asks dpi first second =
+    ((comparison : AskedComparison) × (comparison ≢ asked.Same) × IsComparisonFor asks dpi first second comparison)
+    ⊎ IsOneRefused dpi first second
+
+-- 600 dots per inch where both are accepted there, else 300
+abbrev pub IsFiner : (first second : List ℕ) → Dpi → Type 0
+IsFiner first second Dpi600 = AreBothAccepted Dpi600 first second
+IsFiner first second Dpi300 = IsOneRefused Dpi600 first second
+
+-- two jobs are compared at the resolution that is asked for; or at the first at which both are accepted, and at 600 dots per inch where
+-- they are the same at 300 and both are accepted there too
+abbrev pub AreComparedAt : Resolution → (asks : Bool) → (first second : List ℕ) → Dpi → Type 0
+AreComparedAt (Given dpi) asks first second at = at ≡ dpi
+AreComparedAt FirstAccepted asks first second Dpi300 =
+    IsFirstCommon first second Dpi300 × (AreUnlike asks Dpi300 first second ⊎ IsOneRefused Dpi600 first second)
+AreComparedAt FirstAccepted asks first second Dpi600 =
+    IsFirstCommon first second Dpi600
+    ⊎ (IsFirstCommon first second Dpi300 × IsComparisonFor asks Dpi300 first second asked.Same × AreBothAccepted Dpi600 first second)
+
 -- the bytes of the two files, each of the one that is asked for by its name
 pub record BothRead {F : Type 0} (acts : F → FileAct → F → Type 0) (files : F) (asked : ComparedFiles) (first second : Vec ℕ) : Type 0 where
   pub first_is : IsFileRead acts files asked.first.now (Ok first)
@@ -54,7 +78,7 @@ pub record AreFilesSeen {F : Type 0} (acts : F → FileAct → F → Type 0) (fi
   pub second : Vec ℕ
   pub read : BothRead acts files asked first second
   pub dpi : Dpi
-  pub seen : AreSeenAt asked.resolution first.items second.items dpi
+  pub seen : AreComparedAt asked.resolution asked.asks first.items second.items dpi
 
 -- the first of the two jobs that is refused is so
 abbrev pub IsRefusedOf : {F : Type 0} → (F → FileAct → F → Type 0) → F → ComparedFiles → Job → Refusal → Type 0

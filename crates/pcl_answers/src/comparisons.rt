@@ -1,15 +1,18 @@
 //! A comparison of two jobs, each from a file.
 
-ghost use Rattle.std.specs.Prelude.{◌≡◌};
+ghost use Rattle.std.specs.Prelude.{◌≡◌, IfOk};
+ghost use Rattle.pcl_base.specs.declared.dpi.Dpi.TheVariants.{Dpi300};
+ghost use Rattle.pcl_files.specs.Resolutions.{IsFirstCommon};
+ghost use Rattle.pcl_request.specs.declared.request.Resolution.TheVariants.{FirstAccepted};
 ghost use Rattle.pcl_streams.specs.declared.fault.Fault.TheVariants.{Memory};
 ghost use Rattle.pcl_answers.specs.declared.comparisons.CompareFault.TheVariants.{Failed};
-ghost use Rattle.pcl_answers.specs.Comparisons.{compare_fault_of, IsComparedFor, IsCompareRun};
+ghost use Rattle.pcl_answers.specs.Comparisons.{compare_fault_of, AreComparedAt, IsComparedFor, IsCompareRun, IsFiner};
 
 use crate::comparison_lines::comparison_line;
 use crate::difference_images::draw_difference;
 use pcl_base::{Dpi, Refusal};
-use pcl_files::{JobFiles, read_file, resolve_both};
-use pcl_request::ComparedFiles;
+use pcl_files::{JobFiles, are_accepted, read_file, resolve_both};
+use pcl_request::{ComparedFiles, Resolution};
 use pcl_same::{AskedComparison, Job, SameFault, same_asked};
 use pcl_streams::{Fault, write_all};
 use std::alloc::{AllocError, Global};
@@ -63,13 +66,59 @@ pub fn compare<F: JobFiles, W: Write>(
 {
     let first = read_file(files, alloc, asked.first)?;
     let second = read_file(files, alloc, asked.second)?;
-    let dpi = resolve_both(alloc, asked.resolution, &first, &second)?;
+    let dpi = compared_at(alloc, asked, &first, &second)?;
     let comparison = compare_jobs(alloc, asked.asks, &first, &second, dpi)?;
     let line = comparison_line(alloc, &comparison)?;
     let pages = comparison.of_pages();
     draw_difference(files, alloc, asked.image, &first, &second, dpi, &pages)?;
     write_all(out, &line)?;
     Ok(comparison)
+}
+
+/// The resolution at which two jobs are compared: the one that is asked for; or where that is left to the jobs, the first at which both are
+/// accepted, and 600 dots per inch where they are the same at 300 and both are accepted there too.
+fn compared_at(
+    alloc: Global,
+    asked: ComparedFiles<'_>,
+    first: &[u8],
+    second: &[u8],
+) -> Result<Dpi, AllocError>
+    ensures { IfOk result (λ dpi. AreComparedAt asked.resolution asked.asks first.now second.now dpi) }
+{
+    let dpi = resolve_both(alloc, asked.resolution, first, second)?;
+    match (asked.resolution, dpi) {
+        (Resolution::FirstAccepted, Dpi::Dpi300) => finest(alloc, asked.asks, first, second),
+        _ => Ok(dpi),
+    }
+}
+
+/// The same of jobs that are accepted at 300 dots per inch, or at neither.
+fn finest(
+    alloc: Global,
+    asks: bool,
+    first: &[u8],
+    second: &[u8],
+) -> Result<Dpi, AllocError>
+    ensures { IfOk result (λ dpi. IsFirstCommon first.now second.now Dpi300
+        → AreComparedAt FirstAccepted asks first.now second.now dpi) }
+{
+    match compare_jobs(alloc, asks, first, second, Dpi::Dpi300) {
+        Ok(AskedComparison::Same) => finer(alloc, first, second),
+        Ok(AskedComparison::Pages(_) | AskedComparison::Asks(_))
+        | Err(SameFault::Refused { .. }) => Ok(Dpi::Dpi300),
+        Err(SameFault::Memory) => Err(AllocError),
+    }
+}
+
+/// 600 dots per inch where both jobs are accepted there, else 300.
+fn finer(alloc: Global, first: &[u8], second: &[u8]) -> Result<Dpi, AllocError>
+    ensures { IfOk result (λ dpi. IsFiner first.now second.now dpi) }
+{
+    if are_accepted(alloc, first, second, Dpi::Dpi600)? {
+        Ok(Dpi::Dpi600)
+    } else {
+        Ok(Dpi::Dpi300)
+    }
 }
 
 /// How two jobs compare. What they ask of the printer counts only where that is wanted.

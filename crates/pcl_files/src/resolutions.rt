@@ -47,7 +47,12 @@ fn first_common(alloc: Global, first: &[u8], second: &[u8]) -> Result<Dpi, Alloc
 }
 
 /// Whether the rules accept two jobs.
-fn are_accepted(alloc: Global, first: &[u8], second: &[u8], dpi: Dpi) -> Result<bool, AllocError>
+pub fn are_accepted(
+    alloc: Global,
+    first: &[u8],
+    second: &[u8],
+    dpi: Dpi,
+) -> Result<bool, AllocError>
     ensures { IfOk result (λ accepted. SayIfAccepted dpi first.now second.now accepted) }
 {
     if is_accepted(alloc, first, dpi)? {

@@ -1,5 +1,5 @@
 use Rattle.std.proofs.Common.{◌≡◌, ◌∙◌, List, ℕ, Option, Result, Ok, Err, inl, inr, refl, sym, subst}
-use Rattle.pcl_answers.proofs.Names.{Vec, err_from_is_err_and, Keeps-refl, Dpi, Fault, Memory, ReadFault, TooLong, WriteFault, AppendsFront, IsWritten, AskedComparison, Comparison, SameFault, IsComparison, IsCompared, of_pages, FileAct, AreSeenAt, IsFileRead, ComparedFiles, Failed, comparison_line_of, AreFilesSeen, IsOneUnread, IsComparisonFor, IsComparedAndDrawn, IsCompareRun, compare_fault_of, dotted_page, IsImageDrawn}
+use Rattle.pcl_answers.proofs.Names.{Vec, err_from_is_err_and, Keeps-refl, Dpi, Fault, Memory, ReadFault, TooLong, WriteFault, AppendsFront, IsWritten, AskedComparison, Comparison, SameFault, IsComparison, IsCompared, of_pages, FileAct, AreComparedAt, IsFileRead, ComparedFiles, Failed, comparison_line_of, AreFilesSeen, IsOneUnread, IsComparisonFor, IsComparedAndDrawn, IsCompareRun, compare_fault_of, dotted_page, IsImageDrawn}
 use Rattle.pcl_same.specs.declared.fault.SameFault.TheVariants as same
 use Rattle.pcl_files.proofs.FileReads.{read_fault}
 use Rattle.pcl_answers.proofs.ComparedFor.{by_pages}
@@ -22,13 +22,13 @@ of_bytes P p q h = rw (← p, ← q) h
 -- the bytes of the two files, and where they are seen, whatever lent them
 abbrev are_seen : {F : Type 0} {acts : F → FileAct → F → Type 0} {files : F} (asked : ComparedFiles) (dpi : Dpi) {first second : Vec ℕ}
     {one other : List ℕ} → IsFileRead acts files asked.first.now (Ok first) → IsFileRead acts files asked.second.now (Ok second)
-    → one ≡ first.items → other ≡ second.items → AreSeenAt asked.resolution one other dpi → AreFilesSeen acts files asked
+    → one ≡ first.items → other ≡ second.items → AreComparedAt asked.resolution asked.asks one other dpi → AreFilesSeen acts files asked
 are_seen asked dpi {first} {second} f s p q seen = record {
   first = first;
   second = second;
   read = record { first_is = f; second_is = s };
   dpi = dpi;
-  seen = of_bytes (λ (one other : List ℕ). AreSeenAt asked.resolution one other dpi) p q seen;
+  seen = of_bytes (λ (one other : List ℕ). AreComparedAt asked.resolution asked.asks one other dpi) p q seen;
 }
 
 -- their comparison, and its image, whatever lent the bytes
