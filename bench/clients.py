@@ -74,11 +74,16 @@ def mixed():
 DOCUMENTS = {"text": text(), "form": form(), "grey": shades(72, 162, 468) + ["showpage"], "mixed": mixed(),
              "pages": text(1) + text(2) + text(3)}
 
+def write_document(folder, name, lines):
+    """Writes a document as PostScript."""
+    with open(os.path.join(folder, name + ".ps"), "w") as out:
+        out.write("\n".join(["%!PS", "<< /PageSize [612 792] >> setpagedevice"] + lines) + "\n")
+
+
 def write_documents(folder):
     """Writes the documents as PostScript."""
     for name, lines in DOCUMENTS.items():
-        with open(os.path.join(folder, name + ".ps"), "w") as out:
-            out.write("\n".join(["%!PS", "<< /PageSize [612 792] >> setpagedevice"] + lines) + "\n")
+        write_document(folder, name, lines)
 
 
 def make_documents(folder):

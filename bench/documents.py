@@ -9,7 +9,8 @@ least raster has. With WORDs only documents are made whose names have all of the
 memory is the peak that GNU time tells of one more run: what wait4 tells of a child has in it what this script holds itself.
 
 The manual is that of bash, as groff sets it for Letter paper; dvilj prints docs/LANGUAGE.md in groff's fonts for TeX, and the two
-pages of document.tex. Other documents are those of clients.py. Needs the manual page of bash, groff, ghostscript, texlive-binaries,
+pages of document.tex. The invoice, the table of 40 by 8 cells and the label with a bar code are written here, other documents by
+clients.py. Needs the manual page of bash, groff, ghostscript, texlive-binaries,
 texlive-base, gzip, xz and GNU time.
 """
 
@@ -41,6 +42,62 @@ Run = collections.namedtuple("Run", "seconds memory")
 
 # ---- the documents
 
+def rule(left, bottom, right, top):
+    return "%d %d moveto %d %d lineto stroke" % (left, bottom, right, top)
+
+
+def shown(left, base, text):
+    return "%d %d moveto (%s) show" % (left, base, text)
+
+
+def font(name, points):
+    return "/%s findfont %d scalefont setfont" % (name, points)
+
+
+def invoice():
+    """A head, a table of 18 items, their sum, and a line at the foot."""
+    lines = [font("Times-Bold", 20), shown(60, 720, "INVOICE 2026-1187"), font("Times-Roman", 10), "0.75 setlinewidth"]
+    for place, text in enumerate(("Example Trading Company Ltd.", "12 Long Street, 98765 Somewhere", "Telephone 0123 456789")):
+        lines.append(shown(60, 700 - 12 * place, text))
+    lines += ["60 180 492 380 rectstroke", rule(60, 540, 552, 540), *(rule(x, 180, x, 560) for x in (90, 330, 390, 460))]
+    for left, text in ((64, "No."), (94, "Description"), (334, "Quantity"), (394, "Price"), (464, "Amount")):
+        lines.append(shown(left, 546, text))
+    for item in range(18):
+        words = " ".join(clients.WORDS[(5 * item + 3 * place) % len(clients.WORDS)] for place in range(5))
+        cells = (item + 1, words, 7 * item % 13 + 1, "%d.%02d" % (37 * item % 90 + 9, 17 * item % 100),
+                 "%d.%02d" % (331 * item % 900 + 19, 71 * item % 100))
+        lines += [shown(left, 526 - 18 * item, cell) for left, cell in zip((64, 94, 334, 394, 464), cells)]
+    lines += [shown(390, 160, "Total"), shown(464, 160, "7,331.40"), rule(464, 155, 552, 155), rule(464, 152, 552, 152)]
+    return lines + [rule(60, 100, 552, 100), shown(60, 88, "Example Trading Company Ltd., register 12345, bank 99 88 77 66"), "showpage"]
+
+
+def table():
+    """40 rows of 8 cells, a word and seven numbers in each."""
+    lines = [font("Helvetica", 8), "0.5 setlinewidth"]
+    lines += [rule(50, 60 + 16 * row, 562, 60 + 16 * row) for row in range(41)]
+    lines += [rule(50 + 64 * column, 60, 50 + 64 * column, 700) for column in range(9)]
+    for row in range(40):
+        cells = [clients.WORDS[row % len(clients.WORDS)], *((7919 * row + 104729 * column) % 100000 for column in range(1, 8))]
+        lines += [shown(54 + 64 * column, 65 + 16 * row, cell) for column, cell in enumerate(cells)]
+    return lines + ["showpage"]
+
+
+def label():
+    """A framed address, and a bar code with its number."""
+    lines = [font("Helvetica-Bold", 24), shown(72, 700, "PARCEL SERVICE"), font("Helvetica", 12)]
+    lines += ["2 setlinewidth 60 480 300 260 rectstroke 1 setlinewidth", rule(60, 690, 360, 690), rule(60, 600, 360, 600)]
+    lines += [shown(72, 660 - 16 * place, text) for place, text in enumerate(("Ms. A. Example", "12 Long Street", "98765 Somewhere"))]
+    left = 80
+    for number in range(44):
+        width = 1.25 * (1 + 5 * number % 3)
+        lines.append("%g 510 %g 72 rectfill" % (left, width))
+        left += width + 1.25 * (1 + 7 * number % 4 // 2)
+    return lines + [shown(140, 492, "1Z 999 AA1 01 2345 6784"), "showpage"]
+
+
+WRITTEN = {"invoice": invoice, "table": table, "label": label}
+
+
 def painted(dpi, document, options=""):
     return clients.painted(DEVICES[dpi], dpi, document, "-sPAPERSIZE=letter " + options)
 
@@ -58,7 +115,8 @@ def documents():
         for count in (1, 20):
             name = "manual in TeX's fonts, " + ("%d pages" % count if count > 1 else "1 page")
             yield Document(name, dpi, painted(dpi, "manual-%d" % dpi, pages(count)))
-        for name, title in (("form", "form with rules"), ("grey", "grey picture"), ("mixed", "mixed page")):
+        for name, title in (("form", "form with rules"), ("grey", "grey picture"), ("mixed", "mixed page"), ("invoice", "invoice"),
+                            ("table", "table of 40 by 8 cells"), ("label", "label with a bar code")):
             yield Document(title, dpi, painted(dpi, name))
         for name, title in (("text", "text by dvilj"), ("document", "TeX by dvilj")):
             yield Document(title, dpi, "cat ../%s.pcl" % name)
@@ -67,6 +125,8 @@ def documents():
 def prepare(folder):
     """Writes what the commands read, which run in a folder within this one."""
     clients.write_documents(folder)
+    for name, lines in WRITTEN.items():
+        clients.write_document(folder, name, lines())
     root = os.path.dirname(os.path.dirname(os.path.realpath(__file__)))
     for command in PREPARED:
         # dvilj ends with status 1 where it leaves a special out, as those of groff for colors: so statuses aren't looked at.

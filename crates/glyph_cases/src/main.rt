@@ -1,5 +1,6 @@
-//! Pages of letters, shrunk. It prints a line for each case; `stdout` has what has to come: which candidate wins, and the bytes
-//! that came in and that go out. Glyphs win where letters go as soft fonts or macros, and what is written has the same pages.
+//! Pages of letters and of rules, shrunk. It prints a line for each case; `stdout` has what has to come: which candidate wins, and the
+//! bytes that came in and that go out. Glyphs win where letters go as soft fonts or macros, or rules as rectangles, and what is written
+//! has the same pages.
 //!
 //! A letter is a stroke of four dots in each of its rows, mostly nine, which goes to the left or to the right from row to row as the
 //! bits of its number say. So there are 256 of them, each one shape, and no row is like the one above; with thirteen rows 4,096.
@@ -11,7 +12,22 @@ use pcl_shrink::shrink;
 use std::alloc::{AllocError, Global};
 use std::io;
 
-/// Pages of letters, in lines.
+/// A black rectangle, in dots: the place of its left upper dot, its width and its height.
+type Rectangle = [u32; 4];
+
+/// Eight rules of a series.
+const SERIES: [Rectangle; 8] = [
+    [100, 300, 600, 2],
+    [100, 350, 600, 2],
+    [100, 400, 600, 2],
+    [100, 450, 600, 2],
+    [100, 500, 600, 2],
+    [100, 550, 600, 2],
+    [100, 600, 600, 2],
+    [100, 650, 600, 2],
+];
+
+/// Pages of letters, in lines, and of rectangles.
 #[derive(Clone, Copy)]
 struct Case {
     name: &'static str,
@@ -38,6 +54,8 @@ struct Case {
     shifts: &'static [u32],
     /// A dot stands above each of this many letters, from the first on; none for 0.
     dots: u32,
+    /// These are on each page too, sent as rasters.
+    rectangles: &'static [Rectangle],
 }
 
 /// A line of letters in the middle of a page, which the cases change.
@@ -57,6 +75,7 @@ const LINE: Case = Case {
     leading: 40,
     shifts: &[0],
     dots: 0,
+    rectangles: &[],
 };
 
 /// The same at 600 dots per inch, at odd places.
@@ -69,7 +88,23 @@ const FINE_LINE: Case = Case {
     ..LINE
 };
 
-const CASES: [Case; 41] = [
+/// A page of a rule. Around its rectangle are 38 bytes: two resets, 33 of the page text, a form feed.
+const RULE: Case = Case {
+    name: "a rule",
+    lines: 0,
+    rectangles: &[[100, 200, 600, 3]],
+    ..LINE
+};
+
+/// The same at 600 dots per inch, with 7 more for the unit.
+const FINE_RULE: Case = Case {
+    name: "a rule, at 600",
+    dpi: Dpi::Dpi600,
+    rectangles: &[[101, 201, 600, 5]],
+    ..RULE
+};
+
+const CASES: [Case; 56] = [
     LINE,
     Case {
         name: "one letter",
@@ -313,7 +348,8 @@ const CASES: [Case; 41] = [
         kinds: 5,
         ..FINE_LINE
     },
-    // The rule is wider than a letter may be, so that each page has a raster.
+    // The rule is wider than a letter may be. The one of page 1 takes 20 bytes as a rectangle and 25 in the raster, the one of page 2,
+    // which stands further right and is half as wide, 22 and 21. Around them are 341.
     Case {
         name: "a rule on each of two pages, at 600",
         start: b"\x1b*c2250a1b0P",
@@ -325,6 +361,152 @@ const CASES: [Case; 41] = [
         start: b"\x1b&l26a2X",
         pages: 2,
         ..FINE_LINE
+    },
+    // A move of 11 and a rectangle of 10.
+    RULE,
+    FINE_RULE,
+    // Twice 11 and 10: each rule is whole.
+    Case {
+        name: "a cross",
+        rectangles: &[[100, 300, 800, 3], [498, 100, 4, 400]],
+        ..RULE
+    },
+    // 11 and 11, 7 and 4 for the lower side; 7 and 10 for the left one, which is as high as the frame, and 8 and 4 for the right one.
+    Case {
+        name: "a frame",
+        rectangles: &[
+            [200, 200, 1000, 4],
+            [200, 800, 1000, 4],
+            [200, 204, 4, 596],
+            [1196, 204, 4, 596],
+        ],
+        ..RULE
+    },
+    // 11 and 10, a macro of 28 and its four runs of 11; 7 and 10, twice 7 and 4, and 8 and 4.
+    Case {
+        name: "a table",
+        rectangles: &[
+            [300, 300, 900, 2],
+            [300, 400, 900, 2],
+            [300, 500, 900, 2],
+            [300, 600, 900, 2],
+            [300, 700, 900, 2],
+            [300, 300, 2, 402],
+            [600, 300, 2, 402],
+            [900, 300, 2, 402],
+            [1198, 300, 2, 402],
+        ],
+        ..RULE
+    },
+    // 213 for the letters, as without the rule, which is right below them; 10 and 11.
+    Case {
+        name: "letters on a rule",
+        rectangles: &[[90, 109, 1000, 2]],
+        ..LINE
+    },
+    // 249 for the letters.
+    Case {
+        name: "letters on a rule, at 600",
+        rectangles: &[[90, 110, 1000, 3]],
+        ..FINE_LINE
+    },
+    // 7 and 11, 8 and 4; 5 and 11, 8 and 4.
+    Case {
+        name: "a rule at each edge",
+        rectangles: &[
+            [0, 0, 2400, 3],
+            [0, 3297, 2400, 3],
+            [0, 0, 3, 3300],
+            [2397, 0, 3, 3300],
+        ],
+        ..RULE
+    },
+    // Twice 11 and 10.
+    Case {
+        name: "rules of one dot",
+        rectangles: &[[100, 500, 300, 1], [700, 100, 1, 300]],
+        ..RULE
+    },
+    // 11 and 10, a macro of 27, and seven runs of it in 17.
+    Case {
+        name: "a series of rules",
+        rectangles: &SERIES,
+        ..RULE
+    },
+    Case {
+        name: "a series of rules, at 600",
+        rectangles: &SERIES,
+        ..FINE_RULE
+    },
+    // 249 for the letters, whose macros have the highest IDs.
+    Case {
+        name: "letters and a series of rules, at 600",
+        rectangles: &SERIES,
+        ..FINE_LINE
+    },
+    // 9 and 10, a macro of 27 and five runs in 13; 10 for the second bar, and five runs in 13. In the raster they would take 199.
+    Case {
+        name: "bars",
+        rectangles: &[
+            [0, 100, 8, 150],
+            [32, 100, 8, 150],
+            [48, 100, 8, 150],
+            [80, 100, 8, 150],
+            [96, 100, 8, 150],
+            [128, 100, 8, 150],
+            [144, 100, 8, 150],
+            [176, 100, 8, 150],
+            [192, 100, 8, 150],
+            [224, 100, 8, 150],
+            [240, 100, 8, 150],
+            [272, 100, 8, 150],
+        ],
+        ..RULE
+    },
+    // As rectangles they would take 338. The raster has 12 bytes before the 76 of its first row, in method 3 one for each bar and its own
+    // one or two, and 202 for the 199 rows like it.
+    Case {
+        name: "more bars than pay",
+        rectangles: &[
+            [0, 101, 16, 200],
+            [32, 101, 8, 200],
+            [56, 101, 16, 200],
+            [88, 101, 8, 200],
+            [104, 101, 16, 200],
+            [136, 101, 16, 200],
+            [160, 101, 16, 200],
+            [192, 101, 16, 200],
+            [224, 101, 8, 200],
+            [248, 101, 8, 200],
+            [264, 101, 8, 200],
+            [280, 101, 8, 200],
+            [296, 101, 16, 200],
+            [328, 101, 8, 200],
+            [352, 101, 8, 200],
+            [376, 101, 16, 200],
+            [408, 101, 8, 200],
+            [424, 101, 8, 200],
+            [440, 101, 8, 200],
+            [464, 101, 16, 200],
+            [496, 101, 16, 200],
+            [520, 101, 16, 200],
+            [552, 101, 16, 200],
+            [584, 101, 16, 200],
+            [616, 101, 16, 200],
+            [648, 101, 8, 200],
+            [672, 101, 8, 200],
+            [688, 101, 8, 200],
+            [712, 101, 16, 200],
+            [736, 101, 16, 200],
+        ],
+        ..RULE
+    },
+    // 22 as a rectangle. A raster that starts at the rule takes five bytes more than the white one there, and 11 for its row: 16 beside
+    // the 213 of the letters.
+    Case {
+        name: "letters, and a short rule far from them",
+        rectangles: &[[2000, 3000, 70, 1]],
+        ..LINE
     },
 ];
 
@@ -369,6 +551,9 @@ fn job_of(alloc: Global, case: &Case) -> Result<Vec<u8>, AllocError> {
         job.extend_from_slice(case.start)?;
         job.extend_from_slice(b"\x1b&l0E")?;
         job.extend_from_slice(unit_of(case.dpi))?;
+        for rectangle in case.rectangles {
+            append_rectangle(*rectangle, &mut job)?;
+        }
         for line in 0..case.lines {
             append_line(case, line, &mut job)?;
         }
@@ -383,6 +568,30 @@ fn unit_of(dpi: Dpi) -> &'static [u8] {
         Dpi::Dpi300 => b"\x1b*t300R",
         Dpi::Dpi600 => b"\x1b*t600R\x1b&u600D",
     }
+}
+
+/// Appends a rectangle as a raster, each row by itself.
+fn append_rectangle(rectangle: Rectangle, job: &mut Vec<u8>) -> Result<(), AllocError> {
+    let [x, y, width, height] = rectangle;
+    append_start(x, y, job)?;
+    for _ in 0..height {
+        append_black_row(width, job)?;
+    }
+    job.extend_from_slice(b"\x1b*rB")
+}
+
+/// Appends a row of this many black dots.
+fn append_black_row(width: u32, job: &mut Vec<u8>) -> Result<(), AllocError> {
+    let bytes = width.div_ceil(8);
+    job.extend_from_slice(b"\x1b*b")?;
+    job.extend_from_slice(Buffer::new().format(bytes).as_bytes())?;
+    job.extend_from_slice(b"W")?;
+    for place in 0..bytes {
+        let left = width.saturating_sub(place.saturating_mul(8));
+        let [_, _, high, _] = (0xFF_0000u32 >> left.min(8)).to_be_bytes();
+        job.push(high)?;
+    }
+    Ok(())
 }
 
 /// Appends the letters of a line.

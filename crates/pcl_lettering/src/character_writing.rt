@@ -1,9 +1,11 @@
 //! Pages written as rasters and characters.
 
-use crate::remains::{FORM_FEED, append_raster};
+use crate::remains::{FORM_FEED, Rest, Taken, shortest_rest};
+use crate::rule_writing::{FIRST_ID, RulePen};
 use pcl_bitmap::Page;
 use pcl_font_text::{Layout, Pen, append_text};
 use pcl_patterns::Letter;
+use pcl_shapes::Rule;
 use std::alloc::AllocError;
 
 /// Writes pages with letters as characters, one after the other.
@@ -33,40 +35,56 @@ impl<'a> CharacterWriter<'a> {
         self.pen = Pen::new();
     }
 
-    /// Appends the next page, of which this is a text without letters: that text, or one with letters where it takes fewer bytes.
+    /// Appends the next page, which has these rules, and of which this is a text without letters: that text, or one with letters and
+    /// rules where it takes fewer bytes. The printer has been told this of rectangles; says what it has been told then.
     pub fn append_page(
         &mut self,
         page: &Page,
         plain: &[u8],
+        rules: &[Rule],
+        pen: RulePen,
         out: &mut Vec<u8>,
-    ) -> Result<(), AllocError> {
+    ) -> Result<RulePen, AllocError> {
         let layout = self.layout;
         let letters = layout.letters.of_page(self.page, self.letters);
         self.page = self.page.saturating_add(1);
         self.letters = self.letters.saturating_add(letters.len());
-        if letters.is_empty() {
-            return out.extend_from_slice(plain);
+        let taken = Taken {
+            patterns: &layout.patterns,
+            found: &layout.letters,
+            letters,
+            rules,
+            free_id: FIRST_ID,
+        };
+        if taken.is_empty() {
+            out.extend_from_slice(plain)?;
+            return Ok(pen);
         }
-        let mut text = Vec::new(*out.allocator());
-        let pen = append_lettered(layout, letters, page, self.pen, &mut text)?;
+        let alloc = *out.allocator();
+        let Rest {
+            mut text,
+            pen: rule_pen,
+            ..
+        } = shortest_rest(alloc, taken, page, pen)?;
+        let letter_pen = append_letters(layout, letters, page, self.pen, &mut text)?;
         if text.len() >= plain.len() {
-            return out.extend_from_slice(plain);
+            out.extend_from_slice(plain)?;
+            return Ok(pen);
         }
-        self.pen = pen;
-        out.extend_from_slice(&text)
+        self.pen = letter_pen;
+        out.extend_from_slice(&text)?;
+        Ok(rule_pen)
     }
 }
 
-/// Appends a page: the raster of what isn't printed as text, and the text.
-fn append_lettered(
+/// Appends what of a page is printed as text, and the end of the page.
+fn append_letters(
     layout: &Layout,
     letters: &[Letter],
     page: &Page,
     pen: Pen,
     out: &mut Vec<u8>,
 ) -> Result<Pen, AllocError> {
-    let alloc = *out.allocator();
-    append_raster(alloc, &layout.patterns, &layout.letters, letters, page, out)?;
     let pen = pen.on_page(page.size.width(page.dpi));
     let pen = append_text(layout, letters, pen, out)?;
     out.push(FORM_FEED)?;

@@ -1,24 +1,32 @@
-//! What of a job goes as letters, and how.
+//! What of a job goes as letters and as rules, and how.
 
 use crate::character_writing::CharacterWriter;
 use crate::macro_writing::MacroWriter;
+use crate::rule_writing::RulePen;
 use pcl_bitmap::Page;
 use pcl_font_text::{Layout, append_fonts, lay_out};
 use pcl_letters::{find_letters, join_shapes};
 use pcl_macro_text::{MacroLayout, append_definitions, append_settings, lay_out_macros};
 use pcl_patterns::{Form, Letters};
-use pcl_shapes::Collection;
+use pcl_shapes::{Collection, Rules};
 use std::alloc::{AllocError, Global};
+
+/// The letters of a job, and its rules.
+#[derive(Drop)]
+pub struct Lettering {
+    letters: Lettered,
+    rules: Rules,
+}
 
 /// The letters of a job: as characters of soft fonts, or as macros.
 #[derive(Drop)]
-pub enum Lettering {
+enum Lettered {
     Characters(Layout),
     Macros(MacroLayout),
 }
 
 impl Lettering {
-    /// The letters of pages that were collected.
+    /// The letters and the rules of pages that were collected.
     pub fn new(alloc: Global, collection: Collection) -> Result<Lettering, AllocError> {
         let mut collection = collection;
         let letters = letters_of(alloc, &mut collection)?;
@@ -34,54 +42,55 @@ impl Lettering {
         let Collection {
             form,
             widths,
+            rules,
             patterns,
             ..
         } = collection;
-        match form {
-            Form::Characters => Ok(Lettering::Characters(lay_out(alloc, patterns, letters)?)),
-            Form::Macros => Ok(Lettering::Macros(lay_out_macros(
-                alloc, &widths, patterns, letters,
-            )?)),
-        }
+        let letters = match form {
+            Form::Characters => Lettered::Characters(lay_out(alloc, patterns, letters)?),
+            Form::Macros => { Lettered::Macros(lay_out_macros(alloc, &widths, patterns, letters)?) }
+        };
+        Ok(Lettering { letters, rules })
     }
 
-    /// Whether there is none: no shape takes fewer bytes as a letter.
+    /// Whether there is none: no shape takes fewer bytes as a letter, and there is no rule.
     pub fn is_empty(&self) -> bool {
-        match self {
-            Lettering::Characters(layout) => layout.letters.letters.is_empty(),
-            Lettering::Macros(layout) => layout.letters.letters.is_empty(),
-        }
+        self.rules.is_empty()
+            && match &self.letters {
+                Lettered::Characters(layout) => layout.letters.letters.is_empty(),
+                Lettered::Macros(layout) => layout.letters.letters.is_empty(),
+            }
     }
 
     /// Appends what is sent before pages with letters: the fonts or the macros. A reset deletes them.
     pub fn append_start(&self, alloc: Global, out: &mut Vec<u8>) -> Result<(), AllocError> {
-        match self {
-            Lettering::Characters(layout) => append_fonts(layout, out),
-            Lettering::Macros(layout) => append_definitions(alloc, layout, out),
+        match &self.letters {
+            Lettered::Characters(layout) => append_fonts(layout, out),
+            Lettered::Macros(layout) => append_definitions(alloc, layout, out),
         }
     }
 
     /// Appends what makes the fonts or the macros permanent: then a reset leaves them.
     pub fn append_permanent(&self, out: &mut Vec<u8>) -> Result<(), AllocError> {
-        match self {
-            Lettering::Characters(layout) => pcl_font_text::append_permanent(layout, out),
-            Lettering::Macros(layout) => pcl_macro_text::append_permanent(layout, out),
+        match &self.letters {
+            Lettered::Characters(layout) => pcl_font_text::append_permanent(layout, out),
+            Lettered::Macros(layout) => pcl_macro_text::append_permanent(layout, out),
         }
     }
 
     /// Appends what is sent after a reset that left the fonts or the macros, before pages with letters.
     pub fn append_settings(&self, out: &mut Vec<u8>) -> Result<(), AllocError> {
-        match self {
-            Lettering::Characters(_) => Ok(()),
-            Lettering::Macros(layout) => append_settings(layout, out),
+        match &self.letters {
+            Lettered::Characters(_) => Ok(()),
+            Lettered::Macros(layout) => append_settings(layout, out),
         }
     }
 
     /// Appends what deletes the fonts or the macros.
     pub fn append_deletion(&self, out: &mut Vec<u8>) -> Result<(), AllocError> {
-        match self {
-            Lettering::Characters(layout) => pcl_font_text::append_deletion(layout, out),
-            Lettering::Macros(layout) => pcl_macro_text::append_deletion(layout, out),
+        match &self.letters {
+            Lettered::Characters(layout) => pcl_font_text::append_deletion(layout, out),
+            Lettered::Macros(layout) => pcl_macro_text::append_deletion(layout, out),
         }
     }
 }
@@ -95,9 +104,20 @@ fn letters_of(alloc: Global, collection: &mut Collection) -> Result<Letters, All
     find_letters(alloc, collection)
 }
 
-/// Writes the pages of a job with its letters, one after the other.
+/// Writes the pages of a job with its letters and its rules, one after the other.
 #[derive(Drop)]
-pub enum PageWriter<'a> {
+pub struct PageWriter<'a> {
+    rules: &'a Rules,
+    /// How many pages came.
+    page: u32,
+    letters: LetterWriter<'a>,
+    /// What the printer has been told of rectangles.
+    pen: RulePen,
+}
+
+/// Writes the letters of pages.
+#[derive(Drop)]
+enum LetterWriter<'a> {
     Characters(CharacterWriter<'a>),
     Macros(MacroWriter<'a>),
 }
@@ -105,30 +125,46 @@ pub enum PageWriter<'a> {
 impl<'a> PageWriter<'a> {
     /// At the first page.
     pub fn new(lettering: &'a Lettering) -> PageWriter<'a> {
-        match lettering {
-            Lettering::Characters(layout) => PageWriter::Characters(CharacterWriter::new(layout)),
-            Lettering::Macros(layout) => PageWriter::Macros(MacroWriter::new(layout)),
+        PageWriter {
+            rules: &lettering.rules,
+            page: 0,
+            letters: match &lettering.letters {
+                Lettered::Characters(layout) => {
+                    LetterWriter::Characters(CharacterWriter::new(layout))
+                }
+                Lettered::Macros(layout) => LetterWriter::Macros(MacroWriter::new(layout)),
+            },
+            pen: RulePen::new(),
         }
     }
 
     /// Goes on after a reset.
     pub fn restart(&mut self) {
-        match self {
-            PageWriter::Characters(writer) => writer.restart(),
-            PageWriter::Macros(writer) => writer.restart(),
+        self.pen = RulePen::new();
+        match &mut self.letters {
+            LetterWriter::Characters(writer) => writer.restart(),
+            LetterWriter::Macros(writer) => writer.restart(),
         }
     }
 
-    /// Appends the next page, of which this is a text without letters: that text, or one with letters where it takes fewer bytes.
+    /// Appends the next page, of which this is a text without letters: that text, or one with letters where it takes fewer bytes, and
+    /// with its rules as rectangles where that takes fewer yet.
     pub fn append_page(
         &mut self,
         page: &Page,
         plain: &[u8],
         out: &mut Vec<u8>,
     ) -> Result<(), AllocError> {
-        match self {
-            PageWriter::Characters(writer) => writer.append_page(page, plain, out),
-            PageWriter::Macros(writer) => writer.append_page(page, plain, out),
-        }
+        let rules = self.rules.of_page(self.page);
+        self.page = self.page.saturating_add(1);
+        self.pen = match &mut self.letters {
+            LetterWriter::Characters(writer) => {
+                writer.append_page(page, plain, rules, self.pen, out)?
+            }
+            LetterWriter::Macros(writer) => {
+                writer.append_page(page, plain, rules, self.pen, out)?
+            }
+        };
+        Ok(())
     }
 }

@@ -1,9 +1,10 @@
 //! Pages written as rasters and macros that are run.
 
-use crate::remains::{FORM_FEED, append_raster};
+use crate::remains::{FORM_FEED, Rest, Taken, shortest_rest};
+use crate::rule_writing::{FIRST_ID, RulePen};
 use pcl_bitmap::Page;
-use pcl_macro_text::{Line, MacroLayout, append_lines};
-use pcl_patterns::Letter;
+use pcl_macro_text::{MacroLayout, append_lines};
+use pcl_shapes::Rule;
 use std::alloc::AllocError;
 
 /// Puts back method 0, by which the rows of a page text begin.
@@ -41,13 +42,16 @@ impl<'a> MacroWriter<'a> {
         self.leaves_method = false;
     }
 
-    /// Appends the next page, of which this is a text without letters: that text, or one with letters where it takes fewer bytes.
+    /// Appends the next page, which has these rules, and of which this is a text without letters: that text, or one with letters and
+    /// rules where it takes fewer bytes. The printer has been told this of rectangles; says what it has been told then.
     pub fn append_page(
         &mut self,
         page: &Page,
         plain: &[u8],
+        rules: &[Rule],
+        pen: RulePen,
         out: &mut Vec<u8>,
-    ) -> Result<(), AllocError> {
+    ) -> Result<RulePen, AllocError> {
         let layout = self.layout;
         let letters = layout.letters.of_page(self.page, self.letters);
         let lines = layout.plan.text.script.of_page(self.page, self.lines);
@@ -58,32 +62,37 @@ impl<'a> MacroWriter<'a> {
             out.extend_from_slice(END_RASTER)?;
         }
         self.leaves_method = false;
-        if letters.is_empty() {
-            return out.extend_from_slice(plain);
+        let taken = Taken {
+            patterns: &layout.patterns,
+            found: &layout.letters,
+            letters,
+            rules,
+            free_id: free_id(layout),
+        };
+        if taken.is_empty() {
+            out.extend_from_slice(plain)?;
+            return Ok(pen);
         }
-        let mut text = Vec::new(*out.allocator());
-        self.marks = append_lettered(layout, letters, lines, self.marks, page, &mut text)?;
+        let alloc = *out.allocator();
+        let Rest {
+            mut text,
+            pen: rule_pen,
+            ..
+        } = shortest_rest(alloc, taken, page, pen)?;
+        self.marks = append_lines(layout, lines, self.marks, &mut text)?;
+        text.push(FORM_FEED)?;
         if text.len() >= plain.len() {
-            return out.extend_from_slice(plain);
+            out.extend_from_slice(plain)?;
+            return Ok(pen);
         }
-        self.leaves_method = true;
-        out.extend_from_slice(&text)
+        self.leaves_method = !lines.is_empty();
+        out.extend_from_slice(&text)?;
+        Ok(rule_pen)
     }
 }
 
-/// Appends a page: the raster of what macros don't print, and the macros. The marks of its lines begin at this place; says where they
-/// end.
-fn append_lettered(
-    layout: &MacroLayout,
-    letters: &[Letter],
-    lines: &[Line],
-    start: usize,
-    page: &Page,
-    out: &mut Vec<u8>,
-) -> Result<usize, AllocError> {
-    let alloc = *out.allocator();
-    append_raster(alloc, &layout.patterns, &layout.letters, letters, page, out)?;
-    let end = append_lines(layout, lines, start, out)?;
-    out.push(FORM_FEED)?;
-    Ok(end)
+/// The highest ID that no macro of a layout has: they go down from the first.
+fn free_id(layout: &MacroLayout) -> u32 {
+    let count = u32::try_from(layout.plan.macros.uses.len()).unwrap_or(0);
+    FIRST_ID.saturating_sub(count)
 }

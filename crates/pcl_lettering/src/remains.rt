@@ -3,9 +3,13 @@
 ghost use Rattle.std.specs.Prelude.{◌≡◌};
 ghost use Rattle.pcl_bitmap.specs.Bitmap.{IsPicture};
 
+use crate::corners::{bits_of, corner_of, page_from};
+use crate::rule_writing::{RulePen, append_rules, sparse_rules};
+use crate::shortening::shortened;
 use pcl_bitmap::{Bitmap, Page};
 use pcl_patterns::{Ink, Letter, Letters, Patterns, Place, stamp};
 use pcl_plan::plan;
+use pcl_shapes::{Rule, erase_rules};
 use pcl_writer::write_page;
 use std::alloc::{AllocError, Global};
 
@@ -15,32 +19,125 @@ const BAND_ROWS: u32 = 512;
 /// The form feed that ends a page.
 pub const FORM_FEED: u8 = 12;
 
-/// Appends a page text of what of a page isn't one of some letters, without its form feed.
-pub fn append_raster(
-    alloc: Global,
-    patterns: &Patterns,
-    found: &Letters,
-    letters: &[Letter],
-    page: &Page,
-    out: &mut Vec<u8>,
-) -> Result<(), AllocError> {
-    let others = page_without(alloc, patterns, found, letters, page)?;
-    let least = plan(alloc, &others)?;
-    write_page(&others, &least, out)?;
-    out.pop();
-    Ok(())
+/// What of a page isn't sent as a raster.
+#[derive(Clone, Copy)]
+pub struct Taken<'a> {
+    /// The patterns of the job, and its letters.
+    pub patterns: &'a Patterns,
+    pub found: &'a Letters,
+    /// The letters of the page.
+    pub letters: &'a [Letter],
+    /// The rules of the page.
+    pub rules: &'a [Rule],
+    /// The ID of a macro that no letter has.
+    pub free_id: u32,
 }
 
-/// A page without the dots of some letters.
-fn page_without(
+impl<'a> Taken<'a> {
+    /// Whether all of the page is sent as a raster.
+    pub fn is_empty(self) -> bool {
+        self.letters.is_empty() && self.rules.is_empty()
+    }
+
+    /// The same with other rules.
+    fn with_rules(self, rules: &'a [Rule]) -> Taken<'a> {
+        Taken {
+            patterns: self.patterns,
+            found: self.found,
+            letters: self.letters,
+            rules,
+            free_id: self.free_id,
+        }
+    }
+}
+
+/// What of a page is neither a letter nor, as a rectangle, a rule: a page text without its form feed, and the rectangles.
+#[derive(Drop)]
+pub struct Rest {
+    pub text: Vec<u8>,
+    /// What the printer has been told of rectangles after it.
+    pub pen: RulePen,
+    /// Whether a raster with its rules is surely longer.
+    is_sure: bool,
+}
+
+impl Rest {
+    /// The shorter one of two.
+    fn or_shorter(self, other: Rest) -> Rest {
+        if other.text.len() < self.text.len() {
+            other
+        } else {
+            self
+        }
+    }
+}
+
+/// The shortest rest of a page that was found: with all rules as rectangles, with those alone that share their rows with few, or with
+/// none. The printer has been told this of rectangles before it.
+pub fn shortest_rest(
     alloc: Global,
-    patterns: &Patterns,
-    found: &Letters,
-    letters: &[Letter],
+    taken: Taken<'_>,
     page: &Page,
-) -> Result<Page, AllocError> {
+    pen: RulePen,
+) -> Result<Rest, AllocError> {
+    let mut shortest = rest_with(alloc, taken, taken.rules, page, pen)?;
+    let sparse = sparse_rules(alloc, taken.rules)?;
+    if sparse.len() < taken.rules.len() {
+        shortest = shortest.or_shorter(rest_with(alloc, taken, &sparse, page, pen)?);
+    }
+    if !shortest.is_sure {
+        shortest = shortest.or_shorter(rest_with(alloc, taken, &[], page, pen)?);
+    }
+    Ok(shortest)
+}
+
+/// The rest of a page with these rules as rectangles.
+fn rest_with(
+    alloc: Global,
+    taken: Taken<'_>,
+    rules: &[Rule],
+    page: &Page,
+    pen: RulePen,
+) -> Result<Rest, AllocError> {
+    let others = page_without(alloc, taken.with_rules(rules), page)?;
+    let spared = white_rows(&others.bitmap, rules);
+    let mut text = raster_text(alloc, others)?;
+    let start = text.len();
+    let pen = append_rules(alloc, rules, pen, taken.free_id, &mut text)?;
+    let is_sure = text.len().saturating_sub(start) <= spared;
+    Ok(Rest { text, pen, is_sure })
+}
+
+/// How many rows of the highest of some rules are white on a page without them: each would take a byte at least in a raster with it.
+fn white_rows(bitmap: &Bitmap, rules: &[Rule]) -> usize {
+    let mut count: usize = 0;
+    if let Some(highest) = rules.iter().max_by_key(|rule| rule.height) {
+        let bottom = highest.top.saturating_add(highest.height);
+        for y in highest.top..bottom.min(bitmap.size().height(bitmap.dpi())) {
+            if bitmap.is_blank(y) {
+                count = count.saturating_add(1);
+            }
+        }
+    }
+    count
+}
+
+/// The page text of a page as it is sent beside letters and rectangles, without its form feed.
+fn raster_text(alloc: Global, page: Page) -> Result<Vec<u8>, AllocError> {
+    let corner = corner_of(&page.bitmap);
+    let page = page_from(alloc, page, corner)?;
+    let least = plan(alloc, &page)?;
+    let mut text = Vec::new(alloc);
+    write_page(&page, &least, &mut text)?;
+    text.pop();
+    shortened(alloc, &text, &page, corner)
+}
+
+/// A page without the dots of some letters and rules.
+fn page_without(alloc: Global, taken: Taken<'_>, page: &Page) -> Result<Page, AllocError> {
     let mut bitmap = Bitmap::new(alloc, page.size, page.dpi)?;
-    paint_without(alloc, patterns, found, letters, &page.bitmap, &mut bitmap)?;
+    paint_without(alloc, taken, &page.bitmap, &mut bitmap)?;
+    erase_rules(taken.rules, &mut bitmap);
     Ok(Page {
         size: page.size,
         copies: page.copies,
@@ -52,9 +149,7 @@ fn page_without(
 /// Paints a page without the dots of some letters, a band of rows at a time.
 fn paint_without(
     alloc: Global,
-    patterns: &Patterns,
-    found: &Letters,
-    letters: &[Letter],
+    taken: Taken<'_>,
     whole: &Bitmap,
     bitmap: &mut Bitmap,
 ) -> Result<(), AllocError>
@@ -70,7 +165,7 @@ fn paint_without(
     for band in whole.bytes().chunks(band_bytes) {
         bytes.clear();
         bytes.extend_from_slice(band)?;
-        whiten(&mut bytes, row_bytes, top, patterns, found, letters);
+        whiten(&mut bytes, row_bytes, top, taken);
         paint(&bytes, &white, top, bitmap);
         top = top.saturating_add(BAND_ROWS);
     }
@@ -78,19 +173,14 @@ fn paint_without(
 }
 
 /// Makes the dots of some letters white in a band of a page, rows of so many bytes from row `top` on.
-fn whiten(
-    bytes: &mut [u8],
-    row_bytes: usize,
-    top: u32,
-    patterns: &Patterns,
-    found: &Letters,
-    letters: &[Letter],
-) {
+fn whiten(bytes: &mut [u8], row_bytes: usize, top: u32, taken: Taken<'_>) {
     let end = top.saturating_add(BAND_ROWS);
-    for letter in letters {
-        let first = letter.baseline.saturating_sub(found.top_of(letter.glyph));
+    for letter in taken.letters {
+        let first = letter
+            .baseline
+            .saturating_sub(taken.found.top_of(letter.glyph));
         if first < end {
-            if let Some(pattern) = found.pattern_of(patterns, letter.glyph) {
+            if let Some(pattern) = taken.found.pattern_of(taken.patterns, letter.glyph) {
                 let rows = pattern.rows_from(top.saturating_sub(first));
                 let place = Place {
                     x: letter.x,
@@ -112,8 +202,7 @@ fn paint(bytes: &[u8], white: &[u8], top: u32, bitmap: &mut Bitmap)
     let mut y = u64::from(top);
     for row in bytes.chunks(white.len().max(1)) {
         if row != white {
-            let bits = u32::try_from(row.len()).map_or(0, |bytes| bytes.saturating_mul(8));
-            bitmap.paint_row(0, y, 1, page_width.min(bits), row);
+            bitmap.paint_row(0, y, 1, page_width.min(bits_of(row)), row);
         }
         y = y.saturating_add(1);
     }

@@ -1,8 +1,9 @@
-//! The shapes of all pages of a job.
+//! The rules and the shapes of all pages of a job.
 
 use crate::baselines::{count_bottoms, guess_baseline};
 use crate::drawing::Drawings;
 use crate::rows::append_rows;
+use crate::rules::{Rule, Rules, erase_rules, find_rules};
 use crate::runs::{KeptRuns, RowWalk};
 use crate::screening::screen_shapes;
 use crate::shapes::{Extent, Shapes, find_shapes};
@@ -36,8 +37,8 @@ pub struct Item {
     pub pattern: u32,
 }
 
-/// The shapes of the pages that came, in order. Shapes that are too large aren't kept, nor those that stay in the raster whatever becomes
-/// of the others.
+/// The rules of the pages that came, and the shapes of what is left without them, in order. Shapes that are too large aren't kept, nor
+/// those that stay in the raster whatever becomes of the others.
 #[derive(Drop)]
 pub struct Collection {
     /// How its letters will be printed.
@@ -46,6 +47,7 @@ pub struct Collection {
     pub widths: Vec<u32>,
     /// The height of each page, in dots.
     pub heights: Vec<u32>,
+    pub rules: Rules,
     /// The patterns of the shapes, each once.
     pub patterns: Patterns,
     pub items: Vec<Item>,
@@ -71,6 +73,7 @@ impl Collection {
             form: form_at(dpi),
             widths: Vec::new(alloc),
             heights: Vec::new(alloc),
+            rules: Rules::new(alloc),
             patterns: Patterns::new(alloc),
             items: Vec::new(alloc),
             rows: Vec::new(alloc),
@@ -86,7 +89,7 @@ impl Collection {
         self.item_limit = limit.min(ITEM_LIMIT);
     }
 
-    /// Passes over a page: none of its shapes is collected.
+    /// Passes over a page: none of its rules and shapes is collected.
     pub fn pass_page(&mut self, page: &Page) -> Result<(), AllocError> {
         let first = self.rows.len();
         self.end_page(page, first)
@@ -94,6 +97,7 @@ impl Collection {
 
     /// Ends a page whose first row is in this place.
     fn end_page(&mut self, page: &Page, first: usize) -> Result<(), AllocError> {
+        self.rules.end_page()?;
         let start = self.place_rows(first);
         self.starts.push(start)?;
         self.widths.push(page.size.width(page.dpi))?;
@@ -104,6 +108,16 @@ impl Collection {
     /// The height of a page, in dots.
     pub fn height_of(&self, page: u16) -> u32 {
         self.heights.get(usize::from(page)).copied().unwrap_or(0)
+    }
+
+    /// Collects the rules of a page, and the shapes of what is left of it.
+    fn collect_page(&mut self, page: &Page) -> Result<(), AllocError> {
+        let rules = find_rules(*self.items.allocator(), &page.bitmap)?;
+        if rules.is_empty() {
+            return self.collect(page);
+        }
+        self.rules.add(&rules)?;
+        self.collect(&page_without(page, &rules)?)
     }
 
     /// Collects the shapes of a page, and what its rows take where it has some.
@@ -235,6 +249,18 @@ impl Collection {
     }
 }
 
+/// A page without the dots of rules.
+fn page_without(page: &Page, rules: &[Rule]) -> Result<Page, AllocError> {
+    let mut bitmap = page.bitmap.clone()?;
+    erase_rules(rules, &mut bitmap);
+    Ok(Page {
+        size: page.size,
+        copies: page.copies,
+        dpi: page.dpi,
+        bitmap,
+    })
+}
+
 /// How letters of pages of this many dots per inch are printed.
 fn form_at(dpi: Dpi) -> Form {
     match dpi {
@@ -295,7 +321,7 @@ impl PageSink for Collection {
     fn page(&mut self, page: &Page) -> Result<(), AllocError> {
         let first = self.rows.len();
         if self.items.len() < self.item_limit {
-            self.collect(page)?;
+            self.collect_page(page)?;
         }
         self.end_page(page, first)
     }

@@ -1,5 +1,6 @@
 //! The dots of the shapes of a page.
 
+use crate::dots::dots_of_byte;
 use crate::runs::Run;
 use crate::shapes::{Extent, Shapes};
 use pcl_patterns::{Pattern, number_of_place, row_bytes_of, rows_len};
@@ -191,16 +192,4 @@ fn count_down_to(extents: &[Extent], from: usize, y: u16) -> usize {
         Some(count) => count,
         None => later.len(),
     }
-}
-
-/// The bits of the byte in a place of a row whose dots are those from `left` up to the one before `right`.
-fn dots_of_byte(place: u32, left: u32, right: u32) -> u8 {
-    let mut bits: u8 = 0xFF;
-    if place == left / 8 {
-        bits &= 0xFF >> (left % 8);
-    }
-    if place == right / 8 {
-        bits &= !(0xFF >> (right % 8));
-    }
-    bits
 }

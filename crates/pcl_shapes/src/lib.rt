@@ -1,17 +1,23 @@
-//! The shapes of pages, each dot that touches another, and where the ink of a row changes (docs/GLYPHS.md).
+//! The rules and the shapes of pages, and where the ink of a row changes (docs/GLYPHS.md).
 //!
-//! A [`Collection`] takes pages and keeps their shapes, each pattern once. Nothing is promised of what is kept.
+//! A [`Collection`] takes pages and keeps their rules, and the shapes of what is left, each pattern once. Nothing is promised of what
+//! is kept.
 #![tactic(auto)]
 
 mod baselines;
 mod collecting;
+mod dots;
 mod drawing;
 mod edges;
+mod level_rules;
 mod rows;
+mod rules;
 mod runs;
 mod screening;
 mod shapes;
+mod upright_rules;
 mod words;
 
 pub use collecting::{Collection, Item};
 pub use edges::append_edges;
+pub use rules::{Rule, Rules, erase_rules};

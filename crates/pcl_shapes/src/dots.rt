@@ -1,0 +1,36 @@
+//! Dots of rows.
+
+use pcl_bitmap::Bitmap;
+
+/// Row `y` of a page: nothing past the lowest one.
+pub fn row_at(bitmap: &Bitmap, y: u32) -> &[u8] {
+    if y < bitmap.size().height(bitmap.dpi()) {
+        bitmap.row(y)
+    } else {
+        &[]
+    }
+}
+
+/// How many dots of a row are black, from the dot `start` up to the one before `end`. Dots past the row are white.
+pub fn black_dots(row: &[u8], start: u32, end: u32) -> u32 {
+    let mut count: u32 = 0;
+    for place in start / 8..end.div_ceil(8) {
+        if let Some(byte) = row.get(place as usize) {
+            let dots = *byte & dots_of_byte(place, start, end);
+            count = count.saturating_add(dots.count_ones());
+        }
+    }
+    count
+}
+
+/// The bits of the byte in a place of a row whose dots are those from `left` up to the one before `right`.
+pub fn dots_of_byte(place: u32, left: u32, right: u32) -> u8 {
+    let mut bits: u8 = 0xFF;
+    if place == left / 8 {
+        bits &= 0xFF >> (left % 8);
+    }
+    if place == right / 8 {
+        bits &= !(0xFF >> (right % 8));
+    }
+    bits
+}

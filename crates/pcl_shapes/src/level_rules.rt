@@ -1,0 +1,158 @@
+//! Rules that go from left to right.
+
+use crate::dots::{black_dots, row_at};
+use crate::edges::append_edges;
+use crate::rules::{RULE_LIMIT, Rule, is_border, is_slender, least_length};
+use pcl_bitmap::Bitmap;
+use std::alloc::{AllocError, Global};
+use std::mem::swap;
+
+/// A long run of black dots, from the dot `start` up to the one before `end`, in each row from `top` on.
+#[derive(Clone, Copy)]
+struct LongRun {
+    start: u32,
+    end: u32,
+    top: u32,
+}
+
+impl LongRun {
+    /// The rectangle that ends above row `bottom`.
+    fn rule_above(self, bottom: u32) -> Rule {
+        Rule {
+            height: bottom.saturating_sub(self.top),
+            width: self.end.saturating_sub(self.start),
+            left: self.start,
+            top: self.top,
+        }
+    }
+
+    /// Whether another one has the same dots of its row.
+    fn is_like(self, other: LongRun) -> bool {
+        self.start == other.start && self.end == other.end
+    }
+}
+
+/// Appends the level rules of a page, as long as there is room.
+pub fn append_level_rules(
+    alloc: Global,
+    bitmap: &Bitmap,
+    rules: &mut Vec<Rule>,
+) -> Result<(), AllocError> {
+    let mut finder = LevelFinder {
+        bitmap,
+        open: Vec::new(alloc),
+        found: Vec::new(alloc),
+        edges: Vec::new(alloc),
+    };
+    let height = bitmap.size().height(bitmap.dpi());
+    for y in 0..height {
+        finder.step(y, rules)?;
+    }
+    finder.close_all(height, rules)
+}
+
+/// Goes over the rows of a page from the topmost one on.
+#[derive(Drop)]
+struct LevelFinder<'a> {
+    bitmap: &'a Bitmap,
+    /// The long runs of the row above, from left to right.
+    open: Vec<LongRun>,
+    /// Those of the row.
+    found: Vec<LongRun>,
+    edges: Vec<u16>,
+}
+
+impl<'a> LevelFinder<'a> {
+    /// Goes on to row `y`, the next one, and appends the rules that end above it. A row like the one above ends none.
+    fn step(&mut self, y: u32, rules: &mut Vec<Rule>) -> Result<(), AllocError> {
+        let row = row_at(self.bitmap, y);
+        if row == row_above(self.bitmap, y) {
+            return Ok(());
+        }
+        self.find_runs(row, y)?;
+        self.close_ended(y, rules)?;
+        swap(&mut self.open, &mut self.found);
+        Ok(())
+    }
+
+    /// Finds the long runs of row `y`. Those of the row above go on.
+    fn find_runs(&mut self, row: &[u8], y: u32) -> Result<(), AllocError> {
+        self.found.clear();
+        if !has_long_run(row) {
+            return Ok(());
+        }
+        self.edges.clear();
+        append_edges(row, &mut self.edges)?;
+        let least = least_length(self.bitmap.dpi());
+        for ends in self.edges.chunks(2) {
+            if let [start, end] = *ends {
+                let run = LongRun {
+                    start: u32::from(start),
+                    end: u32::from(end),
+                    top: y,
+                };
+                if run.end.saturating_sub(run.start) >= least {
+                    self.found.push(continued(run, &self.open))?;
+                }
+            }
+        }
+        Ok(())
+    }
+
+    /// Appends the rules of the row above that don't go on in row `y`.
+    fn close_ended(&self, y: u32, rules: &mut Vec<Rule>) -> Result<(), AllocError> {
+        for run in self.open.iter() {
+            let goes_on = self.found.iter().any(|found| found.is_like(*run));
+            if !goes_on {
+                append_if_rule(self.bitmap, run.rule_above(y), rules)?;
+            }
+        }
+        Ok(())
+    }
+
+    /// Appends the rules of the last row, which ends above this one.
+    fn close_all(&self, bottom: u32, rules: &mut Vec<Rule>) -> Result<(), AllocError> {
+        for run in self.open.iter() {
+            append_if_rule(self.bitmap, run.rule_above(bottom), rules)?;
+        }
+        Ok(())
+    }
+}
+
+/// A run with the topmost row of the one that it continues, of those of the row above.
+fn continued(run: LongRun, above: &[LongRun]) -> LongRun {
+    match above.iter().find(|open| open.is_like(run)) {
+        Some(open) => *open,
+        None => run,
+    }
+}
+
+/// Whether a row may have a run as long as a rule: such a run has four whole bytes.
+fn has_long_run(row: &[u8]) -> bool {
+    let (words, _) = row.as_chunks::<4>();
+    words.iter().any(|word| *word == [0xFF; 4])
+}
+
+/// The row above row `y` of a page: none above the topmost one.
+fn row_above(bitmap: &Bitmap, y: u32) -> &[u8] {
+    match y.checked_sub(1) {
+        Some(above) => row_at(bitmap, above),
+        None => &[],
+    }
+}
+
+/// Appends a rectangle of long runs, if it is a rule: thin, and mostly white above and below.
+fn append_if_rule(bitmap: &Bitmap, rule: Rule, rules: &mut Vec<Rule>) -> Result<(), AllocError> {
+    let end = rule.left.saturating_add(rule.width);
+    let bottom = rule.top.saturating_add(rule.height);
+    let above = black_dots(row_above(bitmap, rule.top), rule.left, end);
+    let below = black_dots(row_at(bitmap, bottom), rule.left, end);
+    if rules.len() < RULE_LIMIT
+        && is_slender(rule.width, rule.height)
+        && is_border(above, rule.width)
+        && is_border(below, rule.width)
+    {
+        rules.push(rule)?;
+    }
+    Ok(())
+}
