@@ -89,7 +89,7 @@ fn read_on(alloc: Global, job: &[u8], first: Refusal, dpi: Dpi) -> Result<Unread
         later: Vec::new(alloc),
     };
     let mut refused = first;
-    for _ in 1..FINDING_LIMIT {
+    for _ in 0..job.len() {
         if !is_of_one_sequence(refused.kind) {
             return Ok(unread);
         }
