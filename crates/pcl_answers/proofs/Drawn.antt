@@ -1,5 +1,8 @@
 -- Faults that come of an image.
-use Rattle.pcl_answers.proofs.Names.{List, ℕ, Option, Some, Err, inl, refl, arith, Bor, Dpi, Picture, Fault, Memory, WriteFault, IsImageWritten, FileFault, FileAct, write_fault_of, IsDifferingPage, IsImageMade, IsImageDrawnTo}
+use Rattle.pcl_same.specs.declared.comparison.Comparison.TheVariants.{Same, PageCount, Page}
+use Rattle.pcl_same.specs.declared.comparison.Difference.TheVariants.{Size, Copies, Dot}
+use Rattle.std.specs.Prelude.{◌≡◌}
+use Rattle.pcl_answers.proofs.Names.{Comparison, IsComparison, DifferInDots, dotted_page, List, ℕ, Option, Some, Err, inl, refl, arith, Bor, Dpi, Picture, Fault, Memory, WriteFault, IsImageWritten, FileFault, FileAct, write_fault_of, IsDifferingPage, IsImageMade, IsImageDrawnTo}
 
 -- a fault that an image can have
 abbrev pub IsImageFault : Fault → Type 0
@@ -29,3 +32,13 @@ pub undrawn : {F : Type 0} (acts : F → FileAct → F → Type 0) (name : Bor (
     → IsImageDrawnTo acts (Some name) (Some number) dpi first second files files (Err fault)
 undrawn acts name number dpi first second files Memory d = inl (refl, refl)
 undrawn acts name number dpi first second files other d = absurd d
+
+-- jobs that differ first in a dot of this page
+pub differ_in_dots : (dpi : Dpi) (first second : List ℕ) (comparison : Comparison) (number : ℕ) → IsComparison dpi first second comparison
+    → dotted_page comparison ≡ Some number → DifferInDots dpi first second number
+differ_in_dots dpi first second (Page n (Dot x y)) number is e =
+    let same : n ≡ number = grind (arith, e) in (x, y, rw (← same) is)
+differ_in_dots dpi first second (Page n (Size a b)) number is e = absurd (grind (arith, e))
+differ_in_dots dpi first second (Page n (Copies a b)) number is e = absurd (grind (arith, e))
+differ_in_dots dpi first second (PageCount a b) number is e = absurd (grind (arith, e))
+differ_in_dots dpi first second Same number is e = absurd (grind (arith, e))

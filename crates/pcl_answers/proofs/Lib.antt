@@ -3,3 +3,4 @@ pub mod Appended
 pub mod SamePages
 pub mod Drawn
 pub mod ComparedFor
+mod Finest

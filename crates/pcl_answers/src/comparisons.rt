@@ -83,7 +83,7 @@ fn compared_at(
     first: &[u8],
     second: &[u8],
 ) -> Result<Dpi, AllocError>
-    ensures { IfOk result (λ dpi. AreComparedAt asked.resolution asked.asks first.now second.now dpi) }
+    ensures { IfOk result (λ dpi. AreComparedAt asked.entry.resolution asked.entry.asks first.now second.now dpi) }
 {
     let dpi = resolve_both(alloc, asked.resolution, first, second)?;
     match (asked.resolution, dpi) {
@@ -104,8 +104,9 @@ fn finest(
 {
     match compare_jobs(alloc, asks, first, second, Dpi::Dpi300) {
         Ok(AskedComparison::Same) => finer(alloc, first, second),
-        Ok(AskedComparison::Pages(_) | AskedComparison::Asks(_))
-        | Err(SameFault::Refused { .. }) => Ok(Dpi::Dpi300),
+        Ok(AskedComparison::Pages(_)) => Ok(Dpi::Dpi300),
+        Ok(AskedComparison::Asks(_)) => Ok(Dpi::Dpi300),
+        Err(SameFault::Refused { .. }) => Ok(Dpi::Dpi300),
         Err(SameFault::Memory) => Err(AllocError),
     }
 }
