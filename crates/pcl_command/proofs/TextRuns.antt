@@ -45,4 +45,5 @@ unshrunk_everywhere job fault.Memory s = tt
 
 pub smaller_there : {lent job : List ℕ} {shrunk : Shrunk} → lent ≡ job → IsShrunkEverywhere lent (Ok shrunk)
     → IsSmallerEverywhere job shrunk.job.items
-smaller_there is s = rw is at (s.0, s.1, s.2, s.3.smaller)
+smaller_there {lent} {job} {shrunk} is s =
+    let there : IsSmallerEverywhere lent shrunk.job.items = (s.0, s.1, s.2, s.3.smaller) in rw is at there

@@ -7,7 +7,7 @@ use Rattle.pcl_base.specs.declared.refusal.Refusal.{Refusal}
 use Rattle.pcl_page.specs.Delivering.{IsRefusal}
 use Rattle.pcl_cert.specs.declared.format.Format.TheVariants.{One}
 use Rattle.pcl_streams.specs.declared.fault.Fault.{Fault}
-use Rattle.pcl_streams.specs.JobFaults.{RefusedOrMemory}
+use Rattle.pcl_streams.specs.JobFaults.{RefusedOrMemory, fault_of}
 use Rattle.pcl_tool.specs.Minimizing.{IsCertifiedJobOf}
 use Rattle.pcl_shrink.specs.Shrinking.{IsSmallerJob, IsSmallerEverywhere, IsRefusedEverywhere}
 use Rattle.pcl_files.specs.Failures.{HasFailed}

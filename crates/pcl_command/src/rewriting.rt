@@ -38,7 +38,7 @@ pub fn rewrite(alloc: Global, job: &[u8], dpi: Dpi, rewriting: Rewriting) -> Res
 
 /// A job that was shrunk, or why it wasn't.
 fn shrunk_again(alloc: Global, shrunk: Result<Shrunk, JobFault>) -> Result<Again, Failure>
-    ensures { IsShrunkAgain shrunk.entry result }
+    ensures { IsShrunkAgain shrunk result }
 {
     match shrunk {
         Ok(shrunk) => Ok(Again {
