@@ -11,11 +11,12 @@
 //! 123 for the letter's, 33 of the page text, `ESC*b3M` 5, `ESC*p68x20Y` 9, `ESC&f32767y` 9, 45 runs 90, and 3 after.
 //!
 //! A second page of the line at 300 dots per inch takes 133 bytes: the page text 33, the move 9, 90 codes, the form feed. After the
-//! universal exit, 28, the font goes again, 124. For a reset between pages, 2, it is made permanent, 11, and deleted at the end, 11; the
-//! two macros at 600 take 21 and 19, and 7 for the unit of measure after the reset. A page with a dot takes 40 as a raster.
+//! universal exit, 28, the font goes again, 124. For a reset between pages, 2, it is made permanent, 11, selected again, 8, and deleted at
+//! the end, 11; the two macros at 600 take 21 and 19, and 7 for the unit of measure after the reset. A page with a dot takes 40 as a
+//! raster.
 //!
 //! A raster where a reset leaves the cursor stands half a dot lower at 600 dots per inch: for both the raster starts there, for two bytes.
-//! A stroke of forty dots takes 40 bytes around its rows, 9 for the first row, 6 for the second, and 4 for each of the 38 others.
+//! A stroke of forty dots takes 40 bytes around its rows, 10 for the first, 6 for the second, and 4 for each of the 38 others.
 #![tactic(auto)]
 
 use pcl_base::{Dpi, JobFault};
