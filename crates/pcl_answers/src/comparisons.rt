@@ -93,12 +93,7 @@ fn compared_at(
 }
 
 /// The same of jobs that are accepted at 300 dots per inch, or at neither.
-fn finest(
-    alloc: Global,
-    asks: bool,
-    first: &[u8],
-    second: &[u8],
-) -> Result<Dpi, AllocError>
+fn finest(alloc: Global, asks: bool, first: &[u8], second: &[u8]) -> Result<Dpi, AllocError>
     ensures { IfOk result (λ dpi. IsFirstCommon first.now second.now Dpi300
         → AreComparedAt FirstAccepted asks first.now second.now dpi) }
 {

@@ -16,11 +16,7 @@ pub fn append_deletion(layout: &Layout, out: &mut Vec<u8>) -> Result<(), AllocEr
 }
 
 /// Appends a control of each font, with the letter of its ID and its number.
-fn append_controls(
-    layout: &Layout,
-    control: &[u8],
-    out: &mut Vec<u8>,
-) -> Result<(), AllocError> {
+fn append_controls(layout: &Layout, control: &[u8], out: &mut Vec<u8>) -> Result<(), AllocError> {
     for font in 0..font_count(layout) {
         append_labelled(b"\x1b*c", font_id(font), out)?;
         out.extend_from_slice(control)?;

@@ -29,12 +29,7 @@ pub struct Proposed {
 
 /// Proposes a job with the pages of a job, which asks for what that asks for: its pages as their shortest rasters, or, where that is
 /// shorter, with letters. Where the dots of its pages lie at 600 dots per inch is given if that counts. A refusal is the job's.
-pub fn propose(
-    alloc: Global,
-    job: &[u8],
-    dpi: Dpi,
-    shifts: &[Shift],
-) -> Result<Proposed, JobFault>
+pub fn propose(alloc: Global, job: &[u8], dpi: Dpi, shifts: &[Shift]) -> Result<Proposed, JobFault>
     ensures { HasProposed dpi job.now result }
 {
     let (texts, found) = page_texts(alloc, job, dpi, shifts)?;
