@@ -62,7 +62,8 @@ def cases():
 
 
 def texts():
-    """The texts of the gate's table: number of the line, command, status and what is written, without the last line feed."""
+    """The texts of the gate's table, but for what is reported of a job: number of the line, command, status and what is written, without
+    the last line feed."""
     with open(TEXTS) as table:
         for number, line in enumerate(table, 1):
             word, _, rest = line.strip().partition(" ")
@@ -72,7 +73,7 @@ def texts():
                 command = rest
             elif word == "shows":
                 text.append(rest)
-            elif word == "status" and text:
+            elif word == "status" and text and not (rest == "0" and command.endswith(".pcl")):
                 yield number, command, int(rest), "\n".join(text)
 
 
