@@ -58,13 +58,20 @@ pub fn shortest_texts(
     Ok(shortest)
 }
 
-/// A page text whose raster starts half a dot lower: the first `Y` puts the cursor to the page's corner.
+/// What puts the cursor to the page's corner, in a page text.
+const CORNER: &[u8] = b"\x1b*p0x0Y";
+
+/// The same half a dot lower, in decipoints: a part of a PCL unit isn't read by all.
+const BELOW_CORNER: &[u8] = b"\x1b&a0h1.2V";
+
+/// A page text whose raster starts half a dot lower: the first `Y` ends what puts the cursor to the page's corner.
 fn half_lower(alloc: Global, text: &[u8]) -> Result<Vec<u8>, AllocError> {
     let place = text.iter().position(|byte| *byte == b'Y').unwrap_or(0);
-    let (start, rest) = text.split_at(place.min(text.len()));
+    let (start, rest) = text.split_at(place.saturating_add(1).min(text.len()));
+    let (start, _) = start.split_at(start.len().saturating_sub(CORNER.len()));
     let mut lower = Vec::new(alloc);
     lower.extend_from_slice(start)?;
-    lower.extend_from_slice(b".5")?;
+    lower.extend_from_slice(BELOW_CORNER)?;
     lower.extend_from_slice(rest)?;
     Ok(lower)
 }
