@@ -201,7 +201,7 @@ def chains(wanted):
 
 
 def within_memory(jobs):
-    """As many of so many jobs as memory allows, but one at least."""
+    """As many of these jobs as memory allows, but one at least."""
     return max(1, min(jobs, 1 + (free_memory() - FIRST_JOB) // FURTHER_JOB))
 
 

@@ -35,7 +35,7 @@ ROOT = pathlib.Path(__file__).resolve().parent.parent
 KINDS = [("ljet2p", 380, 0), ("laserjet", 150, 0), ("ljetplus", 80, 0), ("lj4dith", 60, 0), ("fs600", 40, 0), ("sample", 60, 0),
          ("empty", 30, 0), ("ljet4", 80, 1), ("lj5gray", 30, 1), ("cut", 40, 1), ("words", 40, 1), ("missing", 10, 3)]
 WORDS = [word for word in (ROOT / "docs" / "LANGUAGE.md").read_text().split() if word.isalpha()]
-# One job in so many is compared, and one in so many is written with a certificate.
+# How many jobs there are for one that is compared, and for one that is written with a certificate.
 COMPARED, CERTIFIED = 20, 50
 failed = []
 
@@ -131,7 +131,7 @@ def look(what, home, wanted, report, folder, outcomes, is_json=False):
 
 def batch(pclmin, home, names, report, *words, until=None):
     """Runs a batch with these names on standard input, and gives its status, what it says and the seconds; where it is to end sooner,
-    it is killed after so many lines of its report."""
+    it is killed after this many lines of its report."""
     begun = time.monotonic()
     with open(report, "wb") as out:
         process = subprocess.Popen([pclmin, "batch", *words], cwd=home, stdin=subprocess.PIPE, stdout=out, stderr=subprocess.PIPE)

@@ -58,7 +58,7 @@ class _Answer(ctypes.Structure):
 
 
 def _declared(name, jobs, numbers):
-    """A call that takes so many jobs and then so many numbers."""
+    """A call that takes this many jobs and then this many numbers."""
     call = getattr(_LIBRARY, name)
     call.argtypes = [ctypes.c_char_p, ctypes.c_size_t] * jobs + [ctypes.c_uint] * numbers + [ctypes.POINTER(_Answer)]
     call.restype = ctypes.c_int

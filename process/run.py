@@ -146,7 +146,7 @@ def check_texts(program):
 
 
 def run_within(program, words, job, limit):
-    """The status of a run within so many KB of address space, and what it writes; none where no process begins."""
+    """The status of a run within this many KB of address space, and what it writes; none where no process begins."""
     done = subprocess.run(
         ["sh", "-c", 'ulimit -v "$0"; exec "$@"', str(limit), program] + words, input=job, capture_output=True, timeout=60, check=False)
     if done.returncode < 0 or done.returncode in (126, 127):
@@ -214,7 +214,7 @@ def check_lengths(program):
 
 
 def run_long(folder, program, words, job, limit):
-    """What a run within so many KB does that replaces two files: status, what is said, and the files after it."""
+    """What a run within this many KB does that replaces two files: status, what is said, and the files after it."""
     for name, content in (("long.pcl", job), ("long.out", b"kept"), ("long.cert", b"kept")):
         with open(os.path.join(folder, name), "wb") as file:
             file.write(content)
@@ -277,7 +277,7 @@ def run_on_terminal(program, words, job):
 
 
 def check_terminal(program):
-    """A terminal is told how many pages are done, or how many jobs of a batch, from the first second on and not before, and the line is
+    """A terminal shows how many pages are done, or how many jobs of a batch, from the first second on and not before, and the line is
     cleared at the end."""
     wrong = []
     said, taken = run_on_terminal(program, ["min"], DOT)

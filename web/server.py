@@ -74,14 +74,14 @@ def call_of(path):
 
 
 class Room:
-    """So many bytes, for the jobs that are held."""
+    """A number of bytes, for the jobs that are held."""
 
     def __init__(self, size):
         self.left, self.lock = size, threading.Lock()
 
     @contextlib.contextmanager
     def taken(self, size):
-        """Takes so many for as long as a block runs, and gives them back however it ends."""
+        """Takes this many for as long as a block runs, and gives them back however it ends."""
         with self.lock:
             if size > self.left:
                 raise Fault(503, "the server holds as many jobs as it can: try again")
@@ -222,7 +222,7 @@ class Handler(http.server.BaseHTTPRequestHandler):
 
 
 class Server(http.server.ThreadingHTTPServer):
-    """Serves so many connections at once, each in a thread; others wait until one ends."""
+    """Serves up to this many connections at once, each in a thread; others wait until one ends."""
 
     request_queue_size = 128
 

@@ -449,7 +449,7 @@ def test_greys(held, browser, program):
               f"the page and its small picture are as grey as {wanted}: {mean}, {small}")
 
     def share(dot, pixel, size):
-        """How much of a dot lies in a pixel so many dots wide."""
+        """How much of a dot lies in a pixel this many dots wide."""
         return max(0, min(dot + 1, (pixel + 1) * size) - max(dot, pixel * size))
 
     across, down = 2400 / width, 3300 / height
