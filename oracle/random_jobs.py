@@ -230,7 +230,7 @@ def part_of(draw, part, has_font):
 
 
 def picture_row(draw, above, length):
-    """A row of so many bytes: runs and bytes about as long as an element can be, or the row above it but for some bytes."""
+    """A row of this many bytes: runs and bytes about as long as an element can be, or the row above it but for some bytes."""
     if above and draw.random() < 0.5:
         row = bytearray(above)
         for _ in range(draw.choice([0, 1, 1, 2, 3])):

@@ -392,7 +392,7 @@ class Performer:
         self.marked = True
 
     def ink(self, line, top, count, is_black):
-        """Gives the dots of a line their ink in so many rows, but for what lies off the page."""
+        """Gives the dots of a line their ink in this many rows, but for what lies off the page."""
         line &= (1 << self.width // self.dot) - 1
         for y in range(top, min(top + count, self.height // self.dot)):
             row = self.rows.get(y, 0)

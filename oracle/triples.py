@@ -80,12 +80,12 @@ def pages_of(triple):
 
 
 def put(content, place, new, old_length=None):
-    """Bytes in place of as many, or of so many."""
+    """Bytes in place of as many, or of another number."""
     return content[:place] + new + content[place + (len(new) if old_length is None else old_length):]
 
 
 def near(draw, old, size):
-    """A number of so many bytes beside another one, or anywhere."""
+    """A number of this many bytes beside another one, or anywhere."""
     most = 256 ** size - 1
     new = draw.choice([old + 1] * 4 + [old - 1] * 3 + [old + 2, old - 2, old + 255, 0, 0, 1, most, draw.randint(0, most)])
     return min(max(new, 0), most).to_bytes(size, "big")
@@ -342,7 +342,7 @@ def bytes_made(method, data):
 
 
 def data_further(method, count, byte):
-    """Data that go so many bytes further, over white ones or those of the row above, and end with a byte."""
+    """Data that go this many bytes further, over white ones or those of the row above, and end with a byte."""
     white = count - 1
     if method == b"0":
         return bytes(white) + bytes([byte])

@@ -45,7 +45,7 @@ def answered(call, numbers, job):
 
 
 def call_alone(seconds, call, numbers):
-    """The process of one call: a job on standard input, and what is answered on standard output."""
+    """The process of one call: a job on standard input, and its answer on standard output."""
     resource.setrlimit(resource.RLIMIT_CPU, (seconds, seconds + 1))
     resource.setrlimit(resource.RLIMIT_AS, (MEMORY, MEMORY))
     sys.stdout.buffer.write(answered(call, numbers, sys.stdin.buffer.read()))

@@ -58,7 +58,7 @@ impl<'a> Fields<'a> {
         self.take(bytes).map(|taken| number_of(taken) as usize)
     }
 
-    /// A list for rows of so many bytes.
+    /// A list for rows of this many bytes.
     fn list(&mut self, row_bytes: usize) -> Result<&'a [u8], Malformed> {
         let count = self.number(2)?;
         if count > row_bytes {

@@ -13,7 +13,7 @@ use std::fmt;
 
 const RESET: &[u8] = b"\x1bE";
 
-/// What is answered; it prints as its line.
+/// A verdict; it prints as its line.
 pub enum Verdict {
     Proved,
     Certificate(Malformed),
@@ -88,7 +88,7 @@ fn is_framed(output: &[u8], claims: &[Claim]) -> bool {
     output.len() == texts + 2 * RESET.len() && output.starts_with(RESET) && output.ends_with(RESET)
 }
 
-/// The text of a page, where the certificate has one and the output so many bytes.
+/// The text of a page, where the certificate has one and the output this many bytes.
 fn text_of<'a>(output: &'a [u8], claims: &[Claim], page: usize) -> Option<&'a [u8]> {
     let start = RESET.len() + claims.get(..page)?.iter().map(|claim| claim.text_length).sum::<usize>();
     output.get(start..start + claims.get(page)?.text_length)
@@ -210,7 +210,7 @@ fn wrong_edge(claim: &Claim, rows: &Rows) -> Option<Untrue> {
 struct Window(VecDeque<(usize, u64)>);
 
 impl Window {
-    /// Adds the node of a row, from which so many rows up can be skipped, and drops those that are further from the row above it.
+    /// Adds the node of a row, from which this many rows up can be skipped, and drops those that are further from the row above it.
     fn add(&mut self, row: usize, number: u64, reach: usize) {
         while self.0.front().is_some_and(|(_, nearer)| *nearer >= number) {
             self.0.pop_front();

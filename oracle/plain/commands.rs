@@ -190,12 +190,12 @@ impl Number {
         self.count().ok().filter(|&count| is_taken(count)).ok_or(Kind::UnsupportedValue)
     }
 
-    /// So many of a unit, without the sign, rounded down.
+    /// A number of units, without the sign, rounded down.
     pub fn times(self, unit: u64) -> u64 {
         u64::from(self.magnitude) * unit + u64::from(self.decimals) * unit / 10_000
     }
 
-    /// Where a move by so many of a unit ends.
+    /// Where a move by a number of units ends.
     pub fn moved(self, origin: u64, cursor: u64, unit: u64) -> u64 {
         let amount = self.times(unit);
         match self.sign {

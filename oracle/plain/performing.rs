@@ -504,7 +504,7 @@ impl<'a> Performer<'a> {
     }
 }
 
-/// Whether PCL units can be so many to an inch.
+/// Whether PCL units can be this many to an inch.
 fn is_unit_of_measure(count: u32) -> bool {
     matches!(count, 96..=7200) && 7200 % count == 0
 }

@@ -28,7 +28,7 @@ pub struct Rows<'a> {
 }
 
 impl<'a> Rows<'a> {
-    /// Rows of so many bytes.
+    /// Rows of this many bytes.
     pub fn new(dots: &'a [u8], width: usize) -> Rows<'a> {
         let zeros = vec![0; width];
         Rows { dots, width, zeros }

@@ -25,7 +25,7 @@ fn put(row: &mut [u8], place: usize, bytes: &[u8]) -> usize {
     end
 }
 
-/// Writes a byte so many times.
+/// Writes a byte this many times.
 fn put_run(row: &mut [u8], place: usize, count: usize, byte: u8) -> usize {
     let end = (place + count).min(row.len());
     row[place..end].fill(byte);

@@ -107,7 +107,7 @@ pub length-copied : (copies : ℕ) (bytes : List ℕ) → length (flat_map (λ b
 length-copied copies [] = omega arith
 length-copied copies (b ∷ bytes) = rw (length-append, length-copied copies bytes, length-replicate) (omega arith)
 
--- what each of so many elements gives, and what the next one gives
+-- what each of some elements gives, and what the next one gives
 pub flat_more : {X : Type 0} (f : X → List ℕ) (xs : List X) {i : ℕ} (d : X) → i < length xs
     → flat_map f (take (i + 1) xs) ≡ flat_map f (take i xs) ++ f (get_or xs i d)
 flat_more f xs {i} d lt = rw (take_more xs i d lt, flat_map-append, append-nil)

@@ -7,7 +7,7 @@ use Rattle.pcl_cert.proofs.Numbers.{numbers_of_front}
 use Rattle.pcl_cert.proofs.Loops.{Stands, fails_same, goes_on}
 use Rattle.pcl_cert.proofs.PagesRead.{lists_are_many}
 
--- where a loop stands that has read so many lists: the rest of the bytes, and where the lists begin
+-- where a loop stands that has read this many lists: the rest of the bytes, and where the lists begin
 pub record StandsInLists (count most done : ℕ) (bytes rest : List ℕ) (starts : List ℕ) : Type 0 where
   pub read : Stands (λ n. lists_at n most) count done bytes rest (lists_within bytes starts)
   pub suffix : rest ≡ drop (length bytes - length rest) bytes

@@ -7,7 +7,7 @@ use Rattle.pcl_cert.specs.ReadingCertificates.{◌>>=◌, Fails}
 abbrev pub Reader : Type 0 → Type 0
 Reader X = List ℕ → Result (X × List ℕ) CertFault
 
--- what reads so many, by a step for one and the others
+-- what reads this many, by a step for one and the others
 pub record IsMany {X : Type 0} (one : Reader X) (many : ℕ → Reader (List X)) : Type 0 where
   pub none : (bytes : List ℕ) → many 0 bytes ≡ Ok ([], bytes)
   pub more : (n : ℕ) (bytes : List ℕ)

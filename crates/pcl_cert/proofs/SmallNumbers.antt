@@ -35,7 +35,7 @@ module _ {width : ℕ} {rows : List (List ℕ)} {number : Node → ℕ} (are : A
       (refl, s.0, within, plain_row codable, refl) in
       omega (arith, cost_send (least_spelling (length bytes)) bytes, row_cost_small (length bytes) (omega (arith, long)))
 
-  -- outside a sequence, where so many rows are left
+  -- outside a sequence, where this many rows are left
   outside_small : (left row : ℕ) (current : Method) → row + left ≡ length rows → number (node row current false) ≤ 65546 * left
   outside_small zero row current all =
       omega (arith, feasible.ends (node row current false) (refl, rw (drop_all row rows (omega (arith, all))) tt))

@@ -45,6 +45,6 @@ module _ {X : Type 0} {one : Reader X} {many : ℕ → Reader (List X)} {text : 
   many_again (x ∷ xs) rest fits =
       rw (flat_map-cons, append_assoc, is.more, spells.again x (flat_map text xs ++ rest) fits.0, many_again xs rest fits.1)
 
-  -- so many things
+  -- this many things
   pub many_spell : (n : ℕ) → Spells (many n) (flat_map text) (λ xs. (length xs ≡ n) × AllByRecursion Fits xs)
   many_spell n = record { found = many_found n; again = λ xs rest fits. rw (← fits.0) (many_again xs rest fits.1) }

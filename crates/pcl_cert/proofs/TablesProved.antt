@@ -1,4 +1,4 @@
--- A table of a page is answered Proved on a least text, and can be written as a certificate.
+-- A table of a page is found Proved on a least text, and can be written as a certificate.
 use Rattle.std.proofs.Common.{◌≡◌, ℕ, ◌+◌, ◌<◌, ◌≤◌, true, false, List, Option, Some, None, length, get_or, arith}
 use Rattle.pcl_cert.proofs.Names.{decimal, row_limit, Method, page_height, code_of, Page, IsCodable, first_is_least, PrintsPage, IsLeastText, fixed_bytes, IsTableOf, RowNumbers, start, row_at, row_above, node_number, widths, text_of_least, row_small, AreGoodNumbers, IsLeastOfRow, feasible_good, code_few, Format, One, Two, list_of, number_at_place, table_of, AreLeastTablesOf, IsProof, HasLists, Tables, AreLeastOf, HasLeastLists, AreEdgesGood, IsVerdict}
 use Rattle.pcl_cert.specs.declared.check.Verdict.TheVariants as verdicts

@@ -15,7 +15,7 @@ letter_is capital ends = grind arith
 abbrev pub left_over : Bool → Method → List ℕ → ℕ → List ℕ → LeftOver
 left_over inside current above rows text = record { inside = inside; method = current; above = above; rows = rows; text = text }
 
--- so many white rows of a size
+-- this many white rows of a size
 abbrev pub white_rows : Size → Dpi → ℕ → List (List ℕ)
 white_rows size dpi count = replicate count (replicate (page_row_bytes size dpi) 0)
 

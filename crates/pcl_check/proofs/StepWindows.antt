@@ -3,7 +3,7 @@ use Rattle.std.proofs.Common.{◌≡◌, ℕ, ◌+◌, ◌-◌, ◌<◌, ◌≤�
 use Rattle.pcl_check.proofs.Names.{slice_index, AreEnds, values, IsLeastOf}
 use Rattle.pcl_check.proofs.Values.{length_values, value_in, values_joined, values_rest, no_values}
 
--- the last place that a step over at most so many places leads to
+-- the last place that a step over at most this many places leads to
 abbrev pub last_of : List ℕ → ℕ → ℕ → ℕ
 last_of ends most place = min (slice_index ends place) (place + most)
 

@@ -39,7 +39,7 @@ pub record IsShapeElement (method : Method) (old wanted : List ℕ) (shape : Sha
   pub stop_is : stop (element_of shape wanted) ≡ shape_stop shape
   pub bytes_are : cost (element_of shape wanted) ≡ bytes
 
--- some element that agrees, which stops at a place and has no more than so many bytes
+-- some element that agrees, which stops at a place and has no more than this many bytes
 abbrev pub HasShapeElement : Method → List ℕ → List ℕ → ℕ → ℕ → Type 0
 HasShapeElement method old wanted stops most =
     (shape : Shape) × (bytes : ℕ) × IsShapeElement method old wanted shape bytes × (shape_stop shape ≡ stops) × (bytes ≤ most)

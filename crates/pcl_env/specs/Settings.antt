@@ -101,7 +101,7 @@ nothing_asked = record {
   paper_source = None;
 }
 
--- The last value of each asking counts, with this line spacing. A page length is so many lines; paper source 0 ejects the page and leaves
+-- The last value of each asking counts, with this line spacing. A page length is this many lines; paper source 0 ejects the page and leaves
 -- the source as it is; a side of the sheet is asked of the next page alone (pcl_page).
 abbrev pub asked_with : Asking → ℤ → ℕ → Asked → Asked
 asked_with Sides value vmi asked = record asked { sides = Some value }

@@ -4,7 +4,7 @@ use Rattle.pcl_escape.proofs.Names.{cases_Bool, nat_tests, Name, Kind, Value, Op
 use Rattle.pcl_base.specs.Operation.{operation_of}
 use Rattle.pcl_escape.specs.Checks.{parameter_checks}
 
--- the checks took so many of the bytes that are left; of any that are enough they take as many
+-- the checks took this many of the bytes that are left; of any that are enough they take as many
 pub record Take (checks : ℕ → Result ℕ Kind) (left len : ℕ) : Type 0 where
   pub fits : len ≤ left
   pub again : (more : ℕ) → len ≤ more → checks more ≡ Ok len

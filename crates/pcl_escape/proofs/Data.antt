@@ -2,7 +2,7 @@
 use Rattle.std.proofs.Common.{◌≡◌, ℕ, zero, suc, ℤ, pos, nat_abs, int_lt, ◌<◌, ◌≢◌, true, false, ◌&&◌, nat_lt, if◌then◌else◌, Option, Some, Result, Ok, Err, refl, sym, ap, ◌∙◌}
 use Rattle.pcl_escape.proofs.Names.{ne_eqb, to_z-of_z, w32, cast_signed, cast_unsigned, mag, Kind, Truncated, BadSequence, Operation, Sign, Minus, Value, takes_data, with_sign, signed_whole, whole_of, is_minus, is_below_zero, goes_on, operation_checks}
 
--- the value counts so many bytes
+-- the value counts this many bytes
 pub record Counts (value : Value) (n : ℕ) : Type 0 where
   pub not_below : is_below_zero value ≡ false
   pub whole : whole_of value ≡ n

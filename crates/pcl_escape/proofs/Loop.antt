@@ -4,7 +4,7 @@ use Rattle.pcl_escape.proofs.Names.{Refusal, Prefix, Said, Reads, step_at, comma
 use Rattle.pcl_escape.specs.inner.Scan.{outcome}
 use Rattle.pcl_escape.proofs.Again.{with_fronts, GoesOn, step_shorter, all_at, one_step}
 
--- what was read before, and what is still read of the rest of so many bytes
+-- what was read before, and what is still read of the rest of this many bytes
 abbrev pub so_far : List Said → ℕ → Option Prefix → List ℕ → Result (List Said) Refusal
 so_far front total inside rest = with_front front (all_at inside (total - length rest) rest)
 

@@ -11,7 +11,7 @@ const SHIFT_IN: u8 = 15;
 /// The secondary font is in use from here on.
 const SHIFT_OUT: u8 = 14;
 
-/// What the printer has been told: where its cursor is, and which fonts are selected.
+/// What the printer holds: where its cursor is, and which fonts are selected.
 #[derive(Clone, Copy)]
 pub struct Pen {
     /// The dot of the cursor.

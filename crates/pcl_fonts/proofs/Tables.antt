@@ -7,7 +7,7 @@ use Rattle.pcl_fonts.specs.declared.fonts.FontControl.TheVariants as controls
 abbrev pub Entries : Type 0
 Entries = List (ℕ × Entry)
 
--- the table of some entries after so many deletions of temporary fonts
+-- the table of some entries after this many deletions of temporary fonts
 abbrev pub view : ℕ → Entries → FontTable
 view deletions es = map (λ e. (e.0, stored_in e.1)) (filter (λ e. is_there deletions e.1) es)
 

@@ -36,7 +36,7 @@ impl<'a> CharacterWriter<'a> {
     }
 
     /// Appends the next page, which has these rules, and of which this is a text without letters: that text, or one with letters and
-    /// rules where it takes fewer bytes. The printer has been told this of rectangles; says what it has been told then.
+    /// rules where it takes fewer bytes. The printer holds this size of rectangles; gives the one that it holds then.
     pub fn append_page(
         &mut self,
         page: &Page,

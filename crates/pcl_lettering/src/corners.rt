@@ -6,14 +6,14 @@ ghost use Rattle.pcl_bitmap.specs.Bitmap.{IsPicture};
 use pcl_bitmap::{Bitmap, Page};
 use std::alloc::{AllocError, Global};
 
-/// A raster starts further right than the page where that leaves out so many bytes of each row: fewer are in the first byte of data of
+/// A raster starts further right than the page where that leaves out this many bytes of each row: fewer are in the first byte of data of
 /// method 3 anyway.
 const LEAST_LEFT: usize = 16;
 
 /// Rasters of pages with more dots per inch start at the corner of the page: to move their dots, three of them would be held at once.
 const MOST_DOTS: u32 = 300;
 
-/// A place on a page where a raster starts: so many bytes of dots from the left, and so many rows from the top.
+/// A place on a page where a raster starts: this many bytes of dots from the left, and this many rows from the top.
 #[derive(Clone, Copy)]
 pub struct Corner {
     pub left: usize,

@@ -111,7 +111,7 @@ pub struct PageWriter<'a> {
     /// How many pages came.
     page: u32,
     letters: LetterWriter<'a>,
-    /// What the printer has been told of rectangles.
+    /// The size of rectangles that the printer holds.
     pen: RulePen,
 }
 

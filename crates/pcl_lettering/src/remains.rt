@@ -13,7 +13,7 @@ use pcl_shapes::{Rule, erase_rules};
 use pcl_writer::write_page;
 use std::alloc::{AllocError, Global};
 
-/// So many rows of a page are without their letters at a time.
+/// This many rows of a page are without their letters at a time.
 const BAND_ROWS: u32 = 512;
 
 /// The form feed that ends a page.
@@ -55,7 +55,7 @@ impl<'a> Taken<'a> {
 #[derive(Drop)]
 pub struct Rest {
     pub text: Vec<u8>,
-    /// What the printer has been told of rectangles after it.
+    /// The size of rectangles that the printer holds after it.
     pub pen: RulePen,
     /// Whether a raster with its rules is surely longer.
     is_sure: bool,
@@ -73,7 +73,7 @@ impl Rest {
 }
 
 /// The shortest rest of a page that was found: with all rules as rectangles, with those alone that share their rows with few, or with
-/// none. The printer has been told this of rectangles before it.
+/// none. The printer holds this size of rectangles before it.
 pub fn shortest_rest(
     alloc: Global,
     taken: Taken<'_>,
@@ -172,7 +172,7 @@ fn paint_without(
     Ok(())
 }
 
-/// Makes the dots of some letters white in a band of a page, rows of so many bytes from row `top` on.
+/// Makes the dots of some letters white in a band of a page, rows of this many bytes from row `top` on.
 fn whiten(bytes: &mut [u8], row_bytes: usize, top: u32, taken: Taken<'_>) {
     let end = top.saturating_add(BAND_ROWS);
     for letter in taken.letters {

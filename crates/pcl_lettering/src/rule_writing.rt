@@ -11,7 +11,7 @@ pub const FIRST_ID: u32 = 32_767;
 /// About how many bytes a rectangle takes.
 const RECTANGLE_BYTES: u32 = 14;
 
-/// What the printer has been told of rectangles: how wide and how high the next one is, in dots.
+/// The size of the next rectangle that the printer holds, in dots.
 #[derive(Clone, Copy)]
 pub struct RulePen {
     width: u32,

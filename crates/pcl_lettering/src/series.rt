@@ -13,7 +13,7 @@ const START_BYTES: usize = 3;
 /// About how many bytes a run saves: a move and a rectangle are eleven, a run two.
 const SAVED_BYTES: usize = 9;
 
-/// So many rules after one are looked at for the second of its series. Lines whose distance is no whole number of dots are two or three
+/// This many rules after one are looked at for the second of its series. Lines whose distance is no whole number of dots are two or three
 /// series in one another.
 const AHEAD: usize = 8;
 

@@ -101,7 +101,7 @@ fn append_raster(
     append_rows(alloc, pattern, out)
 }
 
-/// Appends the advance of a glyph of so many rows. The end of its raster puts the cursor at its left edge, on the row below it.
+/// Appends the advance of a glyph of this many rows. The end of its raster puts the cursor at its left edge, on the row below it.
 fn append_advance(
     layout: &MacroLayout,
     glyph: u32,
@@ -124,7 +124,7 @@ fn append_advance(
     }
 }
 
-/// A number of dots with a sign. No page has so many that they have none.
+/// A number of dots with a sign; each place on a page has one.
 fn signed(dots: u32) -> i32 {
     i32::try_from(dots).unwrap_or(0)
 }
@@ -139,7 +139,7 @@ fn append_next(macros: &Macros, mark: Mark, out: &mut Vec<u8>) -> Result<(), All
     }
 }
 
-/// Appends a move of the cursor by so many dots to the right and down.
+/// Appends a move of the cursor by this many dots to the right and down.
 fn append_way(right: i32, down: i32, out: &mut Vec<u8>) -> Result<(), AllocError> {
     if down == 0 {
         return append_move(right, out);

@@ -232,7 +232,7 @@ fn append_gap(macros: &Macros, mark: Mark, out: &mut Vec<u8>) -> Result<(), Allo
     }
 }
 
-/// Appends a move of the cursor along the line by so many dots.
+/// Appends a move of the cursor along the line by this many dots.
 pub fn append_move(dots: i32, out: &mut Vec<u8>) -> Result<(), AllocError> {
     if dots == 0 {
         return Ok(());

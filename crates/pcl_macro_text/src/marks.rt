@@ -9,7 +9,7 @@ use std::alloc::{AllocError, Global};
 pub enum Mark {
     /// The glyph of this number. Then the cursor advances.
     Glyph(u32),
-    /// Nothing: the cursor moves so many dots to the right, or to the left below 0.
+    /// Nothing: the cursor moves this many dots to the right, or to the left below 0.
     Gap(i32),
     /// The marks of the phrase of this number.
     Phrase(u32),

@@ -309,7 +309,7 @@ fn add_changes(pairs: &[Pair], fit: &Fit, side: Side, sums: &mut [i64], counts: 
     }
 }
 
-/// Each number with the mean of so many changes added to it, of which these are the sums.
+/// Each number with the mean of this many changes added to it, of which these are the sums.
 fn with_means(
     alloc: Global,
     old: &[i64],

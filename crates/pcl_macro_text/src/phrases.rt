@@ -9,7 +9,7 @@ use std::alloc::{AllocError, Global};
 /// How often two marks in turn are joined, in rounds: a phrase of the last one may have sixteen marks.
 const ROUNDS: u32 = 4;
 
-/// Two marks in turn that would save so many bytes are a phrase: its macro takes some 37 bytes, and longer phrases take uses from it.
+/// Two marks in turn that would save this many bytes are a phrase: its macro takes some 37 bytes, and longer phrases take uses from it.
 const LEAST_SAVED: u32 = 48;
 
 /// About how many bytes it takes to run a macro.

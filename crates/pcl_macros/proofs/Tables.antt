@@ -5,7 +5,7 @@ use Rattle.pcl_macros.proofs.Names.{eqb-true, eq-eqb, nat_tests, lookup-map_valu
 abbrev pub Entries : Type 0
 Entries = List (ℕ × Body)
 
--- the table of some entries after so many deletions of temporary macros
+-- the table of some entries after this many deletions of temporary macros
 abbrev pub view : ℕ → Entries → Option Begun → MacroTable
 view deletions es begun = record { bodies = map (λ e. (e.0, macro_in e.1)) (filter (λ e. is_there deletions e.1) es); begun = begun }
 

@@ -48,7 +48,7 @@ ended_there : (dpi : Dpi) (end : ℕ) {pages : List Sheet} {n : ℕ} → length 
     → after_end dpi end (closed pages n) ≡ done (at_end dpi (closed pages n))
 ended_there dpi end {pages} {n} few = rw (pages_fit (at_end dpi (closed pages n)) few) refl
 
--- the job is accepted with these pages, asks for what its texts say, and is read as so many commands
+-- the job is accepted with these pages, asks for what its texts say, and is read as this many commands
 pub record IsAccepted (dpi : Dpi) (job : List ℕ) (pages : List Sheet) (count : ℕ) : Type 0 where
   pub meaning : HasPages dpi job pages
   pub asks : HasAsks dpi job (said_for pages)
@@ -166,7 +166,7 @@ job_fits {dpi} {job} h =
 
 -- ---- a job that is written again
 
--- no job has so many commands that one may not be written with them
+-- how many commands a job that is written again has at most
 few_commands : (dpi : Dpi) (sheets : List Sheet) → most_commands dpi sheets ≤ 25210 * length sheets + 2
 few_commands dpi [] = omega arith
 few_commands dpi (sheet ∷ sheets) = omega (arith, few_commands dpi sheets, height_small sheet.size dpi)

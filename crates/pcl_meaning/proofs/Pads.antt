@@ -6,7 +6,7 @@ use Rattle.pcl_meaning.proofs.Names.{slice_index, nat_tests, pow-suc, div-div-eq
 abbrev AreClear : ℕ → ℕ → Type 0
 AreClear n byte = (k : ℕ) → n ≤ k → k < 8 → bit_of_byte byte k ≡ false
 
--- the bit that so many units stand for
+-- the bit that this many units stand for
 bit_clear : (byte unit : ℕ) → (byte / unit % 2 == 1) ≡ false → byte / unit % 2 ≡ 0
 bit_clear byte unit e = grind (arith, nat_tests)
 

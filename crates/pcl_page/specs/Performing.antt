@@ -72,7 +72,7 @@ step dpi runs place command s =
 abbrev pub commands_left : List Said → Run → List Said
 commands_left all run = take (run.end - run.next) (drop run.next all)
 
--- A macro that a command runs, with so many levels left: its commands in order, each with one level less, and then its end.
+-- A macro that a command runs, with this many levels left: its commands in order, each with one level less, and then its end.
 -- Where no level is left the command is refused.
 abbrev pub runs : ℕ → Dpi → List Said → Said → Run → Situation → Performance
 runs zero dpi all command run s = stopped MacroDepth command s

@@ -171,7 +171,7 @@ fn fineness(dpi: Dpi) -> u32
     }
 }
 
-/// The dot that lies so many bits of a pattern right of a dot.
+/// The dot that lies this many bits of a pattern right of a dot.
 fn right_of(dot: u32, bits: i16, dpi: Dpi) -> i32
     requires { dot < 2 ^ 30 }
     ensures { result ≡ pos dot +ℤ bits *ℤ pos (fineness dpi) }
@@ -179,7 +179,7 @@ fn right_of(dot: u32, bits: i16, dpi: Dpi) -> i32
     dot as i32 + spread(bits, dpi)
 }
 
-/// The dot that lies so many bits of a pattern above a dot.
+/// The dot that lies this many bits of a pattern above a dot.
 fn above(dot: u32, bits: i16, dpi: Dpi) -> i32
     requires { dot < 2 ^ 30 }
     ensures { result ≡ pos dot -ℤ bits *ℤ pos (fineness dpi) }
@@ -187,7 +187,7 @@ fn above(dot: u32, bits: i16, dpi: Dpi) -> i32
     dot as i32 - spread(bits, dpi)
 }
 
-/// How many dots so many bits of a pattern are.
+/// How many dots some bits of a pattern are.
 fn spread(bits: i16, dpi: Dpi) -> i32
     ensures value { result ≡ bits *ℤ pos (fineness dpi) }
     ensures small { (negsuc 65535 ≤ℤ result) × (result ≤ℤ pos 65535) }

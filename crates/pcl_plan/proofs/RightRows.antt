@@ -4,7 +4,7 @@ use Rattle.pcl_plan.proofs.Names.{cases_Bool, Method, Plain, method, AreWhite, N
 
 -- ---- nodes
 
--- what holds in each method, inside a sequence and outside, holds of all nodes after so many rows
+-- what holds in each method, inside a sequence and outside, holds of all nodes after this many rows
 pub at_row : (P : Node → Type 0) (row : ℕ) → ((current : Method) (is_open : Bool) → P (node row current is_open)) → (a : Node) → a.row
     ≡ row → P a
 at_row P row h a e = subst (λ (r : ℕ). P (node r a.method a.inside)) (sym e) (h a.method a.inside)

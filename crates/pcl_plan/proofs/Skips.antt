@@ -3,7 +3,7 @@ use Rattle.std.proofs.Common.{◌≡◌, ℕ, ◌+◌, ◌-◌, ◌^◌, ◌<◌
 use Rattle.pcl_plan.proofs.Names.{cases_lt, Method, RowNumbers, node_number, skipping, IsLeastSkip, IsReadable, count_le, count_above}
 use Rattle.pcl_plan.specs.declared.fill.Skip.{Skip}
 
--- a skip of some of so many rows
+-- a skip of some of this many rows
 pub record IsSkipOf (table : List RowNumbers) (row : ℕ) (method : Method) (run : ℕ) (skip : Skip) : Type 0 where
   pub some : 0 < skip.count
   pub within : skip.count ≤ run
@@ -23,7 +23,7 @@ better_is {one} {other} first second a b =
       | inr more ↦ rw (first more) (a, omega arith, omega arith)
     ]
 
--- more rows are as good, where they need no more digits: so are the most of so many digits
+-- more rows are as good, where they need no more digits: so are the most of this many digits
 most_of : {table : List RowNumbers} {row : ℕ} (method : Method) {run : ℕ} (count k : ℕ) → IsReadable table row run → 0 < count → count ≤ run
     → 10 ^ k ≤ count → count < 10 ^ (k + 1) → 10 ^ (k + 1) < 2 ^ 64
     → skipping (node_number table) row method (min run (10 ^ (k + 1) - 1)) ≤ skipping (node_number table) row method count

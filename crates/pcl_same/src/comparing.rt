@@ -50,7 +50,7 @@ fn conclude(pages: Option<PagesDifference>, first: &Asks<'_>, second: &Asks<'_>)
     }
 }
 
-/// How so many pages differ from others, by what was found of each of these.
+/// How a number of pages differ from others, by what was found of each of these.
 fn pages_difference(count: usize, found: &[Option<Difference>]) -> Option<PagesDifference>
     ensures { IsConcluded count found.now result }
 {

@@ -8,7 +8,7 @@ use crate::{AskedComparison, Comparison, Job, SameFault};
 use pcl_base::Dpi;
 use std::alloc::Global;
 
-/// Whether two jobs print the same pages at a resolution, and where not: a different number of pages is answered
+/// Whether two jobs print the same pages at a resolution, and where not: a different number of pages is reported
 /// first, else the first page that differs, and how. A refusal is the first job's, else the second's. While it runs
 /// one page is held as dots, and the first job's pages as row data.
 pub fn same(alloc: Global, first: &[u8], second: &[u8], dpi: Dpi) -> Result<Comparison, SameFault>
@@ -21,7 +21,7 @@ pub fn same(alloc: Global, first: &[u8], second: &[u8], dpi: Dpi) -> Result<Comp
 }
 
 /// Whether two jobs print the same pages at a resolution and ask the same of the printer besides dots, and where not: how the pages
-/// differ is answered first, as by `same`, else the first page that is asked with another value of a setting, else a different
+/// differ is reported first, as by `same`, else the first page that is asked with another value of a setting, else a different
 /// number of universal exits, else the first of these that differs, and how. Refusals and what is held are those of `same`.
 pub fn same_asked(
     alloc: Global,

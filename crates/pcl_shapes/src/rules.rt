@@ -15,7 +15,7 @@ use std::alloc::{AllocError, Global};
 /// How many rules of a page are found, at most.
 pub const RULE_LIMIT: usize = 512;
 
-/// A rule is so many times as long as it is thick, at least: the stems of large letters are thicker.
+/// A rule is this many times as long as it is thick, at least: the stems of large letters are thicker.
 const SLENDERNESS: u32 = 12;
 
 /// How many of the dots beside a rule may be black, as what touches or crosses it is: one of this many.

@@ -31,7 +31,7 @@ pub fn append_upright_rules(
     Ok(())
 }
 
-/// Goes over the rows of a page in stacks of so many.
+/// Goes over the rows of a page in stacks of this many.
 #[derive(Drop)]
 struct UprightFinder<'a> {
     bitmap: &'a Bitmap,
@@ -43,7 +43,7 @@ struct UprightFinder<'a> {
 }
 
 impl<'a> UprightFinder<'a> {
-    /// Goes on to the stack of so many rows from `top` on, the next one, and appends the rules through it that aren't there.
+    /// Goes on to the stack of this many rows from `top` on, the next one, and appends the rules through it that aren't there.
     fn step(&mut self, top: u32, rows: u32, rules: &mut Vec<Rule>) -> Result<(), AllocError> {
         swap(&mut self.above, &mut self.edges);
         self.edges.clear();
@@ -67,7 +67,7 @@ impl<'a> UprightFinder<'a> {
         Ok(())
     }
 
-    /// Finds the dots that are black in all of so many rows from `top` on, and says whether there are any.
+    /// Finds the dots that are black in all of this many rows from `top` on, and says whether there are any.
     fn find_common(&mut self, top: u32, rows: u32) -> Result<bool, AllocError> {
         self.common.clear();
         self.common.extend_from_slice(row_at(self.bitmap, top))?;

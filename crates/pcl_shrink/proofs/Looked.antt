@@ -1,4 +1,4 @@
--- What is answered of a candidate beside a job.
+-- What is found of a candidate beside a job.
 use Rattle.std.proofs.Common.{◌≡◌, ◌≢◌, ℕ, List, Bool, true, false, Decides, Option, Some, None, Result, Ok, Err, refl, subst}
 use Rattle.pcl_shrink.proofs.Names.{false≢true, Dpi, JobFault, Refusal, IsRefusal, AskedComparison, Same, Second, SameFault, IsAskedComparison, IsComparedAsked, IsComparedBeside, IsSameAt, SaysIfSame, SaysIfSameAt}
 use Rattle.pcl_base.specs.declared.fault.JobFault.TheVariants as faults

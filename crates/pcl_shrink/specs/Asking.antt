@@ -14,7 +14,7 @@ use Rattle.pcl_output.specs.Tokens.{frame_bytes}
 abbrev pub exit_bytes : List ℕ
 exit_bytes = 27 ∷ codes "%-12345X"
 
--- an exit with its lines, where it stands after so many pages
+-- an exit with its lines, where it stands after this many pages
 abbrev pub exit_text : ℕ → Exit → List ℕ
 exit_text number exit = if exit.pages == number then exit_bytes ++ exit.lines else []
 
@@ -106,7 +106,7 @@ page_start asks number =
     exits_after number asks.exits ++ reset_text asks number ++ asked_text (asked_before asks number) (asked_at asks number).said
     ++ side_text (asked_at asks number).start.sheet_side
 
--- what stands after the last of so many pages
+-- what stands after the last of this many pages
 abbrev pub job_end : Asks → ℕ → List ℕ
 job_end asks zero = exits_after 0 asks.exits ++ frame_bytes ++ frame_bytes
 job_end asks (suc before) = frame_bytes ++ exits_after (suc before) asks.exits

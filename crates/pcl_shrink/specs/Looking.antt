@@ -1,4 +1,4 @@
--- What is answered of a candidate beside a job.
+-- What is found of a candidate beside a job.
 use Rattle.std.specs.Prelude.{ℕ, List, Bool, true, false, Option, Some, None}
 use Rattle.pcl_base.specs.declared.dpi.Dpi.{Dpi}
 use Rattle.pcl_same.specs.declared.comparison.AskedComparison.TheVariants.{Same}

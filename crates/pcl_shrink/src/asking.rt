@@ -58,7 +58,7 @@ pub fn append_page_start(
     Ok(is_reset)
 }
 
-/// Appends what stands after the last of so many pages: a reset, and the universal exits there.
+/// Appends what stands after the last of this many pages: a reset, and the universal exits there.
 pub fn append_end(asks: &Asks<'_>, pages: usize, out: &mut Vec<u8>) -> Result<(), AllocError>
     ensures { OnOk result (out.new.items ≡ out.old.items ++ job_end (asks_of asks.now) pages) }
 {
@@ -95,7 +95,7 @@ fn asked_already(asks: &Asks<'_>, page: usize, is_reset: bool) -> Asked
     asked_at(asks, page.saturating_sub(1)).said
 }
 
-/// Appends the universal exits that stand after so many pages, and says whether there is one.
+/// Appends the universal exits that stand after this many pages, and says whether there is one.
 fn append_exits(asks: &Asks<'_>, pages: usize, out: &mut Vec<u8>) -> Result<bool, AllocError>
     ensures text { OnOk result (out.new.items ≡ out.old.items ++ exits_after pages (asks_of asks.now).exits) }
     ensures found { IfOk result (λ found. found ≡ is_exit_after pages (asks_of asks.now).exits) }

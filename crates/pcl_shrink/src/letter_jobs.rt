@@ -66,7 +66,7 @@ struct LetterWriter<'a, 'b> {
     has_letters: bool,
     /// What is written, with the stretch after the letters.
     out: Vec<u8>,
-    /// With so many bytes what is written is too long.
+    /// With this many bytes what is written is too long.
     limit: usize,
     /// Whether it is: then nothing of it is left, and no more is written.
     is_too_long: bool,

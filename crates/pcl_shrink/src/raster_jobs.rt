@@ -40,8 +40,8 @@ pub fn asked_len(alloc: Global, asks: &Asks<'_>, texts: &[Text]) -> Result<usize
     Ok(len.saturating_add(around.len()))
 }
 
-/// The same as `asked_job` with any texts of the pages, each of which is dropped once it is appended: none where that has so many bytes or
-/// more, of which no more than these are made.
+/// The same as `asked_job` with any texts of the pages, each of which is dropped once it is appended: none where that has this many
+/// bytes or more, of which no more than these are made.
 pub fn plain_job(
     alloc: Global,
     asks: &Asks<'_>,

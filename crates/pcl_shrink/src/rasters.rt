@@ -85,7 +85,7 @@ pub fn page_text(alloc: Global, page: &Page) -> Result<Text, AllocError>
     Ok(Text { least, coarse })
 }
 
-/// The shortest text with a raster of a coarser resolution that the page has: none where none is shorter than so many bytes.
+/// The shortest text with a raster of a coarser resolution that the page has: none where none is shorter than this many bytes.
 fn shortest_coarse(
     alloc: Global,
     page: &Page,
@@ -126,7 +126,7 @@ fn least_text(alloc: Global, page: &Page) -> Result<Vec<u8>, AllocError>
     Ok(text)
 }
 
-/// The text of a page with a raster whose dots stand for squares of so many dots.
+/// The text of a page with a raster whose dots stand for squares of this many dots.
 fn coarse_text(alloc: Global, page: &Page, side: u32) -> Result<Vec<u8>, AllocError> {
     let side = side.max(1);
     let least = least_text(alloc, &coarse_page(alloc, page, side)?)?;

@@ -81,8 +81,8 @@ fn shrink_at(
     Ok(best_or_input(alloc, job, best, pages)?)
 }
 
-/// The best of the job, of what is proposed for it, and of the least page texts with what the job asks for around them, which have so many
-/// bytes at least: none where it is the job. Pages are kept only where something is compared, once what proposes has gone.
+/// The best of the job, of what is proposed for it, and of the least page texts with what the job asks for around them, which have this
+/// many bytes at least: none where it is the job. Pages are kept only where something is compared, once what proposes has gone.
 fn best_of(
     alloc: Global,
     job: &[u8],
@@ -120,7 +120,7 @@ fn looked_at(
     }
 }
 
-/// The best job so far where it has no more than so many bytes, which is what the least page texts take with what the job asks for
+/// The best job so far where it has no more than this many bytes, which is what the least page texts take with what the job asks for
 /// around them. Else a proposal wasn't what it was to be: then it is compared with these.
 fn within(
     alloc: Global,
@@ -179,7 +179,7 @@ fn best_len(job: &[u8], best: &Option<Proposal>) -> usize
     }
 }
 
-/// The best job that was found, or else the job as it came, of so many pages.
+/// The best job that was found, or else the job as it came, of this many pages.
 fn best_or_input(
     alloc: Global,
     job: &[u8],

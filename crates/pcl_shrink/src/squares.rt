@@ -58,7 +58,7 @@ fn greatest_divisor(one: u32, other: u32) -> u32 {
     1
 }
 
-/// A page at 300 dots per inch with a dot for each square of so many dots of this one, in its upper left corner. Squares are cut by the
+/// A page at 300 dots per inch with a dot for each square of this many dots of this one, in its upper left corner. Squares are cut by the
 /// right and the lower edge, and are two dots wide at least, so they have room there.
 pub fn coarse_page(alloc: Global, page: &Page, side: u32) -> Result<Page, AllocError> {
     let dpi = Dpi::Dpi300;
@@ -90,7 +90,7 @@ fn paint_squares(fine: &Bitmap, side: u32, coarse: &mut Bitmap)
     }
 }
 
-/// Writes a bit for each so many dots of a row, as far as it goes.
+/// Writes a bit for each group of this many dots of a row, as far as it goes.
 fn coarsen(row: &[u8], side: u32, dots: &mut [u8])
     ensures { length dots.new ≡ length dots.old }
 {
@@ -99,7 +99,7 @@ fn coarsen(row: &[u8], side: u32, dots: &mut [u8])
     }
 }
 
-/// The bits for eight times so many dots, which stand in so many bytes.
+/// The bits for eight times this many dots, which stand in this many bytes.
 fn coarse_byte(fine: &[u8], side: u32) -> u8 {
     if fine.iter().all(|byte| *byte == 0) {
         return 0;

@@ -52,7 +52,7 @@ module _ (dpi : Dpi) where
 
   -- ---- as many pages as proofs
 
-  -- what is found of pages of which so many have come before
+  -- what is found of pages of which this many have come before
   abbrev pub IsOutcome : List Sheet → List ℕ → List PageProof → ℕ → JobVerdict → Type 0
   IsOutcome sheets texts proofs taken job.Proved = AreProved dpi sheets texts proofs
   IsOutcome sheets texts proofs taken (job.Page place verdict) =

@@ -1,8 +1,8 @@
--- Where a text is answered Proved for one page, it is for each page that shows the same sheet.
+-- Where a text is found Proved for one page, it is for each page that shows the same sheet.
 use Rattle.std.proofs.Common.{◌≡◌, ℕ, ◌+◌, ◌*◌, ◌<◌, ◌≤◌, Bool, List, Some, None, length, refl}
 use Rattle.pcl_tool.proofs.Names.{Method, page_height, page_row_bytes, Page, fixed_bytes, row_at, row_above, start, IsPageText, bitmap_rows, node_number, RowNumbers, IsGoodNumber, IsLeastOfRow, IsGoodPlace, Verdict, NotGrammar, OtherPage, Rows, Place, Edge, Length, Proved, list_of, number_at_place, table_of, Tables, IsVerdict, AreSame, moved}
 
--- a text that is answered Proved for one is for the other
+-- a text that is found Proved for one is for the other
 proved_again : {page other : Page} {text : List ℕ} (table : List RowNumbers) (tables : Tables) → AreSame page other
     → IsVerdict page text table tables Proved → IsVerdict other text table tables Proved
 proved_again {text} table None same p =
@@ -20,7 +20,7 @@ proved_again {text} table (Some lists) same p =
     → IsGoodNumber (bitmap_rows bitmap) (λ r m bytes. bytes ≡ number_at_place lists r m 0) (node_number table) row method inside)
     × (length text ≡ fixed_bytes dpi size copies + node_number table start)) same p
 
--- and nothing else is answered
+-- and nothing else is found
 pub verdict_again : {page other : Page} {text : List ℕ} (table : List RowNumbers) (tables : Tables) (verdict : Verdict) → AreSame page other
     → IsVerdict page text table tables Proved → IsVerdict other text table tables verdict → verdict ≡ Proved
 verdict_again {other} table tables NotGrammar same p v =

@@ -31,7 +31,7 @@ impl Env {
         Ok(Effect::Stay)
     }
 
-    /// Sets the bottom margin, so many lines below the top margin ("Text Length").
+    /// Sets the bottom margin, this many lines below the top margin ("Text Length").
     #[tactic(auto, unfolding(crate::specs::Outcome::outcome))]
     pub fn set_text_length(&mut self, value: Value) -> Result<Effect, Unsupported>
         ensures { Answers (outcome Dpi300 TextLength value false self.old) result self.old self.new }

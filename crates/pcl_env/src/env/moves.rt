@@ -62,7 +62,7 @@ impl Env {
         Ok(Effect::Stay)
     }
 
-    /// Moves the cursor along the line by so many units, to the left where they are below 0.
+    /// Moves the cursor along the line by this many units, to the left where they are below 0.
     pub fn advance(&mut self, units: i64)
         ensures { self.new ≡ advance units self.old }
     {

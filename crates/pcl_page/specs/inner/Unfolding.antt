@@ -50,7 +50,7 @@ HasLevel (Some run) running = length running < macro_limit
 abbrev pub Enters : Option Run → List Running → List Running → Type 0
 Enters run old new = (new ≡ old ++ entered run) × HasLevel run old
 
--- what a macro that runs has left, with so many levels below it
+-- what a macro that runs has left, with this many levels below it
 abbrev pub rest_of : ℕ → Dpi → List Said → Run → Situation → Performance
 rest_of levels dpi all run s =
     then_on (in_order (step dpi (runs levels dpi all)) run.next (commands_left all run) s) (λ later. done (macro_ended dpi run.saved later))

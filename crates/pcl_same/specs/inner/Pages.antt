@@ -74,7 +74,7 @@ pub record IsFirstFound (found : List (Option Difference)) (number : ℕ) (diffe
   pub alike_before : AllByRecursion IsAlike before
   pub counted : number ≡ length before + 1
 
--- how so many pages differ from others, by what was found of each of these
+-- how a number of pages differ from others, by what was found of each of these
 abbrev pub IsConcluded : ℕ → List (Option Difference) → Option PagesDifference → Type 0
 IsConcluded count found None = (length found ≡ count) × AllByRecursion IsAlike found
 IsConcluded count found (Some (pages.Count first second)) = (first ≡ count) × (second ≡ length found) × (first ≢ second)

@@ -228,7 +228,7 @@ fn each_write_of_the_certificate_fails(rt: HostRuntime) -> Result<(), AllocError
     Ok(())
 }
 
-/// Limits for a certificate of four bytes, what is answered, and what the writers of the job and of the certificate then hold, each with
+/// Limits for a certificate of four bytes, the verdict, and what the writers of the job and of the certificate then hold, each with
 /// how often it was flushed.
 const LIMITS: [(usize, Result<(), Fault>, (&[u8], usize), (&[u8], usize)); 2] = [
     (4, Ok(()), (b"a job", 1), (b"four", 1)),
