@@ -1,7 +1,7 @@
 //! Sending fonts (PCL 5 manual, "Soft Font Creation").
 
 use crate::codes::{blank_code, font_id};
-use crate::layout::Layout;
+use crate::layout::FontLayout;
 use crate::spacing::Character;
 use pcl_patterns::{Letters, Pattern, append_labelled, append_word};
 use std::alloc::AllocError;
@@ -31,7 +31,7 @@ struct Sent<'a> {
 }
 
 /// Appends all fonts with their characters.
-pub fn append_fonts(layout: &Layout, out: &mut Vec<u8>) -> Result<(), AllocError> {
+pub fn append_fonts(layout: &FontLayout, out: &mut Vec<u8>) -> Result<(), AllocError> {
     let mut font = None;
     for (rank, character) in layout.spacing.characters.keys().enumerate() {
         font = append_ranked(layout, rank, *character, font, out)?;
@@ -45,7 +45,7 @@ pub fn append_fonts(layout: &Layout, out: &mut Vec<u8>) -> Result<(), AllocError
 /// Appends the character of this rank, after its font if that isn't the one before, and says which font it is of; none where no code is
 /// left.
 fn append_ranked(
-    layout: &Layout,
+    layout: &FontLayout,
     rank: usize,
     character: Character,
     before: Option<usize>,
@@ -62,7 +62,11 @@ fn append_ranked(
 }
 
 /// The font of a character of this rank, and the character as it is sent; none where no code is left for it.
-fn sent_of_rank(layout: &Layout, rank: usize, character: Character) -> Option<(usize, Sent<'_>)> {
+fn sent_of_rank(
+    layout: &FontLayout,
+    rank: usize,
+    character: Character,
+) -> Option<(usize, Sent<'_>)> {
     let code = layout.spacing.code_of_rank(rank)?;
     let pattern = layout.pattern_of(character.glyph)?;
     let sent = Sent {
@@ -77,7 +81,7 @@ fn sent_of_rank(layout: &Layout, rank: usize, character: Character) -> Option<(u
 }
 
 /// Appends a font and its blanks.
-fn append_font(layout: &Layout, font: usize, out: &mut Vec<u8>) -> Result<(), AllocError> {
+fn append_font(layout: &FontLayout, font: usize, out: &mut Vec<u8>) -> Result<(), AllocError> {
     append_labelled(b"\x1b*c", font_id(font), out)?;
     append_labelled(b"D\x1b)s", HEADER_BYTES, out)?;
     out.extend_from_slice(b"W")?;
@@ -86,7 +90,7 @@ fn append_font(layout: &Layout, font: usize, out: &mut Vec<u8>) -> Result<(), Al
 }
 
 /// Appends the blanks of a font but the first, which is its pitch.
-fn append_blanks(layout: &Layout, out: &mut Vec<u8>) -> Result<(), AllocError> {
+fn append_blanks(layout: &FontLayout, out: &mut Vec<u8>) -> Result<(), AllocError> {
     for (number, gap) in layout.spacing.blanks.keys().enumerate().skip(1) {
         let sent = Sent {
             code: blank_code(number),
@@ -122,7 +126,7 @@ fn append_words(numbers: &[u32], out: &mut Vec<u8>) -> Result<(), AllocError> {
 }
 
 /// Appends the header of a proportional font.
-fn append_header(layout: &Layout, out: &mut Vec<u8>) -> Result<(), AllocError> {
+fn append_header(layout: &FontLayout, out: &mut Vec<u8>) -> Result<(), AllocError> {
     let cell = Cell::of(layout);
     append_word(HEADER_BYTES, out)?;
     // Format 0, type 1, and two bytes that aren't used.
@@ -135,7 +139,7 @@ fn append_header(layout: &Layout, out: &mut Vec<u8>) -> Result<(), AllocError> {
 }
 
 /// Appends the part of a header that says how its font looks. The pitch is the first blank.
-fn append_style(layout: &Layout, cell: Cell, out: &mut Vec<u8>) -> Result<(), AllocError> {
+fn append_style(layout: &FontLayout, cell: Cell, out: &mut Vec<u8>) -> Result<(), AllocError> {
     let pitch = layout.spacing.blanks.keys().next().copied().unwrap_or(1);
     let height = cell.height.saturating_mul(QUARTERS);
     let half_baseline = cell.baseline.saturating_mul(QUARTERS / 2);
@@ -161,7 +165,7 @@ struct Cell {
 
 impl Cell {
     /// The box that holds all characters of a job.
-    fn of(layout: &Layout) -> Cell {
+    fn of(layout: &FontLayout) -> Cell {
         let mut cell = Cell {
             width: 1,
             height: 1,

@@ -6,13 +6,13 @@ use std::alloc::{AllocError, Global};
 
 /// What of a job is printed as text.
 #[derive(Drop)]
-pub struct Layout {
+pub struct FontLayout {
     pub patterns: Patterns,
     pub letters: Letters,
     pub spacing: Spacing,
 }
 
-impl Layout {
+impl FontLayout {
     /// The pattern of a glyph.
     pub fn pattern_of(&self, glyph: u32) -> Option<Pattern<'_>> {
         self.letters.pattern_of(&self.patterns, glyph)
@@ -20,13 +20,17 @@ impl Layout {
 }
 
 /// The layout of these letters: those whose characters are sent.
-pub fn lay_out(alloc: Global, patterns: Patterns, letters: Letters) -> Result<Layout, AllocError> {
+pub fn lay_out(
+    alloc: Global,
+    patterns: Patterns,
+    letters: Letters,
+) -> Result<FontLayout, AllocError> {
     let mut letters = letters;
     let spacing = Spacing::new(alloc, &patterns, &letters)?;
     letters.letters.retain(|letter: &Letter| -> bool {
         spacing.character(letter.glyph, None).is_some()
     });
-    Ok(Layout {
+    Ok(FontLayout {
         patterns,
         letters,
         spacing,

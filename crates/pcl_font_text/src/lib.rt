@@ -9,6 +9,6 @@ mod permanence;
 mod spacing;
 
 pub use fonts::append_fonts;
-pub use layout::{Layout, lay_out};
+pub use layout::{FontLayout, lay_out};
 pub use pen::{Pen, append_text};
 pub use permanence::{append_deletion, append_permanent};

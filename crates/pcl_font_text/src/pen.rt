@@ -1,7 +1,7 @@
 //! The text of letters: codes, moves of the cursor, and changes of the font.
 
 use crate::codes::{blank_code, font_id};
-use crate::layout::Layout;
+use crate::layout::FontLayout;
 use pcl_patterns::{Letter, append_labelled, digit_count};
 use std::alloc::AllocError;
 
@@ -68,7 +68,7 @@ impl Pen {
 
 /// Appends the text of the letters of a page.
 pub fn append_text(
-    layout: &Layout,
+    layout: &FontLayout,
     letters: &[Letter],
     pen: Pen,
     out: &mut Vec<u8>,
@@ -83,7 +83,7 @@ pub fn append_text(
 
 /// Appends a letter, with what leads to it, so that the cursor advances to the next one where a character does so.
 fn append_letter(
-    layout: &Layout,
+    layout: &FontLayout,
     letter: &Letter,
     next: Option<&Letter>,
     pen: Pen,
@@ -104,7 +104,7 @@ fn append_letter(
 
 /// Appends what moves the cursor to a letter.
 fn append_move(
-    layout: &Layout,
+    layout: &FontLayout,
     letter: &Letter,
     pen: Pen,
     out: &mut Vec<u8>,
@@ -123,7 +123,7 @@ fn append_move(
 }
 
 /// Appends a blank of this many dots, or else a move.
-fn append_gap(layout: &Layout, gap: u32, out: &mut Vec<u8>) -> Result<(), AllocError> {
+fn append_gap(layout: &FontLayout, gap: u32, out: &mut Vec<u8>) -> Result<(), AllocError> {
     match layout.spacing.blanks.get_index_of(&gap) {
         Some(number) => {
             out.push(blank_code(number))?;

@@ -1,9 +1,9 @@
 //! Pages written as rasters and characters.
 
-use crate::remains::{FORM_FEED, Rest, Taken, shortest_rest};
+use crate::remains::{FORM_FEED, Taken, shortest_rest};
 use crate::rule_writing::{FIRST_ID, RulePen};
 use pcl_bitmap::Page;
-use pcl_font_text::{Layout, Pen, append_text};
+use pcl_font_text::{FontLayout, Pen, append_text};
 use pcl_patterns::Letter;
 use pcl_shapes::Rule;
 use std::alloc::AllocError;
@@ -11,7 +11,7 @@ use std::alloc::AllocError;
 /// Writes pages with letters as characters, one after the other.
 #[derive(Drop)]
 pub struct CharacterWriter<'a> {
-    layout: &'a Layout,
+    layout: &'a FontLayout,
     /// How many pages came.
     page: u32,
     /// How many letters these have.
@@ -21,7 +21,7 @@ pub struct CharacterWriter<'a> {
 
 impl<'a> CharacterWriter<'a> {
     /// At the first page.
-    pub fn new(layout: &'a Layout) -> CharacterWriter<'a> {
+    pub fn new(layout: &'a FontLayout) -> CharacterWriter<'a> {
         CharacterWriter {
             layout,
             page: 0,
@@ -60,26 +60,19 @@ impl<'a> CharacterWriter<'a> {
             out.extend_from_slice(plain)?;
             return Ok(pen);
         }
-        let alloc = *out.allocator();
-        let Rest {
-            mut text,
-            pen: rule_pen,
-            ..
-        } = shortest_rest(alloc, taken, page, pen)?;
-        let letter_pen = append_letters(layout, letters, page, self.pen, &mut text)?;
-        if text.len() >= plain.len() {
-            out.extend_from_slice(plain)?;
+        let mut rest = shortest_rest(*out.allocator(), taken, page, pen)?;
+        let letter_pen = append_letters(layout, letters, page, self.pen, &mut rest.text)?;
+        let Some(rule_pen) = rest.append_if_shorter(plain, out)? else {
             return Ok(pen);
-        }
+        };
         self.pen = letter_pen;
-        out.extend_from_slice(&text)?;
         Ok(rule_pen)
     }
 }
 
 /// Appends what of a page is printed as text, and the end of the page.
 fn append_letters(
-    layout: &Layout,
+    layout: &FontLayout,
     letters: &[Letter],
     page: &Page,
     pen: Pen,

@@ -4,7 +4,7 @@ use crate::character_writing::CharacterWriter;
 use crate::macro_writing::MacroWriter;
 use crate::rule_writing::RulePen;
 use pcl_bitmap::Page;
-use pcl_font_text::{Layout, append_fonts, lay_out};
+use pcl_font_text::{FontLayout, append_fonts, lay_out};
 use pcl_letters::{find_letters, join_shapes};
 use pcl_macro_text::{MacroLayout, append_definitions, append_settings, lay_out_macros};
 use pcl_patterns::{Form, Letters};
@@ -21,7 +21,7 @@ pub struct Lettering {
 /// The letters of a job: as characters of soft fonts, or as macros.
 #[derive(Drop)]
 enum Lettered {
-    Characters(Layout),
+    Characters(FontLayout),
     Macros(MacroLayout),
 }
 
@@ -97,7 +97,7 @@ impl Lettering {
 
 /// The letters of pages that were collected: none, at once, where these have no shapes.
 fn letters_of(alloc: Global, collection: &mut Collection) -> Result<Letters, AllocError> {
-    if collection.items.is_empty() {
+    if collection.placed.is_empty() {
         return Ok(Letters::new(alloc));
     }
     join_shapes(alloc, collection)?;
@@ -110,14 +110,14 @@ pub struct PageWriter<'a> {
     rules: &'a Rules,
     /// How many pages came.
     page: u32,
-    letters: LetterWriter<'a>,
+    letters: FormWriter<'a>,
     /// The size of rectangles that the printer holds.
     pen: RulePen,
 }
 
-/// Writes the letters of pages.
+/// Writes the letters of pages in their form.
 #[derive(Drop)]
-enum LetterWriter<'a> {
+enum FormWriter<'a> {
     Characters(CharacterWriter<'a>),
     Macros(MacroWriter<'a>),
 }
@@ -130,9 +130,9 @@ impl<'a> PageWriter<'a> {
             page: 0,
             letters: match &lettering.letters {
                 Lettered::Characters(layout) => {
-                    LetterWriter::Characters(CharacterWriter::new(layout))
+                    FormWriter::Characters(CharacterWriter::new(layout))
                 }
-                Lettered::Macros(layout) => LetterWriter::Macros(MacroWriter::new(layout)),
+                Lettered::Macros(layout) => FormWriter::Macros(MacroWriter::new(layout)),
             },
             pen: RulePen::new(),
         }
@@ -142,8 +142,8 @@ impl<'a> PageWriter<'a> {
     pub fn restart(&mut self) {
         self.pen = RulePen::new();
         match &mut self.letters {
-            LetterWriter::Characters(writer) => writer.restart(),
-            LetterWriter::Macros(writer) => writer.restart(),
+            FormWriter::Characters(writer) => writer.restart(),
+            FormWriter::Macros(writer) => writer.restart(),
         }
     }
 
@@ -158,12 +158,10 @@ impl<'a> PageWriter<'a> {
         let rules = self.rules.of_page(self.page);
         self.page = self.page.saturating_add(1);
         self.pen = match &mut self.letters {
-            LetterWriter::Characters(writer) => {
+            FormWriter::Characters(writer) => {
                 writer.append_page(page, plain, rules, self.pen, out)?
             }
-            LetterWriter::Macros(writer) => {
-                writer.append_page(page, plain, rules, self.pen, out)?
-            }
+            FormWriter::Macros(writer) => { writer.append_page(page, plain, rules, self.pen, out)? }
         };
         Ok(())
     }

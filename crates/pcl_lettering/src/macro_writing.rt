@@ -1,6 +1,6 @@
 //! Pages written as rasters and macros that are run.
 
-use crate::remains::{FORM_FEED, Rest, Taken, shortest_rest};
+use crate::remains::{FORM_FEED, Taken, shortest_rest};
 use crate::rule_writing::{FIRST_ID, RulePen};
 use pcl_bitmap::Page;
 use pcl_macro_text::{MacroLayout, append_lines};
@@ -73,20 +73,13 @@ impl<'a> MacroWriter<'a> {
             out.extend_from_slice(plain)?;
             return Ok(pen);
         }
-        let alloc = *out.allocator();
-        let Rest {
-            mut text,
-            pen: rule_pen,
-            ..
-        } = shortest_rest(alloc, taken, page, pen)?;
-        self.marks = append_lines(layout, lines, self.marks, &mut text)?;
-        text.push(FORM_FEED)?;
-        if text.len() >= plain.len() {
-            out.extend_from_slice(plain)?;
+        let mut rest = shortest_rest(*out.allocator(), taken, page, pen)?;
+        self.marks = append_lines(layout, lines, self.marks, &mut rest.text)?;
+        rest.text.push(FORM_FEED)?;
+        let Some(rule_pen) = rest.append_if_shorter(plain, out)? else {
             return Ok(pen);
-        }
+        };
         self.leaves_method = !lines.is_empty();
-        out.extend_from_slice(&text)?;
         Ok(rule_pen)
     }
 }

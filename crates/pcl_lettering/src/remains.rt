@@ -7,7 +7,7 @@ use crate::corners::{bits_of, corner_of, page_from};
 use crate::rule_writing::{RulePen, append_rules, sparse_rules};
 use crate::shortening::shortened;
 use pcl_bitmap::{Bitmap, Page};
-use pcl_patterns::{Ink, Letter, Letters, Patterns, Place, stamp};
+use pcl_patterns::{Dot, Letter, Letters, Patterns, StampInk, stamp};
 use pcl_plan::plan;
 use pcl_shapes::{Rule, erase_rules};
 use pcl_writer::write_page;
@@ -51,17 +51,33 @@ impl<'a> Taken<'a> {
     }
 }
 
-/// What of a page is neither a letter nor, as a rectangle, a rule: a page text without its form feed, and the rectangles.
+/// What of a page is neither a letter nor, as a rectangle, a rule: a page text without its form feed, and the rectangles. The letters
+/// are appended to it.
 #[derive(Drop)]
 pub struct Rest {
     pub text: Vec<u8>,
     /// The size of rectangles that the printer holds after it.
-    pub pen: RulePen,
+    pen: RulePen,
     /// Whether a raster with its rules is surely longer.
     is_sure: bool,
 }
 
 impl Rest {
+    /// Appends it with the letters of its page, or this text of the page without any where that has no more bytes. Gives the size of
+    /// rectangles that the printer holds then, where it has the letters.
+    pub fn append_if_shorter(
+        self,
+        plain: &[u8],
+        out: &mut Vec<u8>,
+    ) -> Result<Option<RulePen>, AllocError> {
+        if self.text.len() >= plain.len() {
+            out.extend_from_slice(plain)?;
+            return Ok(None);
+        }
+        out.extend_from_slice(&self.text)?;
+        Ok(Some(self.pen))
+    }
+
     /// The shorter one of two.
     fn or_shorter(self, other: Rest) -> Rest {
         if other.text.len() < self.text.len() {
@@ -182,11 +198,11 @@ fn whiten(bytes: &mut [u8], row_bytes: usize, top: u32, taken: Taken<'_>) {
         if first < end {
             if let Some(pattern) = taken.found.pattern_of(taken.patterns, letter.glyph) {
                 let rows = pattern.rows_from(top.saturating_sub(first));
-                let place = Place {
+                let corner = Dot {
                     x: letter.x,
                     y: first.saturating_sub(top),
                 };
-                stamp(bytes, row_bytes, place, rows, Ink::White);
+                stamp(bytes, row_bytes, corner, rows, StampInk::White);
             }
         }
     }

@@ -2,8 +2,8 @@
 
 use crate::frequency::{Frequency, find_frequency};
 use indexmap::IndexMap;
-use pcl_patterns::{Glyph, Letter, Letters, number_of_place};
-use pcl_shapes::{Collection, Item};
+use pcl_patterns::{Letter, LetterGlyph, Letters, number_of_place};
+use pcl_shapes::{Collection, PlacedShape};
 use std::alloc::{AllocError, Global};
 
 /// The letters of a job: the shapes of patterns that are so frequent that they take fewer bytes so.
@@ -23,10 +23,10 @@ fn append_letters(
     frequency: &Frequency,
     found: &mut Letters,
 ) -> Result<(), AllocError> {
-    for item in collection.items.iter() {
-        if frequency.is_letter(item.pattern) {
-            let top = tops.get(item.pattern as usize).copied().unwrap_or(0);
-            append_letter(item, top, collection.height_of(item.page), found)?;
+    for shape in collection.placed.iter() {
+        if frequency.is_letter(shape.pattern) {
+            let top = tops.get(shape.pattern as usize).copied().unwrap_or(0);
+            append_letter(shape, top, collection.height_of(shape.page), found)?;
         }
     }
     Ok(())
@@ -34,37 +34,37 @@ fn append_letters(
 
 /// Appends a shape as a letter whose topmost row lies so far above the baseline, if that is on its page, which has this height.
 fn append_letter(
-    item: &Item,
+    shape: &PlacedShape,
     top: u32,
     height: u32,
     found: &mut Letters,
 ) -> Result<(), AllocError> {
-    let pattern = item.pattern;
-    let baseline = u32::from(item.top).saturating_add(top);
+    let pattern = shape.pattern;
+    let baseline = u32::from(shape.top).saturating_add(top);
     if baseline <= height {
-        let (glyph, _) = found.glyphs.insert_full(Glyph { pattern, top })?;
+        let (glyph, _) = found.glyphs.insert_full(LetterGlyph { pattern, top })?;
         found
             .letters
-            .push(letter_of(item, baseline, number_of_place(glyph)))?;
+            .push(letter_of(shape, baseline, number_of_place(glyph)))?;
     }
     Ok(())
 }
 
 /// The letter that a shape becomes.
-fn letter_of(item: &Item, baseline: u32, glyph: u32) -> Letter {
+fn letter_of(shape: &PlacedShape, baseline: u32, glyph: u32) -> Letter {
     Letter {
-        page: u32::from(item.page),
+        page: u32::from(shape.page),
         baseline,
-        x: u32::from(item.x),
+        x: u32::from(shape.x),
         glyph,
     }
 }
 
 /// How a shape seems to stand.
-fn stand_of(item: &Item) -> Glyph {
-    Glyph {
-        pattern: item.pattern,
-        top: u32::from(item.baseline.saturating_sub(item.top)),
+fn stand_of(shape: &PlacedShape) -> LetterGlyph {
+    LetterGlyph {
+        pattern: shape.pattern,
+        top: u32::from(shape.baseline.saturating_sub(shape.top)),
     }
 }
 
@@ -77,7 +77,7 @@ struct Usual {
 
 /// For each pattern, how far its topmost row mostly lies above the row on which it seems to stand.
 fn usual_tops(alloc: Global, collection: &Collection) -> Result<Vec<u32>, AllocError> {
-    let stands = count_stands(alloc, &collection.items)?;
+    let stands = count_stands(alloc, &collection.placed)?;
     let nothing = Usual { top: 0, count: 0 };
     let mut usual = vec![in alloc; nothing; collection.patterns.len()]?;
     find_most(&stands, &mut usual);
@@ -85,7 +85,7 @@ fn usual_tops(alloc: Global, collection: &Collection) -> Result<Vec<u32>, AllocE
 }
 
 /// Finds the way in which most shapes of each pattern stand.
-fn find_most(stands: &IndexMap<Glyph, u32>, usual: &mut [Usual]) {
+fn find_most(stands: &IndexMap<LetterGlyph, u32>, usual: &mut [Usual]) {
     for (stand, count) in stands.iter() {
         if let Some(best) = usual.get_mut(stand.pattern as usize) {
             if *count > best.count {
@@ -99,10 +99,13 @@ fn find_most(stands: &IndexMap<Glyph, u32>, usual: &mut [Usual]) {
 }
 
 /// How often shapes of each pattern seem to stand so.
-fn count_stands(alloc: Global, items: &[Item]) -> Result<IndexMap<Glyph, u32>, AllocError> {
+fn count_stands(
+    alloc: Global,
+    placed: &[PlacedShape],
+) -> Result<IndexMap<LetterGlyph, u32>, AllocError> {
     let mut counts = IndexMap::new(alloc);
-    for item in items {
-        let count = counts.entry(stand_of(item))?.or_insert(0u32);
+    for shape in placed {
+        let count = counts.entry(stand_of(shape))?.or_insert(0u32);
         *count = count.saturating_add(1);
     }
     Ok(counts)

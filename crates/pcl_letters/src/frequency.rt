@@ -7,7 +7,7 @@
 use pcl_patterns::{
     FINE, Row, add, in_fine_parts, number_of, number_of_place, quotient, short_number, sum_parts,
 };
-use pcl_shapes::{Collection, Item};
+use pcl_shapes::{Collection, PlacedShape};
 use std::alloc::{AllocError, Global};
 
 /// How often all patterns are looked at.
@@ -68,8 +68,8 @@ pub fn find_frequency(alloc: Global, collection: &Collection) -> Result<Frequenc
 /// How many shapes each pattern has.
 pub fn count_uses(alloc: Global, collection: &Collection) -> Result<Vec<usize>, AllocError> {
     let mut uses = vec![in alloc; 0usize; collection.patterns.len()]?;
-    for item in collection.items.iter() {
-        if let Some(count) = uses.get_mut(item.pattern as usize) {
+    for shape in collection.placed.iter() {
+        if let Some(count) = uses.get_mut(shape.pattern as usize) {
             *count = count.saturating_add(1);
         }
     }
@@ -79,18 +79,18 @@ pub fn count_uses(alloc: Global, collection: &Collection) -> Result<Vec<usize>, 
 /// The shapes of a page, and its rows with the white one below them.
 #[derive(Clone, Copy)]
 struct PageShapes<'a> {
-    items: &'a [Item],
+    placed: &'a [PlacedShape],
     rows: &'a [Row],
 }
 
 impl<'a> PageShapes<'a> {
     /// Those of a page, of the shapes from this place on, which are of this page and later ones.
     fn of(collection: &'a Collection, page: usize, from: usize) -> PageShapes<'a> {
-        let items = collection.items.get(from..).unwrap_or(&[]);
-        let count = items.partition_point(|item| usize::from(item.page) <= page);
+        let placed = collection.placed.get(from..).unwrap_or(&[]);
+        let count = placed.partition_point(|shape| usize::from(shape.page) <= page);
         let start = collection.starts.get(page).copied().unwrap_or(0);
         PageShapes {
-            items: items.get(..count).unwrap_or(&[]),
+            placed: placed.get(..count).unwrap_or(&[]),
             rows: collection.rows.get(start..).unwrap_or(&[]),
         }
     }
@@ -106,8 +106,8 @@ fn raster_costs(
     let mut place: usize = 0;
     for page in 0..collection.starts.len() {
         let shapes = PageShapes::of(collection, page, place);
-        place = place.saturating_add(shapes.items.len());
-        if !shapes.items.is_empty() {
+        place = place.saturating_add(shapes.placed.len());
+        if !shapes.placed.is_empty() {
             let height = collection.height_of(short_number(number_of_place(page)));
             let sums = sums_on_page(alloc, collection, frequency, shapes, height)?;
             add_costs(collection, frequency, shapes, &sums, &mut costs);
@@ -138,13 +138,13 @@ fn add_weights(
     shapes: PageShapes<'_>,
     changes: &mut [i64],
 ) {
-    for item in shapes.items {
-        if !frequency.is_letter(item.pattern) {
-            let weight = collection.patterns.weight(item.pattern);
-            add(changes, usize::from(item.top), weight);
+    for shape in shapes.placed {
+        if !frequency.is_letter(shape.pattern) {
+            let weight = collection.patterns.weight(shape.pattern);
+            add(changes, usize::from(shape.top), weight);
             add(
                 changes,
-                row_past(collection, item),
+                row_past(collection, shape),
                 0i64.saturating_sub(weight),
             );
         }
@@ -159,19 +159,19 @@ fn add_costs(
     sums: &[i64],
     costs: &mut [i64],
 ) {
-    for item in shapes.items {
-        if !frequency.is_letter(item.pattern) {
-            let start = number_of(sums, usize::from(item.top));
-            let parts = number_of(sums, row_past(collection, item)).saturating_sub(start);
-            let cost = parts.saturating_mul(collection.patterns.weight(item.pattern));
-            add(costs, item.pattern as usize, quotient(cost, FINE));
+    for shape in shapes.placed {
+        if !frequency.is_letter(shape.pattern) {
+            let start = number_of(sums, usize::from(shape.top));
+            let parts = number_of(sums, row_past(collection, shape)).saturating_sub(start);
+            let cost = parts.saturating_mul(collection.patterns.weight(shape.pattern));
+            add(costs, shape.pattern as usize, quotient(cost, FINE));
         }
     }
 }
 
 /// The row past the white one below a shape.
-fn row_past(collection: &Collection, item: &Item) -> usize {
-    usize::from(item.top).saturating_add(collection.patterns.row_count(item.pattern))
+fn row_past(collection: &Collection, shape: &PlacedShape) -> usize {
+    usize::from(shape.top).saturating_add(collection.patterns.row_count(shape.pattern))
 }
 
 /// For each pattern, whether its shapes are letters already, or take fewer bytes so.

@@ -3,7 +3,7 @@
 use crate::frequency::{Frequency, count_uses, find_frequency};
 use indexmap::IndexMap;
 use pcl_patterns::{Drawing, Form, Pattern, Patterns, short_number};
-use pcl_shapes::{Collection, Item};
+use pcl_shapes::{Collection, PlacedShape};
 use std::alloc::{AllocError, Global};
 
 /// How often shapes are joined two by two, in rounds: one of the last round has up to eight parts.
@@ -55,7 +55,7 @@ fn join_once(
     collection: &mut Collection,
     frequency: &Frequency,
 ) -> Result<bool, AllocError> {
-    collection.items.sort()?;
+    collection.placed.sort()?;
     let mut pairs = find_pairs(alloc, collection, frequency)?;
     join(alloc, collection, &mut pairs)?;
     Ok(!pairs.is_empty())
@@ -103,7 +103,7 @@ fn count_pairs(
     collection: &Collection,
 ) -> Result<IndexMap<Pair, usize>, AllocError> {
     let mut counts = IndexMap::new(alloc);
-    for place in 0..collection.items.len() {
+    for place in 0..collection.placed.len() {
         if let Some(pair) = two_at(collection, place) {
             count_pair(pair, &mut counts)?;
         }
@@ -121,7 +121,7 @@ fn count_pair(pair: Pair, counts: &mut IndexMap<Pair, usize>) -> Result<(), Allo
 }
 
 /// The pair of two shapes, the first of which begins no further right: none where they stand on two lines, or beside each other.
-fn pair_of(patterns: &Patterns, first: &Item, second: &Item) -> Option<Pair> {
+fn pair_of(patterns: &Patterns, first: &PlacedShape, second: &PlacedShape) -> Option<Pair> {
     if first.page != second.page || first.baseline != second.baseline {
         return None;
     }
@@ -254,7 +254,7 @@ fn count_joined(
 ) -> Result<IndexMap<Pair, usize>, AllocError> {
     let mut counts = IndexMap::new(alloc);
     let mut is_joined = false;
-    for place in 0..collection.items.len() {
+    for place in 0..collection.placed.len() {
         if is_joined {
             is_joined = false;
         } else if let Some(pair) = pair_at(collection, place, pairs) {
@@ -278,8 +278,8 @@ fn pair_at(collection: &Collection, place: usize, pairs: &IndexMap<Pair, usize>)
 
 /// The pair of the two shapes from a place on.
 fn two_at(collection: &Collection, place: usize) -> Option<Pair> {
-    let first = collection.items.get(place)?;
-    let second = collection.items.get(place.saturating_add(1))?;
+    let first = collection.placed.get(place)?;
+    let second = collection.placed.get(place.saturating_add(1))?;
     pair_of(&collection.patterns, first, second)
 }
 
@@ -338,28 +338,32 @@ fn join_items(
 ) {
     let mut count: usize = 0;
     let mut is_joined = false;
-    for place in 0..collection.items.len() {
+    for place in 0..collection.placed.len() {
         let pair = pair_at(collection, place, pairs);
         if is_joined {
             is_joined = false;
-        } else if let Some(item) = collection.items.get(place).copied() {
-            let item = joined_item(item, pair, numbers);
-            if let Some(free) = collection.items.get_mut(count) {
-                *free = item;
+        } else if let Some(shape) = collection.placed.get(place).copied() {
+            let shape = joined_shape(shape, pair, numbers);
+            if let Some(free) = collection.placed.get_mut(count) {
+                *free = shape;
             }
             count = count.saturating_add(1);
             is_joined = pair.is_some();
         }
     }
-    collection.items.truncate(count);
+    collection.placed.truncate(count);
 }
 
 /// The shape that a pair becomes, whose first shape this is; the shape itself where there is none.
-fn joined_item(first: Item, pair: Option<Pair>, numbers: &IndexMap<Pair, u32>) -> Item {
+fn joined_shape(
+    first: PlacedShape,
+    pair: Option<Pair>,
+    numbers: &IndexMap<Pair, u32>,
+) -> PlacedShape {
     let Some(pair) = pair else {
         return first;
     };
-    Item {
+    PlacedShape {
         page: first.page,
         baseline: first.baseline,
         x: first.x,

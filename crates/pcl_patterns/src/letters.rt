@@ -7,7 +7,7 @@ use std::alloc::Global;
 
 /// A pattern, and where it stands on a line.
 #[derive(Clone, Copy, PartialEq, Eq, Hash)]
-pub struct Glyph {
+pub struct LetterGlyph {
     /// The number of the pattern.
     pub pattern: u32,
     /// How far its topmost row lies above the baseline, in dots.
@@ -42,7 +42,7 @@ impl Letter {
 #[derive(Drop)]
 pub struct Letters {
     /// The glyphs, each once.
-    pub glyphs: IndexSet<Glyph>,
+    pub glyphs: IndexSet<LetterGlyph>,
     /// In the order of printing.
     pub letters: Vec<Letter>,
 }

@@ -13,7 +13,7 @@ mod patterns;
 mod stamping;
 
 pub use forms::Form;
-pub use letters::{Glyph, Letter, Letters};
+pub use letters::{Letter, LetterGlyph, Letters};
 pub use lists::{add, number_of, quotient};
 pub use numbers::{
     append_labelled, append_signed, append_word, digit_count, number_of_place, short_number,
@@ -21,4 +21,4 @@ pub use numbers::{
 pub use parts::{FINE, Row, in_fine_parts, sum_parts};
 pub use pattern_set::Patterns;
 pub use patterns::{Drawing, Pattern, PatternRows, row_bytes_of, rows_len};
-pub use stamping::{Ink, Place, stamp};
+pub use stamping::{Dot, StampInk, stamp};

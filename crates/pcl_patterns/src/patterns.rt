@@ -2,7 +2,7 @@
 
 ghost use Rattle.std.specs.Prelude.{◌≤◌};
 
-use crate::stamping::{Ink, Place, stamp};
+use crate::stamping::{Dot, StampInk, stamp};
 use std::alloc::{AllocError, Global};
 
 /// The largest width and height of a shape that may become a glyph, in dots at 300 per inch.
@@ -95,13 +95,13 @@ impl Drawing {
     /// Makes the dots of a pattern black, whose left upper dot is so far right and down in this one.
     pub fn blacken_with(&mut self, other: Pattern<'_>, right: u32, down: u32) {
         let row_bytes = row_bytes_of(self.width);
-        let place = Place { x: right, y: down };
+        let corner = Dot { x: right, y: down };
         stamp(
             &mut self.rows,
             row_bytes,
-            place,
+            corner,
             other.rows_from(0),
-            Ink::Black,
+            StampInk::Black,
         );
     }
 

@@ -14,17 +14,17 @@ use std::alloc::{AllocError, Global};
 use std::marker::Model;
 
 /// After this many shapes no further pages are looked at.
-const ITEM_LIMIT: usize = 4_000_000;
+const SHAPE_LIMIT: usize = 4_000_000;
 
 /// After this many shapes, and one more for this many bytes of the texts of the pages, no further pages are looked at either: shapes
 /// of text take some twenty bytes each in a raster.
-const FIRST_ITEMS: usize = 65_536;
+const FIRST_SHAPES: usize = 65_536;
 
-const ITEM_BYTES: usize = 12;
+const SHAPE_BYTES: usize = 12;
 
 /// A shape on a page. Their order is that of printing: by pages, by lines, and from left to right.
 #[derive(Clone, Copy, PartialEq, Eq, PartialOrd, Ord)]
-pub struct Item {
+pub struct PlacedShape {
     /// The number of its page, from 0.
     pub page: u16,
     /// The row on which it seems to stand.
@@ -50,13 +50,13 @@ pub struct Collection {
     pub rules: Rules,
     /// The patterns of the shapes, each once.
     pub patterns: Patterns,
-    pub items: Vec<Item>,
+    pub placed: Vec<PlacedShape>,
     /// The rows of the pages in turn, each page's with a white one below them. Pages in a row whose rows are the same have them once.
     pub rows: Vec<Row>,
     /// For each page, how many rows come before its own.
     pub starts: Vec<usize>,
     /// How many shapes may be kept before a page is looked at.
-    item_limit: usize,
+    shape_limit: usize,
 }
 
 impl Model for Collection {
@@ -75,18 +75,18 @@ impl Collection {
             heights: Vec::new(alloc),
             rules: Rules::new(alloc),
             patterns: Patterns::new(alloc),
-            items: Vec::new(alloc),
+            placed: Vec::new(alloc),
             rows: Vec::new(alloc),
             starts: Vec::new(alloc),
-            item_limit: FIRST_ITEMS,
+            shape_limit: FIRST_SHAPES,
         }
     }
 
     /// Makes room for the shapes of a page whose text takes this many bytes as a raster.
     pub fn add_room(&mut self, bytes: usize) {
         self.patterns.add_room(bytes / 2);
-        let limit = self.item_limit.saturating_add(bytes / ITEM_BYTES);
-        self.item_limit = limit.min(ITEM_LIMIT);
+        let limit = self.shape_limit.saturating_add(bytes / SHAPE_BYTES);
+        self.shape_limit = limit.min(SHAPE_LIMIT);
     }
 
     /// Passes over a page: none of its rules and shapes is collected.
@@ -112,7 +112,7 @@ impl Collection {
 
     /// Collects the rules of a page, and the shapes of what is left of it.
     fn collect_page(&mut self, page: &Page) -> Result<(), AllocError> {
-        let rules = find_rules(*self.items.allocator(), &page.bitmap)?;
+        let rules = find_rules(*self.placed.allocator(), &page.bitmap)?;
         if rules.is_empty() {
             return self.collect(page);
         }
@@ -123,13 +123,13 @@ impl Collection {
     /// Collects the shapes of a page, and what its rows take where it has some.
     fn collect(&mut self, page: &Page) -> Result<(), AllocError> {
         let first = self.rows.len();
-        let items = self.items.len();
-        let shapes = find_shapes(*self.items.allocator(), &page.bitmap)?;
+        let placed = self.placed.len();
+        let shapes = find_shapes(*self.placed.allocator(), &page.bitmap)?;
         if !shapes.extents.is_empty() {
             append_rows(&page.bitmap, &mut self.rows)?;
             self.collect_found(page, &shapes, first)?;
         }
-        if self.items.len() == items {
+        if self.placed.len() == placed {
             self.rows.truncate(first);
         }
         Ok(())
@@ -163,7 +163,7 @@ impl Collection {
 
     /// Which of the shapes of a page whose first row is in this place can't be letters.
     fn screen(&mut self, shapes: &Shapes, first: usize) -> Result<Vec<bool>, AllocError> {
-        let alloc = *self.items.allocator();
+        let alloc = *self.placed.allocator();
         let first = first.min(self.rows.len());
         screen_shapes(alloc, &shapes.extents, &mut self.rows[first..])
     }
@@ -176,7 +176,7 @@ impl Collection {
         stay: &[bool],
         first: usize,
     ) -> Result<(), AllocError> {
-        let alloc = *self.items.allocator();
+        let alloc = *self.placed.allocator();
         let scale = self.form.scale();
         let height = page.size.height(page.dpi);
         let bottoms = count_bottoms(alloc, height, &shapes.extents, scale)?;
@@ -194,15 +194,15 @@ impl Collection {
         drawings: &mut Drawings<'_>,
         bottoms: &[u32],
     ) -> Result<(), AllocError> {
-        let start = self.items.len();
-        let mut walk = RowWalk::new(*self.items.allocator());
+        let start = self.placed.len();
+        let mut walk = RowWalk::new(*self.placed.allocator());
         for y in 0..bitmap.size().height(bitmap.dpi()) {
             let others = draw_row(bitmap, runs, y, &mut walk, drawings)?;
             count_others(&mut self.rows, first.saturating_add(y as usize), others);
             self.collect_whole(short_number(y), first, drawings, bottoms)?;
         }
-        let start = start.min(self.items.len());
-        self.items[start..].sort_unstable();
+        let start = start.min(self.placed.len());
+        self.placed[start..].sort_unstable();
         Ok(())
     }
 
@@ -238,7 +238,7 @@ impl Collection {
         let Some(pattern) = self.patterns.number_of_shape(pattern, self.form, rows)? else {
             return Ok(());
         };
-        self.items.push(Item {
+        self.placed.push(PlacedShape {
             page: short_number(page),
             baseline: short_number(baseline),
             x: extent.left,
@@ -320,7 +320,7 @@ impl PageSink for Collection {
 
     fn page(&mut self, page: &Page) -> Result<(), AllocError> {
         let first = self.rows.len();
-        if self.items.len() < self.item_limit {
+        if self.placed.len() < self.shape_limit {
             self.collect_page(page)?;
         }
         self.end_page(page, first)

@@ -1,7 +1,7 @@
 //! The dots of the shapes of a page.
 
 use crate::dots::dots_of_byte;
-use crate::runs::Run;
+use crate::runs::BlackRun;
 use crate::shapes::{Extent, Shapes};
 use pcl_patterns::{Pattern, number_of_place, row_bytes_of, rows_len};
 use std::alloc::{AllocError, Global};
@@ -54,7 +54,7 @@ impl<'a> Drawings<'a> {
     }
 
     /// Draws row `y`, the next one, which has these runs, and counts the runs of shapes that aren't drawn and don't stay.
-    pub fn draw_row(&mut self, y: u16, runs: &[Run]) -> Result<u16, AllocError> {
+    pub fn draw_row(&mut self, y: u16, runs: &[BlackRun]) -> Result<u16, AllocError> {
         self.begin(y)?;
         let mut others: u16 = 0;
         for run in runs {
@@ -66,7 +66,7 @@ impl<'a> Drawings<'a> {
     }
 
     /// Draws a run of row `y`, unless its shape stays in the raster. Says whether that stays or is drawn.
-    fn draw_run(&mut self, y: u16, run: Run) -> bool {
+    fn draw_run(&mut self, y: u16, run: BlackRun) -> bool {
         let number = self.shapes.number_of(run);
         if self.stay.get(number) == Some(&true) {
             return true;
@@ -171,7 +171,7 @@ impl<'a> Drawings<'a> {
     }
 
     /// Makes the dots of a run of row `y` black, in the box of the shape with this extent.
-    fn blacken(&mut self, number: usize, extent: Extent, y: u16, run: Run) {
+    fn blacken(&mut self, number: usize, extent: Extent, y: u16, run: BlackRun) {
         let row = usize::from(y.saturating_sub(extent.top));
         let start = row.saturating_mul(row_bytes_of(extent.width()));
         let start = self.place_of(number).saturating_add(start);

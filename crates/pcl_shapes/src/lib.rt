@@ -18,6 +18,6 @@ mod shapes;
 mod upright_rules;
 mod words;
 
-pub use collecting::{Collection, Item};
+pub use collecting::{Collection, PlacedShape};
 pub use edges::append_edges;
 pub use rules::{Rule, Rules, erase_rules};

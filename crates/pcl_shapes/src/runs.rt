@@ -11,7 +11,7 @@ const RUN_LIMIT: usize = 1_000_000;
 
 /// A run of black dots of a row, from the dot `start` up to the one before `end`. No page has 65,535 dots in a row.
 #[derive(Clone, Copy)]
-pub struct Run {
+pub struct BlackRun {
     pub start: u16,
     pub end: u16,
     /// The label of the first run that it touches of the row above; a label of its own where there is none.
@@ -44,7 +44,7 @@ fn kept_runs_limit(dpi: Dpi) -> usize {
 /// The runs of the rows of a page, as a walk over it found them: none where they are more than are kept.
 #[derive(Drop)]
 pub struct KeptRuns {
-    runs: Vec<Run>,
+    runs: Vec<BlackRun>,
     /// For each row, how many runs there are up to its end.
     ends: Vec<usize>,
     /// How many runs are kept at most.
@@ -64,7 +64,7 @@ impl KeptRuns {
     }
 
     /// Keeps the runs of the next row.
-    pub fn keep(&mut self, runs: &[Run]) -> Result<(), AllocError> {
+    pub fn keep(&mut self, runs: &[BlackRun]) -> Result<(), AllocError> {
         if self.runs.len().saturating_add(runs.len()) > self.limit {
             self.is_full = true;
             self.runs.clear();
@@ -79,7 +79,7 @@ impl KeptRuns {
     }
 
     /// The runs of row `y`: none where they aren't kept.
-    pub fn row(&self, y: u32) -> Option<&[Run]> {
+    pub fn row(&self, y: u32) -> Option<&[BlackRun]> {
         let end = self.ends.get(y as usize).copied()?;
         let start = match y.checked_sub(1) {
             Some(above) => self.ends.get(above as usize).copied()?,
@@ -94,11 +94,11 @@ impl KeptRuns {
 #[derive(Drop)]
 pub struct RowWalk {
     /// The runs of the row, from left to right.
-    pub runs: Vec<Run>,
+    pub runs: Vec<BlackRun>,
     /// The labels that hang together by this row and the one above.
     pub links: Vec<Link>,
     /// The runs of the row above.
-    above: Vec<Run>,
+    above: Vec<BlackRun>,
     edges: Vec<u16>,
     /// How many runs there were.
     count: usize,
@@ -161,7 +161,7 @@ impl RowWalk {
                         self.labels.saturating_sub(1)
                     }
                 };
-                self.runs.push(Run { start, end, label })?;
+                self.runs.push(BlackRun { start, end, label })?;
             }
         }
         Ok(())
@@ -184,7 +184,7 @@ fn is_like_above(bitmap: &Bitmap, y: u32) -> bool {
 }
 
 /// The place of the first run of the row above, from a place on, that doesn't end left of the dot diagonally above this one.
-fn first_ending_at(above: &[Run], first: usize, start: u16) -> usize {
+fn first_ending_at(above: &[BlackRun], first: usize, start: u16) -> usize {
     let runs = above.get(first..).unwrap_or(&[]);
     match runs.iter().position(|run| run.end >= start) {
         Some(count) => first.saturating_add(count),
@@ -195,7 +195,7 @@ fn first_ending_at(above: &[Run], first: usize, start: u16) -> usize {
 /// The label of the first run of the row above, from a place on, which a run touches that ends here, beside or diagonally: none where it
 /// touches none. Links that with the labels of others that it touches.
 fn linked_label(
-    above: &[Run],
+    above: &[BlackRun],
     first: usize,
     end: u16,
     links: &mut Vec<Link>,

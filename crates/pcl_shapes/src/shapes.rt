@@ -1,6 +1,6 @@
 //! Shapes of a page: black dots that hang together, each the neighbour of another in one of eight directions.
 
-use crate::runs::{KeptRuns, Link, RowWalk, Run};
+use crate::runs::{BlackRun, KeptRuns, Link, RowWalk};
 use pcl_bitmap::Bitmap;
 use pcl_patterns::{number_of_place, short_number};
 use std::alloc::{AllocError, Global};
@@ -16,7 +16,7 @@ pub struct Extent {
 
 impl Extent {
     /// The box of one run of row `y`.
-    fn of(y: u16, run: Run) -> Extent {
+    fn of(y: u16, run: BlackRun) -> Extent {
         Extent {
             left: run.start,
             top: y,
@@ -57,7 +57,7 @@ pub struct Shapes {
 
 impl Shapes {
     /// The number of the shape of a run.
-    pub fn number_of(&self, run: Run) -> usize {
+    pub fn number_of(&self, run: BlackRun) -> usize {
         parent_of(&self.numbers, run.label) as usize
     }
 }
@@ -100,7 +100,7 @@ struct Labels {
 
 impl Labels {
     /// Adds the runs of row `y`, and the links that come with it.
-    fn add_row(&mut self, y: u16, runs: &[Run], links: &[Link]) -> Result<(), AllocError> {
+    fn add_row(&mut self, y: u16, runs: &[BlackRun], links: &[Link]) -> Result<(), AllocError> {
         for run in runs {
             match self.extents.get_mut(run.label as usize) {
                 Some(extent) => *extent = extent.with(Extent::of(y, *run)),
