@@ -40,7 +40,7 @@ ANSWERS = 100
 # How many bytes of a job have come when it is cancelled.
 START = 100000
 FOOMATIC = "foomatic-db-compressed-ppds:0/ppd/foomatic-ppd/"
-# A queue's name, its driver as `lpadmin -m` takes it (None: RASTERTOHP), options of each of its jobs, and whether all of them
+# A queue's name, its driver as the server names it (None: RASTERTOHP), options of each of its jobs, and whether all of them
 # have to be accepted.
 DRIVERS = [
     ("rastertohp-300", None, ["Resolution=300dpi"], True),
@@ -213,9 +213,22 @@ def free_port():
 
 # ---- printing and comparing
 
-def add_queue(at, folder, name, driver, device):
-    source = ["-P", f"{folder}/laserjet.ppd"] if driver is None else ["-m", driver]
-    run("lpadmin", "-h", at, "-p", name, "-E", "-v", device, *source, "-o", "printer-error-policy=abort-job")
+def describe(folder, name, driver):
+    """The PPD of a driver, as the server itself asks for it, and the name of its file. Where a driver gives none, says what it said."""
+    if driver is None:
+        return f"{folder}/laserjet.ppd"
+    settings = dict(PATH="/usr/bin:/bin", CUPS_SERVERBIN="/usr/lib/cups", CUPS_DATADIR="/usr/share/cups", CUPS_CACHEDIR=f"{folder}/cache")
+    words = ["/usr/lib/cups/daemon/cups-driverd", "cat", driver]
+    done = subprocess.run(words, env=settings, stdin=subprocess.DEVNULL, capture_output=True)
+    if not done.stdout.startswith(b"*PPD-Adobe"):
+        sys.exit(f"{driver}: no PPD, status {done.returncode}\n{done.stderr.decode()}")
+    with open(f"{folder}/{name}.ppd", "wb") as out:
+        out.write(done.stdout)
+    return out.name
+
+
+def add_queue(at, name, ppd, device):
+    run("lpadmin", "-h", at, "-p", name, "-E", "-v", device, "-P", ppd, "-o", "printer-error-policy=abort-job")
 
 
 def print_all(at, queue, options, files):
@@ -313,14 +326,13 @@ def compare_asked(program, at, folder, job):
     return holds
 
 
-def compare_cancelled(program, at, folder, file):
-    """Cancels a long job of the driver RAW in its three places, and says whether each ends as it has to."""
-    driver = {name: driver for name, driver, _, _ in DRIVERS}[RAW]
+def compare_cancelled(program, at, folder, ppd, file):
+    """Cancels a long job of a driver in its three places, and says whether each ends as it has to."""
     whole, plain, small, early = Printer(), SlowPrinter(), SlowPrinter(), Printer()
     jobs = {}
     for name, device in [("whole", whole.uri), ("plain", plain.uri), ("small", "pclmin:/auto/" + small.uri),
                          ("early", "pclmin:/auto/" + early.uri)]:
-        add_queue(at, folder, name, driver, device)
+        add_queue(at, name, ppd, device)
         jobs[name] = print_one(at, name, file, "-o", "PageSize=A4")
     wait_for_log(folder, jobs["early"], r"Started backend ")
     run("cancel", "-h", at, "early-" + jobs["early"])
@@ -378,22 +390,24 @@ def main(program):
         write_settings(folder, port)
         run("make", "-s", "-C", os.path.dirname(HERE), "install", "install-cups", f"PROGRAM={program}", f"PREFIX={folder}/usr",
             f"CUPSDIR={folder}/bin")
+        ppds = {name: describe(folder, name, driver) for name, driver, _, _ in DRIVERS}
         files = make_documents(folder)
         printers = {name: (Printer(), Printer()) for name, _, _, _ in DRIVERS}
         raw, wanted = Printer(), len(DOCUMENTS) * len(KINDS)
         server = start_server(folder, port)
         try:
-            for name, driver, options, _ in DRIVERS:
+            for name, _, options, _ in DRIVERS:
                 without, came = printers[name]
-                add_queue(at, folder, name, driver, without.uri)
-                add_queue(at, folder, name + "-small", driver, "pclmin:/auto/" + came.uri)
+                add_queue(at, name, ppds[name], without.uri)
+                add_queue(at, name + "-small", ppds[name], "pclmin:/auto/" + came.uri)
                 print_all(at, name, options, files)
                 print_all(at, name + "-small", options, files)
             wait_for([one for pair in printers.values() for one in pair], wanted)
             run("lpadmin", "-h", at, "-p", "raw", "-E", "-v", "pclmin:/auto/" + raw.uri)
             print_raw(at, "raw", folder, printers[RAW][0].jobs)
             wait_for([raw], wanted)
-            others = [compare_asked(program, at, folder, printers[RAW][0].jobs[0]), compare_cancelled(program, at, folder, files["noise"])]
+            others = [compare_asked(program, at, folder, printers[RAW][0].jobs[0]),
+                      compare_cancelled(program, at, folder, ppds[RAW], files["noise"])]
         finally:
             server.terminate()
             server.wait()

@@ -3,11 +3,12 @@
 
     python3 oracle/shrunk.py PCLMIN PLAIN COUNT SEED [--workers N] [--folder FOLDER]
 
-The jobs are those of random_jobs.py: one to three that are mostly accepted, joined, or one of any kind, at a resolution that is drawn
-too; the first of eight that is accepted, or the last. What `shrink` writes of an accepted one is no longer, has as many pages, each the same by the plain program, and is the same by
-`same --asked`; a job that it refuses is refused by the plain program in the same line. A job that doesn't hold is kept in FOLDER
-(build/fuzz) as shrunk-SEED-NUMBER.pcl, with a line on standard output, and the status is then 1. The number of workers is 1 if it isn't
-given; the jobs don't depend on it.
+The jobs are those of random_jobs.py: one to three that are mostly accepted, joined, or one of any kind, by `--dpi 300`, `--dpi 600` or
+`--dpi auto`, which is drawn too; the first of eight that is accepted, or the last. What `shrink` writes of an accepted one is no longer,
+has as many pages, each the same by the plain program, and is the same by `same --asked`; by `--dpi auto` it has these pages at each
+resolution at which the plain program accepts the job. A job that `shrink` refuses is refused by the plain program in the same line. A
+job that doesn't hold is kept in FOLDER (build/fuzz) as shrunk-SEED-NUMBER.pcl, with a line on standard output, and the status is then
+1. The number of workers is 1 if it isn't given; the jobs don't depend on it.
 """
 
 import argparse
@@ -26,9 +27,9 @@ TRIES = 8
 
 
 def random_job(draw):
-    """A job, and the resolution at which it is seen."""
+    """A job, and what is asked for its resolution."""
     jobs = [right_job(draw) for _ in range(draw.choice([1, 1, 2, 3]))] if draw.random() < 0.9 else [job_of(draw)]
-    return draw.choice([b"\f", b"", b"\x1bE"]).join(jobs), draw.choice([300, 300, 600])
+    return draw.choice([b"\f", b"", b"\x1bE"]).join(jobs), draw.choice(["300", "600", "auto"])
 
 
 class Looker:
@@ -38,48 +39,53 @@ class Looker:
         self.pclmin, self.plain = programs.Program(asked.pclmin, asked.folder), programs.Plain(asked.plain)
         self.seed, self.folder = asked.seed, asked.folder
 
-    def pages(self, job, at):
-        """The images of all pages by the plain program, or the line of its refusal."""
+    def pages(self, job, dpi):
+        """The images of all pages by the plain program at a resolution, or the line of its refusal."""
+        at = ["--dpi", dpi]
         (first, count), = self.plain.answers([(["pbm", "--page", "1"] + at, job)])
-        if count == 0 or first[0] != 0:
-            return first[2]
+        if first[0] != 0:
+            return [] if first[2].startswith(b"pclmin: no page") else first[2]
         more = self.plain.answers([(["pbm", "--page", str(page)] + at, job) for page in range(2, count + 1)])
         return [first] + [answer for answer, _ in more]
 
-    def same(self, job, written, at):
+    def same(self, job, written, dpi):
         """The answer of `same --asked`."""
         for name, content in zip(self.pclmin.names, (job, written)):
             with open(name, "wb") as out:
                 out.write(content)
-        return self.pclmin.run(["same", "--asked"] + at + self.pclmin.names[:2], b"")
+        return self.pclmin.run(["same", "--asked", "--dpi", dpi] + self.pclmin.names[:2], b"")
 
     def look(self, number):
         """What doesn't hold of a job, none where all does; and how it came out."""
         draw = random.Random("%d %d shrunk" % (self.seed, number))
         for _ in range(TRIES):
             job, dpi = random_job(draw)
-            at = ["--dpi", str(dpi)]
-            status, written, said = self.pclmin.run(["shrink"] + at, job)
+            status, written, said = self.pclmin.run(["shrink", "--dpi", dpi], job)
             if status == 0:
                 break
-        fault, outcome = self.fault_of(job, at, status, written, said)
+        fault, outcome = self.fault_of(job, dpi, status, written, said)
         if fault:
             with open(os.path.join(self.folder, "shrunk-%d-%d.pcl" % (self.seed, number)), "wb") as out:
                 out.write(job)
-            fault = "job %d at %d: %s" % (number, dpi, fault)
+            fault = "job %d at %s: %s" % (number, dpi, fault)
         return fault, outcome
 
-    def fault_of(self, job, at, status, written, said):
-        pages = self.pages(job, at)
+    def fault_of(self, job, dpi, status, written, said):
+        """What doesn't hold of a job and what `shrink` answered, and how it came out."""
+        came = {at: self.pages(job, at) for at in (["300", "600"] if dpi == "auto" else [dpi])}
+        accepted = [at for at, pages in came.items() if isinstance(pages, list)]
         if status == 1:
-            return (None if pages == said else "refused with %r, by the plain program %r" % (said, pages)), "refused"
+            first = next(iter(came.values()))
+            return (None if first == said and not accepted else "refused with %r, by the plain program %r" % (said, first)), "refused"
         if status != 0:
             return "status %d, %r" % (status, said), "failed"
+        if not accepted:
+            return "accepted, and refused by the plain program", "accepted"
         if len(written) > len(job):
             return "%d bytes in place of %d" % (len(written), len(job)), "longer"
-        if self.pages(written, at) != pages:
+        if any(self.pages(written, at) != came[at] for at in accepted):
             return "other pages", "others"
-        if self.same(job, written, at)[:2] != (0, b"same\n"):
+        if self.same(job, written, dpi)[:2] != (0, b"same\n"):
             return "not the same by same --asked", "others"
         return None, "shorter" if len(written) < len(job) else "as it came"
 

@@ -1,8 +1,8 @@
 // Makes one call of a program fail: the one whose number FAIL_AT has, counted from 1 over the calls that FAIL_WHAT names, which is
-// `memory` for all allocations, or one of read, write, open, rename, link, fsync, flock, realpath, statx, fchmod and fcntl. It fails with the error whose
-// number FAIL_ERROR has, and an allocation with ENOMEM. At its end the program writes into the file FAIL_COUNT how many of these calls
-// it made. Where FAIL_SHORT is set, each read gives and each write takes one byte at most. It is loaded before the C library
-// (LD_PRELOAD).
+// `memory` for all allocations, or one of read, write, open, rename, link, fsync, flock, realpath, statx, fchmod and fcntl. It fails
+// with the error whose number FAIL_ERROR has, and an allocation with ENOMEM. At its end the program writes into the file FAIL_COUNT
+// how many of these calls it made. Where FAIL_SHORT is set, each read gives and each write takes one byte at most. It is loaded before
+// the C library (LD_PRELOAD).
 #define _GNU_SOURCE
 #include <dlfcn.h>
 #include <errno.h>

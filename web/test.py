@@ -71,6 +71,10 @@ class Program:
         done = subprocess.run([self.program, *words], capture_output=True, cwd=self.folder)
         return done.stdout, done.stderr.decode("latin-1")
 
+    def resolution(self, job):
+        """The first resolution at which a job is accepted, and 300 where there is none."""
+        return next((dpi for dpi in ("300", "600") if "refused" not in self.run("pages", "--dpi", dpi, job)[1]), "300")
+
 
 # ---- the server
 
@@ -93,7 +97,8 @@ def test_server(held, port, program, jobs):
                             ("/explain/0", ["explain"])):
             status, body = asked(port, path, content)
             head, made = body.split(b"\n", 1)
-            written, said = program.run(*words, "--dpi", "auto", job)
+            # the server keeps the dots at one resolution, where the program goes on to the other
+            written, said = program.run(*words, "--dpi", program.resolution(job) if words == ["shrink"] else "auto", job)
             held.tell(status == 200 and made == written, f"{path} of {job} is what the program writes")
             held.tell(json.loads(head)["line"] == ("" if words[0] == "explain" else said.replace("pclmin: no page\n", "")),
                       f"{path} of {job} says what the program says")
@@ -386,7 +391,7 @@ def test_saved(held, browser, program, folder, job):
     end = time.monotonic() + PATIENCE
     while not os.path.exists(saved) and time.monotonic() < end:
         time.sleep(0.05)
-    wanted, _ = program.run("shrink", "--dpi", "auto", job)
+    wanted, _ = program.run("shrink", "--dpi", program.resolution(job), job)
     content = b""
     if os.path.exists(saved):
         with open(saved, "rb") as file:

@@ -111,9 +111,16 @@ def kind_and_place(line):
     return pclmin.KINDS.index(words[0]), int(words[2])
 
 
+def first_accepted(runner, job):
+    """The first resolution at which a job is accepted, and 300 where there is none."""
+    return next((dpi for dpi in ("300", "600") if runner.said("pages", "--dpi", dpi, job)[2] == 0), "300")
+
+
 def compare_made(runner, call, words, job, resolution):
     """A call that makes bytes beside the program's command: the same bytes, or the same refusal."""
-    made, said, status = runner.said(*words, "--dpi", "auto" if resolution == 0 else str(resolution), job)
+    # `shrink` keeps the dots at one resolution, where the program goes on to the other
+    dpi = str(resolution) if resolution != 0 else first_accepted(runner, job) if words == ["shrink"] else "auto"
+    made, said, status = runner.said(*words, "--dpi", dpi, job)
     answer = runner.answers(*call, job)
     what = " ".join((*call, job))
     if status == 0:
@@ -257,6 +264,7 @@ def main():
             compare_jobs(runner, resolution, job)
     compare_made(runner, ["preview", "300", "1", "1"], ["pbm", "--page", "1"], "picture.pcl", 300)
     compare_made(runner, ["min", "300", "0"], ["min", "--quiet"], "picture.pcl", 300)
+    compare_made(runner, ["shrink", "0"], ["shrink"], "picture.pcl", 0)
     for certificate_format in (1, 2):
         for resolution, job in ((300, "dot.pcl"), (300, "two.pcl"), (600, "fine.pcl"), (300, "empty.pcl")):
             compare_certificates(runner, resolution, certificate_format, job)
