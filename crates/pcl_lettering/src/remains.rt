@@ -6,7 +6,7 @@ ghost use Rattle.pcl_bitmap.specs.Bitmap.{IsPicture};
 use crate::corners::{bits_of, corner_of, page_from};
 use crate::rule_writing::{RulePen, append_rules, sparse_rules};
 use crate::shortening::shortened;
-use pcl_bitmap::{Bitmap, Page};
+use pcl_bitmap::{Bitmap, Page, trimmed_len};
 use pcl_patterns::{Ink, Letter, Letters, Patterns, Place, stamp};
 use pcl_plan::plan;
 use pcl_shapes::{Rule, erase_rules};
@@ -159,14 +159,13 @@ fn paint_without(
 {
     let row_bytes = bitmap.size().row_bytes(bitmap.dpi());
     let band_bytes = row_bytes.saturating_mul(BAND_ROWS as usize).max(1);
-    let white = vec![in alloc; 0u8; row_bytes]?;
     let mut bytes = Vec::new(alloc);
     let mut top: u32 = 0;
     for band in whole.bytes().chunks(band_bytes) {
         bytes.clear();
         bytes.extend_from_slice(band)?;
         whiten(&mut bytes, row_bytes, top, taken);
-        paint(&bytes, &white, top, bitmap);
+        paint(&bytes, row_bytes, top, bitmap);
         top = top.saturating_add(BAND_ROWS);
     }
     Ok(())
@@ -192,16 +191,16 @@ fn whiten(bytes: &mut [u8], row_bytes: usize, top: u32, taken: Taken<'_>) {
     }
 }
 
-/// Paints rows as long as a white one from row `top` on. White ones are passed over.
-fn paint(bytes: &[u8], white: &[u8], top: u32, bitmap: &mut Bitmap)
+/// Paints rows of this many bytes from row `top` on. White ones are passed over.
+fn paint(bytes: &[u8], row_bytes: usize, top: u32, bitmap: &mut Bitmap)
     ensures size { bitmap.new.size ≡ bitmap.old.size }
     ensures dpi { bitmap.new.dpi ≡ bitmap.old.dpi }
     ensures picture { IsPicture bitmap.new }
 {
     let page_width = bitmap.size().width(bitmap.dpi());
     let mut y = u64::from(top);
-    for row in bytes.chunks(white.len().max(1)) {
-        if row != white {
+    for row in bytes.chunks(row_bytes.max(1)) {
+        if trimmed_len(row) != 0 {
             bitmap.paint_row(0, y, 1, page_width.min(bits_of(row)), row);
         }
         y = y.saturating_add(1);
