@@ -6,6 +6,7 @@ ghost use Rattle.pcl_bitmap.specs.Bitmap.{IsPicture};
 use crate::corners::{bits_of, corner_of, page_from};
 use crate::rule_writing::{RulePen, append_rules, sparse_rules};
 use crate::shortening::shortened;
+use crate::sparing::are_surely_shorter;
 use pcl_bitmap::{Bitmap, Page, trimmed_len};
 use pcl_patterns::{Ink, Letter, Letters, Patterns, Place, stamp};
 use pcl_plan::plan;
@@ -100,11 +101,12 @@ fn rest_with(
     pen: RulePen,
 ) -> Result<Rest, AllocError> {
     let others = page_without(alloc, taken.with_rules(rules), page)?;
-    let spared = white_rows(&others.bitmap, rules);
+    let mut rectangles = Vec::new(alloc);
+    let pen = append_rules(alloc, rules, pen, taken.free_id, &mut rectangles)?;
+    let is_sure = rectangles.len() <= white_rows(&others.bitmap, rules)
+        || are_surely_shorter(alloc, &others.bitmap, rules, rectangles.len())?;
     let mut text = raster_text(alloc, others)?;
-    let start = text.len();
-    let pen = append_rules(alloc, rules, pen, taken.free_id, &mut text)?;
-    let is_sure = text.len().saturating_sub(start) <= spared;
+    text.extend_from_slice(&rectangles)?;
     Ok(Rest { text, pen, is_sure })
 }
 

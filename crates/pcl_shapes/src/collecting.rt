@@ -19,10 +19,13 @@ use std::marker::Model;
 const ITEM_LIMIT: usize = 4_000_000;
 
 /// After this many shapes, and one more for this many bytes of the texts of the pages, no further pages are looked at either: shapes
-/// of text take some twenty bytes each in a raster.
+/// of text take some thirty bytes each in a raster.
 const FIRST_ITEMS: usize = 65_536;
 
-const ITEM_BYTES: usize = 12;
+const ITEM_BYTES: usize = 24;
+
+/// What is kept of patterns may take a byte for this many of the texts of the pages, beside what is always allowed.
+const BYTES_FOR_PATTERNS: usize = 4;
 
 /// A shape on a page. Their order is that of printing: by pages, by lines, and from left to right.
 #[derive(Clone, Copy, PartialEq, Eq, PartialOrd, Ord)]
@@ -90,7 +93,7 @@ impl Collection {
     /// Makes room for the shapes of the page that comes, whose text takes this many bytes as a raster.
     pub fn add_room(&mut self, bytes: usize) {
         self.page_bytes = bytes;
-        self.patterns.add_room(bytes / 2);
+        self.patterns.add_room(bytes / BYTES_FOR_PATTERNS);
         let limit = self.item_limit.saturating_add(bytes / ITEM_BYTES);
         self.item_limit = limit.min(ITEM_LIMIT);
     }
