@@ -14,6 +14,7 @@ mod remains;
 mod rule_writing;
 mod series;
 mod shortening;
+mod sparing;
 
 pub use lettering::{Lettering, PageWriter};
 pub use macro_writing::END_RASTER;

@@ -6,7 +6,8 @@ ghost use Rattle.pcl_bitmap.specs.Bitmap.{IsPicture};
 use crate::corners::{bits_of, corner_of, page_from};
 use crate::rule_writing::{RulePen, append_rules, sparse_rules};
 use crate::shortening::shortened;
-use pcl_bitmap::{Bitmap, Page};
+use crate::sparing::are_surely_shorter;
+use pcl_bitmap::{Bitmap, Page, trimmed_len};
 use pcl_patterns::{Dot, Letter, Letters, Patterns, StampInk, stamp};
 use pcl_plan::plan;
 use pcl_shapes::{Rule, erase_rules};
@@ -116,11 +117,12 @@ fn rest_with(
     pen: RulePen,
 ) -> Result<Rest, AllocError> {
     let others = page_without(alloc, taken.with_rules(rules), page)?;
-    let spared = white_rows(&others.bitmap, rules);
+    let mut rectangles = Vec::new(alloc);
+    let pen = append_rules(alloc, rules, pen, taken.free_id, &mut rectangles)?;
+    let is_sure = rectangles.len() <= white_rows(&others.bitmap, rules)
+        || are_surely_shorter(alloc, &others.bitmap, rules, rectangles.len())?;
     let mut text = raster_text(alloc, others)?;
-    let start = text.len();
-    let pen = append_rules(alloc, rules, pen, taken.free_id, &mut text)?;
-    let is_sure = text.len().saturating_sub(start) <= spared;
+    text.extend_from_slice(&rectangles)?;
     Ok(Rest { text, pen, is_sure })
 }
 
@@ -175,14 +177,13 @@ fn paint_without(
 {
     let row_bytes = bitmap.size().row_bytes(bitmap.dpi());
     let band_bytes = row_bytes.saturating_mul(BAND_ROWS as usize).max(1);
-    let white = vec![in alloc; 0u8; row_bytes]?;
     let mut bytes = Vec::new(alloc);
     let mut top: u32 = 0;
     for band in whole.bytes().chunks(band_bytes) {
         bytes.clear();
         bytes.extend_from_slice(band)?;
         whiten(&mut bytes, row_bytes, top, taken);
-        paint(&bytes, &white, top, bitmap);
+        paint(&bytes, row_bytes, top, bitmap);
         top = top.saturating_add(BAND_ROWS);
     }
     Ok(())
@@ -208,16 +209,16 @@ fn whiten(bytes: &mut [u8], row_bytes: usize, top: u32, taken: Taken<'_>) {
     }
 }
 
-/// Paints rows as long as a white one from row `top` on. White ones are passed over.
-fn paint(bytes: &[u8], white: &[u8], top: u32, bitmap: &mut Bitmap)
+/// Paints rows of this many bytes from row `top` on. White ones are passed over.
+fn paint(bytes: &[u8], row_bytes: usize, top: u32, bitmap: &mut Bitmap)
     ensures size { bitmap.new.size ≡ bitmap.old.size }
     ensures dpi { bitmap.new.dpi ≡ bitmap.old.dpi }
     ensures picture { IsPicture bitmap.new }
 {
     let page_width = bitmap.size().width(bitmap.dpi());
     let mut y = u64::from(top);
-    for row in bytes.chunks(white.len().max(1)) {
-        if row != white {
+    for row in bytes.chunks(row_bytes.max(1)) {
+        if trimmed_len(row) != 0 {
             bitmap.paint_row(0, y, 1, page_width.min(bits_of(row)), row);
         }
         y = y.saturating_add(1);

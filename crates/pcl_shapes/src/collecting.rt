@@ -2,13 +2,15 @@
 
 use crate::baselines::{count_bottoms, guess_baseline};
 use crate::drawing::Drawings;
+use crate::page_rows::Unruled;
+use crate::pictures::is_picture;
 use crate::rows::append_rows;
-use crate::rules::{Rule, Rules, erase_rules, find_rules};
+use crate::rules::{Rules, find_rules};
 use crate::runs::{KeptRuns, RowWalk};
 use crate::screening::screen_shapes;
 use crate::shapes::{Extent, Shapes, find_shapes};
 use pcl_base::Dpi;
-use pcl_bitmap::{Bitmap, Page, PageSink};
+use pcl_bitmap::{Page, PageSink};
 use pcl_patterns::{Form, Pattern, Patterns, Row, number_of_place, short_number};
 use std::alloc::{AllocError, Global};
 use std::marker::Model;
@@ -17,10 +19,13 @@ use std::marker::Model;
 const SHAPE_LIMIT: usize = 4_000_000;
 
 /// After this many shapes, and one more for this many bytes of the texts of the pages, no further pages are looked at either: shapes
-/// of text take some twenty bytes each in a raster.
+/// of text take some thirty bytes each in a raster.
 const FIRST_SHAPES: usize = 65_536;
 
-const SHAPE_BYTES: usize = 12;
+const SHAPE_BYTES: usize = 24;
+
+/// What is kept of patterns may take a byte for this many of the texts of the pages, beside what is always allowed.
+const BYTES_FOR_PATTERNS: usize = 4;
 
 /// A shape on a page. Their order is that of printing: by pages, by lines, and from left to right.
 #[derive(Clone, Copy, PartialEq, Eq, PartialOrd, Ord)]
@@ -57,6 +62,8 @@ pub struct Collection {
     pub starts: Vec<usize>,
     /// How many shapes may be kept before a page is looked at.
     shape_limit: usize,
+    /// How many bytes the text of the page that comes takes as a raster.
+    page_bytes: usize,
 }
 
 impl Model for Collection {
@@ -79,12 +86,14 @@ impl Collection {
             rows: Vec::new(alloc),
             starts: Vec::new(alloc),
             shape_limit: FIRST_SHAPES,
+            page_bytes: 0,
         }
     }
 
-    /// Makes room for the shapes of a page whose text takes this many bytes as a raster.
+    /// Makes room for the shapes of the page that comes, whose text takes this many bytes as a raster.
     pub fn add_room(&mut self, bytes: usize) {
-        self.patterns.add_room(bytes / 2);
+        self.page_bytes = bytes;
+        self.patterns.add_room(bytes / BYTES_FOR_PATTERNS);
         let limit = self.shape_limit.saturating_add(bytes / SHAPE_BYTES);
         self.shape_limit = limit.min(SHAPE_LIMIT);
     }
@@ -113,20 +122,21 @@ impl Collection {
     /// Collects the rules of a page, and the shapes of what is left of it.
     fn collect_page(&mut self, page: &Page) -> Result<(), AllocError> {
         let rules = find_rules(*self.placed.allocator(), &page.bitmap)?;
-        if rules.is_empty() {
-            return self.collect(page);
-        }
         self.rules.add(&rules)?;
-        self.collect(&page_without(page, &rules)?)
+        self.collect(Unruled {
+            bitmap: &page.bitmap,
+            rules: &rules,
+        })
     }
 
     /// Collects the shapes of a page, and what its rows take where it has some.
-    fn collect(&mut self, page: &Page) -> Result<(), AllocError> {
+    fn collect(&mut self, page: Unruled<'_>) -> Result<(), AllocError> {
+        let alloc = *self.placed.allocator();
         let first = self.rows.len();
         let placed = self.placed.len();
-        let shapes = find_shapes(*self.placed.allocator(), &page.bitmap)?;
+        let shapes = find_shapes(alloc, page)?;
         if !shapes.extents.is_empty() {
-            append_rows(&page.bitmap, &mut self.rows)?;
+            append_rows(alloc, page, &mut self.rows)?;
             self.collect_found(page, &shapes, first)?;
         }
         if self.placed.len() == placed {
@@ -150,7 +160,7 @@ impl Collection {
     /// Collects the shapes of a page that were found, unless none of them can be a letter. The first row of the page is in this place.
     fn collect_found(
         &mut self,
-        page: &Page,
+        page: Unruled<'_>,
         shapes: &Shapes,
         first: usize,
     ) -> Result<(), AllocError> {
@@ -171,33 +181,32 @@ impl Collection {
     /// Collects those shapes of a page that don't stay where they are.
     fn collect_shapes(
         &mut self,
-        page: &Page,
+        page: Unruled<'_>,
         shapes: &Shapes,
         stay: &[bool],
         first: usize,
     ) -> Result<(), AllocError> {
         let alloc = *self.placed.allocator();
         let scale = self.form.scale();
-        let height = page.size.height(page.dpi);
-        let bottoms = count_bottoms(alloc, height, &shapes.extents, scale)?;
+        let bottoms = count_bottoms(alloc, page.height(), &shapes.extents, scale)?;
         let mut drawings = Drawings::new(alloc, shapes, stay, scale)?;
-        self.collect_rows(&page.bitmap, &shapes.runs, first, &mut drawings, &bottoms)
+        self.collect_rows(page, &shapes.runs, first, &mut drawings, &bottoms)
     }
 
     /// Draws the shapes of a page with these runs, of whose rows the first is in this place, and collects them. This many shapes end above
     /// each of its rows.
     fn collect_rows(
         &mut self,
-        bitmap: &Bitmap,
+        page: Unruled<'_>,
         runs: &KeptRuns,
         first: usize,
         drawings: &mut Drawings<'_>,
         bottoms: &[u32],
     ) -> Result<(), AllocError> {
         let start = self.placed.len();
-        let mut walk = RowWalk::new(*self.placed.allocator());
-        for y in 0..bitmap.size().height(bitmap.dpi()) {
-            let others = draw_row(bitmap, runs, y, &mut walk, drawings)?;
+        let mut walk = RowWalk::new(*self.placed.allocator(), page);
+        for y in 0..page.height() {
+            let others = draw_row(runs, y, &mut walk, drawings)?;
             count_others(&mut self.rows, first.saturating_add(y as usize), others);
             self.collect_whole(short_number(y), first, drawings, bottoms)?;
         }
@@ -249,18 +258,6 @@ impl Collection {
     }
 }
 
-/// A page without the dots of rules.
-fn page_without(page: &Page, rules: &[Rule]) -> Result<Page, AllocError> {
-    let mut bitmap = page.bitmap.clone()?;
-    erase_rules(rules, &mut bitmap);
-    Ok(Page {
-        size: page.size,
-        copies: page.copies,
-        dpi: page.dpi,
-        bitmap,
-    })
-}
-
 /// How letters of pages of this many dots per inch are printed.
 fn form_at(dpi: Dpi) -> Form {
     match dpi {
@@ -272,16 +269,15 @@ fn form_at(dpi: Dpi) -> Form {
 /// Draws row `y` of a page, the next one, and counts the runs of shapes that aren't drawn and don't stay. Its runs are found once more
 /// where they aren't kept.
 fn draw_row(
-    bitmap: &Bitmap,
     runs: &KeptRuns,
     y: u32,
-    walk: &mut RowWalk,
+    walk: &mut RowWalk<'_>,
     drawings: &mut Drawings<'_>,
 ) -> Result<u16, AllocError> {
     match runs.row(y) {
         Some(runs) => drawings.draw_row(short_number(y), runs),
         None => {
-            walk.step(bitmap, y)?;
+            walk.step(y)?;
             drawings.draw_row(short_number(y), &walk.runs)
         }
     }
@@ -320,7 +316,7 @@ impl PageSink for Collection {
 
     fn page(&mut self, page: &Page) -> Result<(), AllocError> {
         let first = self.rows.len();
-        if self.placed.len() < self.shape_limit {
+        if self.placed.len() < self.shape_limit && !is_picture(&page.bitmap, self.page_bytes) {
             self.collect_page(page)?;
         }
         self.end_page(page, first)

@@ -1,6 +1,6 @@
 //! Dots of rows.
 
-use pcl_bitmap::Bitmap;
+use pcl_bitmap::{Bitmap, first_difference};
 
 /// Row `y` of a page: nothing past the lowest one.
 pub fn row_at(bitmap: &Bitmap, y: u32) -> &[u8] {
@@ -9,6 +9,11 @@ pub fn row_at(bitmap: &Bitmap, y: u32) -> &[u8] {
     } else {
         &[]
     }
+}
+
+/// Whether two rows are the same.
+pub fn are_equal(row: &[u8], other: &[u8]) -> bool {
+    row.len() == other.len() && first_difference(row, other) == row.len()
 }
 
 /// How many dots of a row are black, from the dot `start` up to the one before `end`. Dots past the row are white.

@@ -1,6 +1,6 @@
 //! Rules that go from left to right.
 
-use crate::dots::{black_dots, row_at};
+use crate::dots::{are_equal, black_dots, row_at};
 use crate::edges::append_edges;
 use crate::rules::{RULE_LIMIT, Rule, is_border, is_slender, least_length};
 use pcl_bitmap::Bitmap;
@@ -66,7 +66,7 @@ impl<'a> LevelFinder<'a> {
     /// Goes on to row `y`, the next one, and appends the rules that end above it. A row like the one above ends none.
     fn step(&mut self, y: u32, rules: &mut Vec<Rule>) -> Result<(), AllocError> {
         let row = row_at(self.bitmap, y);
-        if row == row_above(self.bitmap, y) {
+        if are_equal(row, row_above(self.bitmap, y)) {
             return Ok(());
         }
         self.find_runs(row, y)?;

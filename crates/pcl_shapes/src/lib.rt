@@ -10,6 +10,8 @@ mod dots;
 mod drawing;
 mod edges;
 mod level_rules;
+mod page_rows;
+mod pictures;
 mod rows;
 mod rules;
 mod runs;
@@ -19,5 +21,7 @@ mod upright_rules;
 mod words;
 
 pub use collecting::{Collection, PlacedShape};
+pub use dots::are_equal;
 pub use edges::append_edges;
+pub use rows::row_bytes;
 pub use rules::{Rule, Rules, erase_rules};

@@ -1,29 +1,37 @@
 //! What the rows of pages take in rasters.
 
+use crate::dots::are_equal;
+use crate::page_rows::{PageRows, Unruled};
 use crate::words::{first_bytes, inked_bytes, padded_word};
 use pcl_base::ROW_LIMIT;
-use pcl_bitmap::Bitmap;
 use pcl_patterns::Row;
 use std::alloc::{AllocError, Global};
 
 /// Appends the rows of a page, and the white one below them.
-pub fn append_rows(bitmap: &Bitmap, rows: &mut Vec<Row>) -> Result<(), AllocError> {
-    let mut above: &[u8] = &[];
-    for y in 0..bitmap.size().height(bitmap.dpi()) {
-        let row = bitmap.row(y);
-        let bytes = if row == above {
-            0
-        } else {
-            data_bytes(above, row)
-        };
-        rows.push(Row::of(bytes))?;
-        above = row;
+pub fn append_rows(
+    alloc: Global,
+    page: Unruled<'_>,
+    rows: &mut Vec<Row>,
+) -> Result<(), AllocError> {
+    let mut reader = PageRows::new(alloc, page);
+    for y in 0..page.height() {
+        reader.read(y)?;
+        rows.push(Row::of(row_bytes(&reader.above, &reader.row)))?;
     }
     rows.push(Row::of(0))?;
     Ok(())
 }
 
 /// About how many bytes the data of a row take. The row above is empty above the topmost one.
+pub fn row_bytes(above: &[u8], row: &[u8]) -> u32 {
+    if are_equal(row, above) {
+        0
+    } else {
+        data_bytes(above, row)
+    }
+}
+
+/// The same of a row that isn't the one above.
 fn data_bytes(above: &[u8], row: &[u8]) -> u32 {
     let white = [0; ROW_LIMIT];
     let above = if above.is_empty() {

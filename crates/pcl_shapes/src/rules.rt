@@ -33,6 +33,11 @@ pub struct Rule {
 }
 
 impl Rule {
+    /// Whether it has dots in row `y`.
+    pub fn is_in_row(self, y: u32) -> bool {
+        self.top <= y && y < self.top.saturating_add(self.height)
+    }
+
     /// Whether all of another rectangle is in it.
     pub fn covers(self, other: Rule) -> bool {
         self.left <= other.left

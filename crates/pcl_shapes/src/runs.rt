@@ -1,8 +1,9 @@
 //! Runs of black dots in the rows of a page, and which of them hang together.
 
 use crate::edges::{append_edges, count_runs};
+use crate::page_rows::{PageRows, Unruled};
 use pcl_base::Dpi;
-use pcl_bitmap::Bitmap;
+use pcl_bitmap::trimmed_len;
 use std::alloc::{AllocError, Global};
 use std::mem::swap;
 
@@ -92,7 +93,9 @@ impl KeptRuns {
 /// Goes over the rows of a page from the topmost one on, and passes over those that are white or crowded. Labels are numbered in the order
 /// of their first runs, and each walk over a page gives its runs the same.
 #[derive(Drop)]
-pub struct RowWalk {
+pub struct RowWalk<'a> {
+    rows: PageRows<'a>,
+    dpi: Dpi,
     /// The runs of the row, from left to right.
     pub runs: Vec<BlackRun>,
     /// The labels that hang together by this row and the one above.
@@ -106,10 +109,12 @@ pub struct RowWalk {
     labels: u32,
 }
 
-impl RowWalk {
-    /// Above the topmost row.
-    pub fn new(alloc: Global) -> RowWalk {
+impl<'a> RowWalk<'a> {
+    /// Above the topmost row of a page.
+    pub fn new(alloc: Global, page: Unruled<'a>) -> RowWalk<'a> {
         RowWalk {
+            rows: PageRows::new(alloc, page),
+            dpi: page.dpi(),
             runs: Vec::new(alloc),
             links: Vec::new(alloc),
             above: Vec::new(alloc),
@@ -119,33 +124,30 @@ impl RowWalk {
         }
     }
 
-    /// Goes on to row `y` of a page, the next one. The runs of a row like the one above are its runs: each touches the one above it, and
+    /// Goes on to row `y`, the next one. The runs of a row like the one above are its runs: each touches the one above it, and
     /// no other.
-    pub fn step(&mut self, bitmap: &Bitmap, y: u32) -> Result<(), AllocError> {
+    pub fn step(&mut self, y: u32) -> Result<(), AllocError> {
         self.links.clear();
-        if y >= bitmap.size().height(bitmap.dpi())
-            || self.is_full(bitmap.dpi())
-            || bitmap.is_blank(y)
-            || is_crowded(bitmap.row(y))
-        {
+        self.rows.read(y)?;
+        if self.is_full() || is_passed_over(&self.rows.row) {
             swap(&mut self.above, &mut self.runs);
             self.runs.clear();
             return Ok(());
         }
-        if !is_like_above(bitmap, y) {
+        if !self.rows.is_again() {
             swap(&mut self.above, &mut self.runs);
             self.runs.clear();
             self.edges.clear();
-            append_edges(bitmap.row(y), &mut self.edges)?;
+            append_edges(&self.rows.row, &mut self.edges)?;
             self.label_runs()?;
         }
         self.count = self.count.saturating_add(self.runs.len());
         Ok(())
     }
 
-    /// Whether no further runs of a page of this many dots per inch are looked for.
-    fn is_full(&self, dpi: Dpi) -> bool {
-        self.count >= RUN_LIMIT || self.labels >= label_limit(dpi)
+    /// Whether no further runs of the page are looked for.
+    fn is_full(&self) -> bool {
+        self.count >= RUN_LIMIT || self.labels >= label_limit(self.dpi)
     }
 
     /// Labels the runs of the row that has these edges.
@@ -168,19 +170,14 @@ impl RowWalk {
     }
 }
 
+/// Whether no runs of a row are looked for.
+fn is_passed_over(row: &[u8]) -> bool {
+    trimmed_len(row) == 0 || is_crowded(row)
+}
+
 /// Whether a row has more runs than one for eight dots, as no row of text or of a printed picture has: a picture's dots are hundreds there.
 fn is_crowded(row: &[u8]) -> bool {
     count_runs(row) as usize > row.len()
-}
-
-/// Whether a row of a page is the one above once more.
-fn is_like_above(bitmap: &Bitmap, y: u32) -> bool {
-    match y.checked_sub(1) {
-        Some(above) => {
-            y < bitmap.size().height(bitmap.dpi()) && bitmap.row(above) == bitmap.row(y)
-        }
-        None => false,
-    }
 }
 
 /// The place of the first run of the row above, from a place on, that doesn't end left of the dot diagonally above this one.

@@ -1,7 +1,7 @@
 //! Shapes of a page: black dots that hang together, each the neighbour of another in one of eight directions.
 
+use crate::page_rows::Unruled;
 use crate::runs::{BlackRun, KeptRuns, Link, RowWalk};
-use pcl_bitmap::Bitmap;
 use pcl_patterns::{number_of_place, short_number};
 use std::alloc::{AllocError, Global};
 
@@ -63,28 +63,27 @@ impl Shapes {
 }
 
 /// The shapes of a page. A run that touches one of the row above is of its shape.
-pub fn find_shapes(alloc: Global, bitmap: &Bitmap) -> Result<Shapes, AllocError> {
-    let mut walk = RowWalk::new(alloc);
+pub fn find_shapes(alloc: Global, page: Unruled<'_>) -> Result<Shapes, AllocError> {
+    let mut walk = RowWalk::new(alloc, page);
     let mut labels = Labels {
         parents: Vec::new(alloc),
         extents: Vec::new(alloc),
     };
-    let mut runs = KeptRuns::new(alloc, bitmap.dpi());
-    for y in 0..bitmap.size().height(bitmap.dpi()) {
-        find_in_row(bitmap, y, &mut walk, &mut labels, &mut runs)?;
+    let mut runs = KeptRuns::new(alloc, page.dpi());
+    for y in 0..page.height() {
+        find_in_row(y, &mut walk, &mut labels, &mut runs)?;
     }
     Ok(labels.into_shapes(runs))
 }
 
 /// Labels the runs of row `y`, the next one, and keeps them.
 fn find_in_row(
-    bitmap: &Bitmap,
     y: u32,
-    walk: &mut RowWalk,
+    walk: &mut RowWalk<'_>,
     labels: &mut Labels,
     runs: &mut KeptRuns,
 ) -> Result<(), AllocError> {
-    walk.step(bitmap, y)?;
+    walk.step(y)?;
     labels.add_row(short_number(y), &walk.runs, &walk.links)?;
     runs.keep(&walk.runs)
 }

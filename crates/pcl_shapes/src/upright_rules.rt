@@ -3,7 +3,7 @@
 use crate::dots::{black_dots, row_at};
 use crate::edges::append_edges;
 use crate::rules::{RULE_LIMIT, Rule, is_border, is_slender, least_length};
-use pcl_bitmap::Bitmap;
+use pcl_bitmap::{Bitmap, trimmed_len};
 use std::alloc::{AllocError, Global};
 use std::mem::swap;
 
@@ -75,7 +75,7 @@ impl<'a> UprightFinder<'a> {
             for (common, byte) in self.common.iter_mut().zip(row_at(self.bitmap, y)) {
                 *common &= *byte;
             }
-            if self.common.iter().all(|byte| *byte == 0) {
+            if trimmed_len(&self.common) == 0 {
                 return Ok(false);
             }
         }

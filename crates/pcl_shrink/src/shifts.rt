@@ -3,8 +3,9 @@
 ghost use Rattle.pcl_shrink.specs.Outcome.{IsOutcome};
 
 use pcl_base::{Dpi, JobFault};
-use pcl_bitmap::Bitmap;
+use pcl_bitmap::{Bitmap, trimmed_len};
 use pcl_page::{Page, PageSink, perform};
+use pcl_shapes::are_equal;
 use std::alloc::{AllocError, Global};
 use std::marker::Model;
 
@@ -39,23 +40,35 @@ pub fn shift_at(shifts: &[Shift], number: usize) -> Shift {
 fn shift_of(bitmap: &Bitmap) -> Shift {
     let row_bytes = bitmap.size().row_bytes(bitmap.dpi()).max(1);
     let bytes = bitmap.bytes();
-    if !bytes.iter().all(|byte| is_doubled(*byte)) {
+    if !are_doubled(bytes) {
         return Shift::Other;
     }
     if are_pairs(bytes, row_bytes) {
         return Shift::Whole;
     }
     let (first, rest) = bytes.split_at(row_bytes.min(bytes.len()));
-    if first.iter().all(|byte| *byte == 0) && are_pairs(rest, row_bytes) {
+    if trimmed_len(first) == 0 && are_pairs(rest, row_bytes) {
         Shift::HalfLower
     } else {
         Shift::Other
     }
 }
 
-/// Whether each dot of a byte is there twice.
-fn is_doubled(byte: u8) -> bool {
-    (byte ^ (byte >> 1)) & 0x55 == 0
+/// The right one of each two dots of eight bytes.
+const RIGHT_DOTS: u64 = 0x5555_5555_5555_5555;
+
+/// Whether each dot of some bytes is there twice.
+fn are_doubled(bytes: &[u8]) -> bool {
+    let (words, rest) = bytes.as_chunks::<8>();
+    words
+        .iter()
+        .all(|word| is_doubled(u64::from_be_bytes(*word)))
+        && rest.iter().all(|byte| is_doubled(u64::from(*byte)))
+}
+
+/// Whether each dot of eight bytes is there twice.
+fn is_doubled(word: u64) -> bool {
+    (word ^ (word >> 1)) & RIGHT_DOTS == 0
 }
 
 /// Whether rows of this many bytes are each there twice; the last one may be there once.
@@ -69,7 +82,7 @@ fn are_pairs(bytes: &[u8], row_bytes: usize) -> bool {
 /// Whether two rows of this many bytes are the same, if there are two.
 fn is_pair(rows: &[u8], row_bytes: usize) -> bool {
     let (upper, lower) = rows.split_at(row_bytes.min(rows.len()));
-    lower.is_empty() || upper == lower
+    lower.is_empty() || are_equal(upper, lower)
 }
 
 /// Finds the shift of each page that comes.

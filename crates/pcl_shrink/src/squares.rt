@@ -6,7 +6,7 @@ ghost use Rattle.pcl_bitmap.specs.Bitmap.{IsPicture};
 use pcl_base::{Dpi, ROW_LIMIT};
 use pcl_bitmap::Bitmap;
 use pcl_page::Page;
-use pcl_shapes::append_edges;
+use pcl_shapes::{append_edges, are_equal};
 use std::alloc::{AllocError, Global};
 
 /// The number that all sides divide of squares of one ink each, from the upper left corner on, of which a page consists: 0 where it is
@@ -18,7 +18,7 @@ pub fn common_side(alloc: Global, bitmap: &Bitmap) -> Result<u32, AllocError> {
     let mut side = 0;
     for y in 0..bitmap.size().height(bitmap.dpi()) {
         let row = bitmap.row(y);
-        if row != above {
+        if !are_equal(row, above) {
             edges.clear();
             append_edges(row, &mut edges)?;
             side = common_side_of_row(greatest_divisor(side, y), &edges, width);
