@@ -12,7 +12,7 @@ pub record Exit : Type 0 where
   pub lines : List ℕ
 
 -- What each ejected page was asked with and the universal exits that were performed, both in order; how the next page would begin; whether
--- something counts on what stays in the printer or changes it; and where that is so, the bytes of the job.
+-- something counts on what stays in the printer, changes it, or ejects a page on some printers; and where that is so, the bytes of the job.
 pub record Asks : Type 0 where
   pub pages : List AskedPage
   pub exits : List Exit
@@ -46,7 +46,7 @@ restarted asks = record asks { next = first_page }
 abbrev pub with_side : ℤ → Asks → Asks
 with_side side asks = record asks { next = record asks.next { sheet_side = Some side } }
 
--- something counts on what stays in the printer or changes it, where the test holds
+-- something counts on what stays in the printer, changes it, or ejects a page on some printers, where the test holds
 abbrev pub lasting_if : Bool → Asks → Asks
 lasting_if test asks = record asks { lasts = asks.lasts || test }
 

@@ -4,7 +4,8 @@ use Rattle.std.specs.Option.{option_and_then}
 use Rattle.pcl_base.specs.declared.dpi.Dpi.{Dpi}
 use Rattle.pcl_base.specs.declared.kind.Kind.{Kind}
 use Rattle.pcl_base.specs.declared.kind.Kind.TheVariants.{UnsupportedCommand, UnsupportedValue, TooManyCommands, TooManyPages}
-use Rattle.pcl_base.specs.declared.operation.Asking.TheVariants.{SheetSide}
+use Rattle.pcl_base.specs.declared.operation.Asking.{Asking}
+use Rattle.pcl_base.specs.declared.operation.Asking.TheVariants.{Sides, MediaType, SheetSide}
 use Rattle.pcl_base.specs.declared.operation.Operation.{Operation}
 use Rattle.pcl_base.specs.declared.operation.Operation.TheVariants.{Reset, UniversalExit, Ask, FillRectangle, ControlFonts, DownloadFont, DownloadCharacter, SelectFont, PrintText, StartRaster, RasterOffset, RasterRow}
 use Rattle.pcl_base.specs.declared.size.Size.{Size}
@@ -202,9 +203,12 @@ exited lines s = record s { asks = with_exit (record { pages = length s.pages; l
 abbrev pub put_back : Situation → Situation
 put_back s = without_temporary (record s { asks = restarted s.asks })
 
--- the next page is asked for on this side of a sheet
-abbrev pub asked_on : ℤ → Situation → Situation
-asked_on side s = record s { asks = with_side side s.asks }
+-- the next page is asked for on this side of a sheet; sides and a media type eject a marked page on some printers
+abbrev pub asked_for : Asking → Value → Situation → Situation
+asked_for SheetSide value s = record s { asks = with_side (signed_whole value) s.asks }
+asked_for Sides value s = with_lasting (is_marked s) s
+asked_for MediaType value s = with_lasting (is_marked s) s
+asked_for other value s = s
 
 -- ---- what a command draws
 
@@ -212,7 +216,7 @@ asked_on side s = record s { asks = with_side side s.asks }
 abbrev pub drawn : Dpi → Operation → Said → Situation → Situation
 drawn dpi Reset command s = put_back s
 drawn dpi UniversalExit command s = put_back (exited command.bytes s)
-drawn dpi (Ask SheetSide) command s = asked_on (signed_whole command.value) s
+drawn dpi (Ask what) command s = asked_for what command.value s
 drawn dpi ControlFonts command s = fonts_controlled (control_of command.value) s
 drawn dpi DownloadFont command s = with_font command.bytes s
 drawn dpi DownloadCharacter command s = with_character command.bytes s

@@ -56,8 +56,8 @@ pub struct Asks<'a> {
     pub exits: Vec<Exit<'a>>,
     /// How the next page would begin.
     pub next: PageStart,
-    /// Whether a command counts on fonts or macros that stay in the printer, or changes these (docs/LANGUAGE.md, "What stays in the
-    /// printer").
+    /// Whether a command counts on fonts or macros that stay in the printer, or changes these, or ejects a page on some printers
+    /// (docs/LANGUAGE.md, "What stays in the printer").
     pub lasts: bool,
     /// Where it does, the bytes of the job, as far as these are known; else none.
     pub whole: &'a [u8],
@@ -111,7 +111,7 @@ impl<'a> Asks<'a> {
         self.next.sheet_side = Some(side);
     }
 
-    /// Where the test holds, a command counts on what stays in the printer, or changes it.
+    /// Where the test holds, a command counts on what stays in the printer, or changes it, or ejects a page on some printers.
     pub(crate) fn last_if(&mut self, test: bool)
         ensures { asks_of self.new ≡ lasting_if test (asks_of self.old) }
     {

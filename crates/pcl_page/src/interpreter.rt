@@ -3,6 +3,7 @@
 ghost use Rattle.std.specs.Prelude.{◌≡◌};
 
 use crate::PageSink;
+use crate::doubts::Doubts;
 use crate::macros::{Action, Keeping, action_of, keeping_of, macro_lasts};
 use crate::performer::Performer;
 use arrayvec::ArrayVec;
@@ -49,12 +50,12 @@ impl<'a> Interpreter<'a> {
     ghost use Rattle.pcl_page.specs.inner.Reflecting.{EndDone};
     ghost use Rattle.pcl_page.specs.inner.Unfolding.{IsAt, IsSomewhere, resumed, begun_among, work_left, GoesOn, IsStepped, IsActed, IsEntered, InterpreterEnds, IsAsking};
 
-    /// The start of a job.
-    pub fn new(alloc: Global, dpi: Dpi) -> Result<Interpreter<'a>, AllocError>
+    /// The start of a job. What is looked for of what printers may read otherwise is given.
+    pub fn new(alloc: Global, dpi: Dpi, doubts: Doubts) -> Result<Interpreter<'a>, AllocError>
         ensures { IfOk result (λ interpreter. IsAt dpi at_begin interpreter × (interpreter.running.items ≡ [])) }
     {
         Ok(Interpreter {
-            performer: Performer::new(alloc, dpi)?,
+            performer: Performer::new(alloc, dpi, doubts)?,
             macros: Macros::new(alloc),
             running: ArrayVec::new(),
         })

@@ -12,6 +12,7 @@ ghost use Rattle.pcl_page.specs.Jobs.{HasPages, HasAsks};
 ghost use Rattle.pcl_page.specs.Delivering.{IsRefusal, Delivers, DeliversAsked, IsPagesOf};
 
 use crate::asks::Asks;
+use crate::doubts::{Doubt, Doubts};
 use crate::interpreter::Interpreter;
 use crate::{Page, PageSink};
 use pcl_base::{Dpi, JobFault};
@@ -46,22 +47,25 @@ pub fn run_asked<'a, S: PageSink>(
 ) -> Result<Asks<'a>, JobFault>
     ensures { HandsOverAsked S.takes dpi (performance dpi end (views commands.now)) result sink.old sink.new }
 {
-    run_list(alloc, &commands, end, dpi, sink)
+    let mut doubts = Doubts::new(false);
+    run_list(alloc, &commands, end, dpi, &mut doubts, sink)
 }
 
-/// The same for any list of commands.
+/// The same for any list of commands, with what printers may read otherwise.
 fn run_list<'a, L: CommandList<'a>, S: PageSink>(
     alloc: Global,
     commands: &L,
     end: usize,
     dpi: Dpi,
+    doubts: &mut Doubts,
     sink: &mut S,
 ) -> Result<Asks<'a>, JobFault>
     ensures { HandsOverAsked S.takes dpi (performance dpi end (L.commands commands.now)) result sink.old sink.new }
 {
-    let mut interpreter: Interpreter<'a> = Interpreter::new(alloc, dpi)?;
+    let mut interpreter: Interpreter<'a> = Interpreter::new(alloc, dpi, doubts.again())?;
     interpreter.perform_all(commands, end, dpi, sink)?;
     let performer = interpreter.performer;
+    *doubts = performer.doubts;
     Ok(performer.asks)
 }
 
@@ -89,8 +93,39 @@ pub fn perform_asked<'a, S: PageSink>(
 ) -> Result<Asks<'a>, JobFault>
     ensures { DeliversAsked S.takes dpi job.now result sink.old sink.new }
 {
+    let mut doubts = Doubts::new(false);
+    perform_with(alloc, job, dpi, &mut doubts, sink)
+}
+
+/// The same as [`perform_asked`], with the first thing in the job that printers may read otherwise, if there is one. Nothing is promised
+/// of that.
+pub fn perform_doubted<'a, S: PageSink>(
+    alloc: Global,
+    job: &'a [u8],
+    dpi: Dpi,
+    doubt: &mut Option<Doubt>,
+    sink: &mut S,
+) -> Result<Asks<'a>, JobFault>
+    ensures { DeliversAsked S.takes dpi job.now result sink.old sink.new }
+{
+    let mut doubts = Doubts::new(true);
+    let asks = perform_with(alloc, job, dpi, &mut doubts, sink)?;
+    *doubt = doubts.first;
+    Ok(asks)
+}
+
+/// The same as [`perform_asked`], with what printers may read otherwise, if that is looked for.
+fn perform_with<'a, S: PageSink>(
+    alloc: Global,
+    job: &'a [u8],
+    dpi: Dpi,
+    doubts: &mut Doubts,
+    sink: &mut S,
+) -> Result<Asks<'a>, JobFault>
+    ensures { DeliversAsked S.takes dpi job.now result sink.old sink.new }
+{
     let commands = read_commands(alloc, job)?;
-    let asks = run_list(alloc, &commands, job.len(), dpi, sink)?;
+    let asks = run_list(alloc, &commands, job.len(), dpi, doubts, sink)?;
     Ok(asks.of_job(job))
 }
 

@@ -5,6 +5,7 @@ ghost use Rattle.pcl_base.specs.Limits.{copies_limit};
 ghost use Rattle.pcl_page.specs.Raster.{rows_in};
 
 use crate::asks::Asks;
+use crate::doubts::{Doubts, is_home};
 use crate::raster::{Raster, ends_raster, is_ignored_in_raster};
 use crate::{Page, PageSink};
 use pcl_base::{
@@ -37,6 +38,8 @@ pub struct Performer<'a> {
     pub performed: u32,
     /// What the ejected pages were asked with, and the universal exits.
     pub asks: Asks<'a>,
+    /// What printers may read otherwise.
+    pub doubts: Doubts,
     /// Where pages and rasters take their memory.
     pub alloc: Global,
     ghost few_pages: { ejected ≤ 256 },
@@ -53,7 +56,7 @@ impl<'a> Performer<'a> {
     ghost use Rattle.pcl_base.specs.declared.dpi.Dpi.{Dpi};
     ghost use Rattle.pcl_escape.specs.Said.{Said, view};
     ghost use Rattle.pcl_env.specs.Outcome.{outcome};
-    ghost use Rattle.pcl_page.specs.Situation.{Situation, at_begin, is_marked, drawn, draw_refusal, ink_of, filled_with, rectangle_mark, skipped_in, exited, put_back, with_lasting};
+    ghost use Rattle.pcl_page.specs.Situation.{Situation, at_begin, is_marked, drawn, draw_refusal, asked_for, ink_of, filled_with, rectangle_mark, skipped_in, exited, put_back, with_lasting};
     ghost use Rattle.pcl_page.specs.Macros.{macro_ended};
     ghost use Rattle.std.specs.Prelude.{List};
     ghost use Rattle.pcl_fonts.specs.History.{FontEvent, has_permanent};
@@ -64,7 +67,7 @@ impl<'a> Performer<'a> {
     ghost use Rattle.pcl_page.specs.inner.Reflecting.{IsIn, IsPrepared, HasRaster, Takes, IsFollowed, IsEjected, IsDrawn, Draws, IsSent, IsTurned, IsTried, EndDone};
 
     /// The start of a job: a white page, and the defaults.
-    pub fn new(alloc: Global, dpi: Dpi) -> Result<Performer<'a>, AllocError>
+    pub fn new(alloc: Global, dpi: Dpi, doubts: Doubts) -> Result<Performer<'a>, AllocError>
         ensures { IfOk result (λ performer. IsIn dpi at_begin performer) }
     {
         let environment = Env::new();
@@ -83,6 +86,7 @@ impl<'a> Performer<'a> {
             ejected: 0,
             performed: 0,
             asks: Asks::new(alloc),
+            doubts,
             alloc,
         })
     }
@@ -128,6 +132,7 @@ impl<'a> Performer<'a> {
             return;
         }
         if let Some(raster) = &self.raster {
+            self.doubts.note_end(raster);
             let (x, y) = raster.below(dpi);
             self.environment.move_to(x, y);
         }
@@ -159,12 +164,20 @@ impl<'a> Performer<'a> {
         let size = self.environment.size();
         let copies = self.environment.copies();
         let asked = self.environment.asked();
+        let was_home = is_home(&self.environment);
         let Ok(effect) = self
             .environment
             .apply(operation, value, self.is_marked, dpi)
         else {
             return Err(CallFault::Refused(Kind::UnsupportedValue));
         };
+        self.doubts.note_command(
+            operation,
+            value,
+            &self.environment,
+            self.is_marked,
+            was_home,
+        );
         if ejects(effect, self.is_marked) {
             if self.ejected >= PAGE_LIMIT {
                 return Err(CallFault::Refused(Kind::TooManyPages));
@@ -193,6 +206,7 @@ impl<'a> Performer<'a> {
         sink.page(&self.page)?;
         self.page.bitmap.clear();
         self.is_marked = false;
+        self.doubts.note_ejection();
         self.ejected += 1;
         self.environment.new_page();
         Ok(())
@@ -229,9 +243,7 @@ impl<'a> Performer<'a> {
         match operation {
             Operation::Reset => self.put_back(),
             Operation::UniversalExit => self.leave(command.bytes)?,
-            Operation::Ask(Asking::SheetSide) => {
-                self.asks.ask_side(i64::from(command.value.whole()));
-            }
+            Operation::Ask(what) => self.ask(what, command.value),
             Operation::ControlFonts => return self.control_fonts(command.value),
             Operation::DownloadFont => return self.download_font(command.bytes),
             Operation::DownloadCharacter => return self.download_character(command.bytes),
@@ -244,6 +256,18 @@ impl<'a> Performer<'a> {
             _ => {}
         }
         Ok(())
+    }
+
+    /// Does what an asking does besides what it sets.
+    fn ask(&mut self, what: Asking, value: Value)
+        ensures { (dpi : Dpi) (s : Situation) → IsIn dpi s self.old → IsIn dpi (asked_for what value s) self.new }
+    {
+        match what {
+            Asking::SheetSide => self.asks.ask_side(i64::from(value.whole())),
+            Asking::Sides => self.last_if(self.is_marked),
+            Asking::MediaType => self.last_if(self.is_marked),
+            Asking::OutputBin | Asking::PaperSource | Asking::PageLength => {}
+        }
     }
 
     /// Does what a universal exit with these lines does but for the reset of the settings.
@@ -264,7 +288,7 @@ impl<'a> Performer<'a> {
         self.delete_temporary_fonts();
     }
 
-    /// Notes that a command counts on what stays in the printer or changes it, where the test holds.
+    /// Notes that a command counts on what stays in the printer or changes it, or ejects a page on some printers, where the test holds.
     pub fn last_if(&mut self, test: bool)
         ensures situation { (dpi : Dpi) (s : Situation) → IsIn dpi s self.old → IsIn dpi (with_lasting test s) self.new }
         ensures rest { self.new.performed ≡ self.old.performed }
@@ -292,6 +316,8 @@ impl<'a> Performer<'a> {
         ensures drawn { IsDrawn (rectangle_mark dpi ink self.old.environment) self.old self.new }
         ensures raster { self.new.raster ≡ self.old.raster }
     {
+        self.doubts
+            .note_rectangle(ink, &self.environment, self.is_marked, dpi);
         let unit = u64::from(dpi.unit());
         let width = self.environment.rectangle_width().div_ceil(unit);
         let height = self.environment.rectangle_height().div_ceil(unit);
@@ -310,6 +336,8 @@ impl<'a> Performer<'a> {
             0 => 0,
             _ => self.environment.x() / dpi.unit(),
         };
+        self.doubts
+            .note_start(left, &self.environment, value.whole() != 0, dpi);
         self.raster = Some(Raster::start(self.alloc, left, &self.environment, dpi)?);
         Ok(())
     }
@@ -320,7 +348,9 @@ impl<'a> Performer<'a> {
         ensures { HasRaster (skipped_in (whole_of value) self.old.raster) self.old self.new }
     {
         if let Some(raster) = &mut self.raster {
-            raster.skip(value.whole().unsigned_abs());
+            let count = value.whole().unsigned_abs();
+            self.doubts.note_skip(count, raster);
+            raster.skip(count);
         }
     }
 
@@ -331,6 +361,8 @@ impl<'a> Performer<'a> {
     {
         let size = self.environment.size();
         self.follow_size(size)?;
+        self.doubts
+            .note_row(bytes, self.raster.as_ref(), &self.environment, dpi);
         let mut raster = match self.raster.take() {
             Some(raster) => raster,
             None => Raster::start(self.alloc, 0, &self.environment, dpi)?,

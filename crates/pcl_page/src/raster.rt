@@ -125,6 +125,25 @@ impl Raster {
         (u64::from(left) * unit, row * unit)
     }
 
+    /// Whether it has fewer rows than its height.
+    pub fn is_short(&self) -> bool {
+        self.height.is_some() && self.is_below_height()
+    }
+
+    /// Whether its next row is the last of a page of this height, or below it.
+    pub fn reaches(&self, height: u32) -> bool {
+        let rows = self
+            .rows
+            .saturating_add(1)
+            .saturating_mul(u64::from(self.scale));
+        rows.saturating_add(u64::from(self.top)) >= u64::from(height)
+    }
+
+    /// Whether the seed row has dots.
+    pub fn has_seed(&self) -> bool {
+        self.seed.iter().any(|byte| *byte != 0)
+    }
+
     /// A count of rows, which stops at the height.
     fn counted(&self, rows: u64) -> u64
         ensures { result ≡ counted_to self.now.height rows }

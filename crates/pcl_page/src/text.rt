@@ -115,7 +115,7 @@ impl<'a> Performer<'a> {
             self.follow_size(size)?;
             self.ink_glyph(glyph, here, dpi);
         }
-        self.pass_glyph(glyph, proportional);
+        self.pass_glyph(glyph, proportional, dpi);
         Ok(())
     }
 
@@ -125,6 +125,8 @@ impl<'a> Performer<'a> {
         ensures drawn { IsDrawn (character_at dpi (character_in glyph.now) here.x here.y) self.old self.new }
         ensures raster { self.new.raster ≡ self.old.raster }
     {
+        self.doubts
+            .note_ink(glyph, &self.environment, self.is_marked);
         let x = right_of(here.x, glyph.left, dpi);
         let y = above(here.y, glyph.top, dpi);
         let scale = fineness(dpi);
@@ -135,9 +137,11 @@ impl<'a> Performer<'a> {
     }
 
     /// Moves on after a character.
-    fn pass_glyph(&mut self, glyph: &Glyph<'a>, proportional: bool)
+    fn pass_glyph(&mut self, glyph: &Glyph<'a>, proportional: bool, dpi: Dpi)
         ensures { HasSettings (behind_character proportional (character_in glyph.now) self.old.environment) self.old self.new }
     {
+        self.doubts
+            .note_character(glyph, &self.environment, proportional, dpi);
         let units = if proportional {
             i64::from(glyph.delta) * QUARTER_DOT
         } else {
@@ -150,6 +154,7 @@ impl<'a> Performer<'a> {
     fn pass_blank(&mut self, code: u8)
         ensures { HasSettings (behind_blank code self.old.environment) self.old self.new }
     {
+        self.doubts.note_blank(code == SPACE);
         if code == SPACE {
             let units = i64::from(self.environment.hmi());
             self.environment.advance(units);

@@ -23,3 +23,6 @@ returns-in_ok-send_row-in-RasterRow c = λ s i. rw c.in-RasterRow.is
 
 pub returns-in-Reset : goal.returns-in-Reset
 returns-in-Reset c = λ s i. rw c.in-Reset.is (refl, c.put_back.ensures c.args.dpi s i)
+
+pub returns-in-Ask : goal.returns-in-Ask
+returns-in-Ask c = λ s i. rw c.in-Ask.is (refl, c.ask.ensures c.args.dpi s i)

@@ -21,7 +21,19 @@ returns c =
     let dots = λ (x y : ℕ). rw (method, followed.settings, or_is) at (c.send.ensures.dots x y) in
     record {
       begun = old;
-      followed = followed;
+      followed = record {
+        settings = followed.settings;
+        raster = followed.raster;
+        marked = followed.marked;
+        ejected = followed.ejected;
+        fonts = followed.fonts;
+        performed = followed.performed;
+        asks = followed.asks;
+        size_is = followed.size_is;
+        resolution = followed.resolution;
+        same = followed.same;
+        white = followed.white;
+      };
       raster = raster;
       raster_is = rw (followed.raster, followed.settings) at is;
       sent = rw (c.send.ensures.raster, method, followed.settings) refl;

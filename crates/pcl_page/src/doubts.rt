@@ -1,0 +1,496 @@
+//! Where printers may read a job otherwise than docs/LANGUAGE.md (docs/SHRINK.md, "Where printers may read otherwise").
+//! Of these notes nothing is promised: pages and refusals don't turn on them.
+
+use crate::edges::SheetRows;
+use crate::raster::Raster;
+use pcl_base::{Asking, Axis, Dpi, Method, Operation, Side, Sign, Unit, Value};
+use pcl_bitmap::Ink;
+use pcl_env::Env;
+use pcl_fonts::Glyph;
+
+/// By whose reading what is written must print what a job prints.
+#[derive(Clone, Copy, Debug, PartialEq, Eq)]
+pub enum Readers {
+    /// Printers, of which some read some places otherwise than docs/LANGUAGE.md: a job with such a place goes as it came.
+    Printers,
+    /// Whoever reads as docs/LANGUAGE.md says.
+    Profile,
+}
+
+/// What printers may read otherwise in a job.
+#[derive(Clone, Copy, Debug, PartialEq, Eq)]
+pub enum Doubt {
+    /// A mark that stands between dots.
+    BetweenDots,
+    /// A mark at the cursor after a raster with fewer rows than its height.
+    ShortRaster,
+    /// A mark at the cursor after a command that may take it to the first line of an unmarked page.
+    FirstLine,
+    /// A row by method 3 after an offset of 0 and a row with dots.
+    SeedRow,
+    /// A width or a height of a raster of 0.
+    RasterSize,
+    /// An advance below 0.
+    Advance,
+    /// A code without a character.
+    Code,
+    /// A rectangle or a character without dots on an unmarked page.
+    EmptyMark,
+    /// The column width after another font came into use, or the selected one was sent anew.
+    ColumnWidth,
+    /// A tab, or a move by rows, past the end of the page.
+    PastEnd,
+    /// A part of a unit of 1/7200 inch, or of a PCL unit.
+    PartOfUnit,
+    /// Sides or a media type on a marked page, which may eject it.
+    Ejection,
+    /// Ink past the left or the right edge of the page.
+    Edge,
+}
+
+/// What printers may read otherwise in what was performed.
+#[derive(Drop)]
+pub struct Doubts {
+    /// Whether it is looked for.
+    is_wanted: bool,
+    /// The first of it.
+    pub first: Option<Doubt>,
+    /// Why the cursor may stand in another column, or another row.
+    column: Option<Doubt>,
+    row: Option<Doubt>,
+    /// The same of a place on the cursor's stack.
+    stack: Option<Doubt>,
+    /// Why the rows of the raster that has begun may stand elsewhere.
+    raster: Option<Doubt>,
+    /// Whether a raster has begun on the page.
+    has_raster: bool,
+    /// Whether that raster starts between two rows of dots.
+    is_low: bool,
+    /// Whether the seed row may have dots that were cleared.
+    is_seed_open: bool,
+    /// Whether the column width may be that of the font in use.
+    is_width_open: bool,
+    /// Why the line spacing may be another.
+    spacing: Option<Doubt>,
+    /// The rows of the raster that has begun, where they may go past the page's edge.
+    rows: Option<SheetRows>,
+}
+
+impl Doubts {
+    /// Nothing was performed. Whether something is looked for is given.
+    pub fn new(is_wanted: bool) -> Doubts {
+        Doubts {
+            is_wanted,
+            first: None,
+            column: None,
+            row: None,
+            stack: None,
+            raster: None,
+            has_raster: false,
+            is_low: false,
+            is_seed_open: false,
+            is_width_open: false,
+            spacing: None,
+            rows: None,
+        }
+    }
+
+    /// The same before anything was performed.
+    pub fn again(&self) -> Doubts {
+        Doubts::new(self.is_wanted)
+    }
+
+    /// Notes something, unless something was noted before.
+    fn note(&mut self, doubt: Doubt) {
+        self.first = self.first.or(Some(doubt));
+    }
+
+    /// Notes something where the test holds.
+    fn note_if(&mut self, test: bool, doubt: Doubt) {
+        if test {
+            self.note(doubt);
+        }
+    }
+
+    /// Notes something if there is anything.
+    fn note_any(&mut self, doubt: Option<Doubt>) {
+        self.first = self.first.or(doubt);
+    }
+
+    /// Looks at a command that has set what it sets, on a page that was marked or not, with the cursor at home or not before.
+    pub fn note_command(
+        &mut self,
+        operation: Operation,
+        value: Value,
+        environment: &Env,
+        is_marked: bool,
+        was_home: bool,
+    ) {
+        self.note_parts(operation, value, environment);
+        self.note_width(operation, value, environment);
+        self.note_spacing(operation, value);
+        if !is_marked && ejects_marked(operation) {
+            self.note_if(self.has_raster, Doubt::EmptyMark);
+        }
+        match operation {
+            Operation::Reset | Operation::UniversalExit | Operation::PageSize => self.settle(),
+            Operation::CarriageReturn => self.column = None,
+            Operation::TopMargin if !is_marked => self.note_margin(was_home),
+            Operation::Move(axis, unit) => self.note_move(axis, unit, value.sign, environment),
+            Operation::HorizontalTab => {
+                self.note_if(is_at_right_end(environment), Doubt::PastEnd);
+            }
+            Operation::LineFeed | Operation::HalfLineFeed => self.row = self.row.or(self.spacing),
+            Operation::CursorStack => self.note_stack(value),
+            Operation::Ask(what) => self.note_asking(what, environment, is_marked),
+            Operation::VerticalMotionIndex | Operation::LineSpacing if was_home && !is_marked => {
+                self.doubt_home(environment);
+            }
+            Operation::RasterWidth | Operation::RasterHeight if value.whole() == 0 => {
+                self.note(Doubt::RasterSize);
+            }
+            _ => {}
+        }
+    }
+
+    /// Looks at a top margin that was set on an unmarked page: a cursor that was moved may stay.
+    fn note_margin(&mut self, was_home: bool) {
+        self.row = if was_home {
+            self.spacing
+        } else {
+            Some(Doubt::FirstLine)
+        };
+    }
+
+    /// Looks at a move that was made.
+    fn note_move(&mut self, axis: Axis, unit: Unit, sign: Sign, environment: &Env) {
+        let by_rows = axis == Axis::Vertical && unit == Unit::Column;
+        if sign == Sign::Absent {
+            self.settle_along(axis);
+        }
+        if by_rows {
+            self.row = self.row.or(self.spacing);
+            let is_past = sign == Sign::Plus && is_at_end(environment);
+            self.note_if(is_past, Doubt::PastEnd);
+        }
+    }
+
+    /// Looks at a value of which a part may be dropped.
+    fn note_parts(&mut self, operation: Operation, value: Value, environment: &Env) {
+        let has_parts = match operation {
+            Operation::Move(axis, unit) | Operation::RectangleSize(axis, unit) => {
+                (unit == Unit::PclUnit && value.parts % WHOLE != 0)
+                    || has_rest(value, unit_of(axis, unit, environment))
+            }
+            _ => false,
+        };
+        self.note_if(has_parts, Doubt::PartOfUnit);
+    }
+
+    /// Looks at what a command does to the line spacing.
+    fn note_spacing(&mut self, operation: Operation, value: Value) {
+        match operation {
+            Operation::Reset | Operation::UniversalExit | Operation::LineSpacing => {
+                self.spacing = None;
+            }
+            Operation::VerticalMotionIndex => {
+                self.spacing = has_rest(value, VMI_UNIT).then_some(Doubt::PartOfUnit);
+            }
+            _ => {}
+        }
+    }
+
+    /// Looks at what a command does to the column width, or by it.
+    fn note_width(&mut self, operation: Operation, value: Value, environment: &Env) {
+        match operation {
+            Operation::Reset | Operation::UniversalExit => self.is_width_open = false,
+            Operation::HorizontalMotionIndex => self.is_width_open = has_rest(value, HMI_UNIT),
+            Operation::Shift(_) => self.is_width_open = true,
+            Operation::SelectFont(side) => self.is_width_open = side != environment.in_use(),
+            Operation::DownloadFont if is_selected(environment) => self.is_width_open = true,
+            Operation::HorizontalTab
+            | Operation::LeftMargin
+            | Operation::Move(Axis::Horizontal, Unit::Column) => self.note_column(),
+            _ => {}
+        }
+    }
+
+    /// Notes that something goes by the column width.
+    fn note_column(&mut self) {
+        self.note_if(self.is_width_open, Doubt::ColumnWidth);
+    }
+
+    /// The cursor's place is sure.
+    fn settle(&mut self) {
+        self.column = None;
+        self.row = None;
+    }
+
+    /// The cursor was taken to a place along an axis.
+    fn settle_along(&mut self, axis: Axis) {
+        match axis {
+            Axis::Horizontal => self.column = None,
+            Axis::Vertical => self.row = None,
+        }
+    }
+
+    /// A page was ejected: the cursor is on the first line.
+    pub fn note_ejection(&mut self) {
+        self.row = self.spacing;
+        self.has_raster = false;
+    }
+
+    /// Looks at a place that goes to the cursor's stack, or comes from it.
+    fn note_stack(&mut self, value: Value) {
+        if value.whole() == 0 {
+            self.stack = self.stack.or(self.column).or(self.row);
+        } else {
+            self.column = self.column.or(self.stack);
+            self.row = self.row.or(self.stack);
+        }
+    }
+
+    /// Looks at what is asked: on a marked page it may eject that, on an unmarked one it may take the cursor to the first line.
+    fn note_asking(&mut self, what: Asking, environment: &Env, is_marked: bool) {
+        match what {
+            Asking::OutputBin => {}
+            Asking::Sides | Asking::MediaType | Asking::PageLength if is_marked => {
+                self.note(Doubt::Ejection);
+            }
+            Asking::PaperSource | Asking::SheetSide if is_marked => self.doubt_column(environment),
+            _ => self.doubt_home(environment),
+        }
+    }
+
+    /// The cursor may go to the left end of the first line.
+    fn doubt_home(&mut self, environment: &Env) {
+        if !is_on_first_line(environment) {
+            self.row = Some(Doubt::FirstLine);
+        }
+        self.doubt_column(environment);
+    }
+
+    /// The cursor may go to the left margin.
+    fn doubt_column(&mut self, environment: &Env) {
+        if environment.x() != environment.left_margin() {
+            self.column = Some(Doubt::FirstLine);
+        }
+    }
+
+    /// Looks at a raster that ends.
+    pub fn note_end(&mut self, raster: &Raster) {
+        self.is_seed_open = false;
+        self.rows = None;
+        if raster.is_short() {
+            self.row = Some(Doubt::ShortRaster);
+        }
+    }
+
+    /// Looks at a raster that starts in the cursor's row at a dot, which is in the cursor's column or not.
+    pub fn note_start(&mut self, left: u32, environment: &Env, is_at_cursor: bool, dpi: Dpi) {
+        if !self.is_wanted {
+            return;
+        }
+        self.has_raster = true;
+        self.is_low = environment.y() % dpi.unit() != 0;
+        self.rows = SheetRows::start(left, self.is_low, environment, dpi);
+        self.is_seed_open = false;
+        self.raster = self.row.or(between_dots(environment.y(), dpi));
+        if is_at_cursor {
+            let column = self.column.or(between_dots(environment.x(), dpi));
+            self.raster = self.raster.or(column);
+        }
+    }
+
+    /// Looks at rows that are skipped in a raster.
+    pub fn note_skip(&mut self, count: u32, raster: &Raster) {
+        self.is_seed_open = count == 0 && (self.is_seed_open || raster.has_seed());
+        if let Some(rows) = &mut self.rows {
+            rows.skip();
+        }
+    }
+
+    /// Looks at a row of the raster that has begun, or of one that starts at the page's left edge.
+    pub fn note_row(&mut self, bytes: &[u8], raster: Option<&Raster>, environment: &Env, dpi: Dpi) {
+        if raster.is_none() {
+            self.note_start(0, environment, false, dpi);
+        }
+        self.note_any(self.raster);
+        let method = environment.method();
+        self.note_if(self.is_seed_open && method == Method::Delta, Doubt::SeedRow);
+        self.is_seed_open = false;
+        let height = environment.size().height(dpi);
+        let is_lowest = self.is_low && raster.is_some_and(|raster| raster.reaches(height));
+        let is_cut = match &mut self.rows {
+            Some(rows) => rows.is_cut(method, bytes) || (is_lowest && rows.has_dots()),
+            None => false,
+        };
+        self.note_if(is_cut, Doubt::Edge);
+    }
+
+    /// Looks at a rectangle that is filled.
+    pub fn note_rectangle(&mut self, ink: Ink, environment: &Env, is_marked: bool, dpi: Dpi) {
+        let (width, height) = (
+            environment.rectangle_width(),
+            environment.rectangle_height(),
+        );
+        if width == 0 || height == 0 || is_at_end(environment) || is_at_right_end(environment) {
+            self.note_if(!is_marked, Doubt::EmptyMark);
+            return;
+        }
+        self.note_cursor();
+        let is_between = is_half_past_or_more(environment.x(), dpi)
+            || is_more_than_half_past(environment.y(), dpi);
+        self.note_if(is_between, Doubt::BetweenDots);
+        let unit = u64::from(dpi.unit());
+        let right = u64::from(environment.x()) / unit + width.div_ceil(unit);
+        let is_cut = right > u64::from(environment.size().width(dpi));
+        self.note_if(is_cut && ink == Ink::Black, Doubt::Edge);
+    }
+
+    /// Looks at a character that is printed.
+    pub fn note_character(
+        &mut self,
+        glyph: &Glyph<'_>,
+        environment: &Env,
+        proportional: bool,
+        dpi: Dpi,
+    ) {
+        if !self.is_wanted {
+            return;
+        }
+        self.note_if(proportional && glyph.delta < 0, Doubt::Advance);
+        if !proportional {
+            self.note_column();
+        }
+        if glyph.width == 0 || glyph.height == 0 {
+            return;
+        }
+        self.note_cursor();
+        let is_between = is_half_past_or_more(environment.x(), dpi)
+            || is_half_past_or_more(environment.y(), dpi);
+        self.note_if(is_between, Doubt::BetweenDots);
+        let (left, right) = sides_of(glyph, environment);
+        let is_cut = left < 0 || right > i64::from(environment.size().units_wide());
+        self.note_if(is_cut, Doubt::Edge);
+    }
+
+    /// Looks at a character that is about to be inked, on a page that is marked or not.
+    pub fn note_ink(&mut self, glyph: &Glyph<'_>, environment: &Env, is_marked: bool) {
+        self.note_if(
+            !is_marked && !is_on_page(glyph, environment),
+            Doubt::EmptyMark,
+        );
+    }
+
+    /// Looks at a code that prints no character.
+    pub fn note_blank(&mut self, is_space: bool) {
+        self.note_if(!is_space, Doubt::Code);
+        self.note_column();
+    }
+
+    /// Looks at a mark at the cursor.
+    fn note_cursor(&mut self) {
+        self.note_any(self.column);
+        self.note_any(self.row);
+    }
+}
+
+/// Whether a command ejects a page that is marked.
+fn ejects_marked(operation: Operation) -> bool {
+    matches!(
+        operation,
+        Operation::Reset
+            | Operation::UniversalExit
+            | Operation::PageSize
+            | Operation::Ask(Asking::PaperSource | Asking::SheetSide)
+    )
+}
+
+/// Whether the cursor is at the left end of the first line.
+pub fn is_home(environment: &Env) -> bool {
+    environment.x() == environment.left_margin() && is_on_first_line(environment)
+}
+
+/// Where the pattern of a character at the cursor has its left and its right side, in units of 1/7200 inch.
+fn sides_of(glyph: &Glyph<'_>, environment: &Env) -> (i64, i64) {
+    let left = i64::from(environment.x()).saturating_add(i64::from(glyph.left) * BIT_UNITS);
+    let right = left.saturating_add(i64::from(glyph.width) * BIT_UNITS);
+    (left, right)
+}
+
+/// Whether a part of the pattern of a character at the cursor is on the page.
+fn is_on_page(glyph: &Glyph<'_>, environment: &Env) -> bool {
+    let (left, right) = sides_of(glyph, environment);
+    let top = i64::from(environment.y()).saturating_sub(i64::from(glyph.top) * BIT_UNITS);
+    let bottom = top.saturating_add(i64::from(glyph.height) * BIT_UNITS);
+    let size = environment.size();
+    left.max(0) < right.min(i64::from(size.units_wide()))
+        && top.max(0) < bottom.min(i64::from(size.units_high()))
+}
+
+/// Whether the font that is meant is selected.
+fn is_selected(environment: &Env) -> bool {
+    let id = Some(environment.font_id());
+    environment.font_of(Side::Primary) == id || environment.font_of(Side::Secondary) == id
+}
+
+/// Whether the cursor is at the lower end of the page.
+fn is_at_end(environment: &Env) -> bool {
+    environment.y() >= environment.size().units_high()
+}
+
+/// Whether the cursor is at the right end of the page.
+fn is_at_right_end(environment: &Env) -> bool {
+    environment.x() >= environment.size().units_wide()
+}
+
+/// Whether the cursor is on the first line.
+fn is_on_first_line(environment: &Env) -> bool {
+    let first_line = u64::from(environment.top_margin()) + 3 * u64::from(environment.vmi()) / 4;
+    u64::from(environment.y()) == first_line
+}
+
+/// The parts of a whole number, of which a value is counted.
+const WHOLE: u32 = 10_000;
+
+/// Units of 1/7200 inch in the unit of a line spacing, 1/48 inch, and of a column width, 1/120 inch.
+const VMI_UNIT: u32 = 150;
+
+const HMI_UNIT: u32 = 60;
+
+/// Units of 1/7200 inch in a tenth of a point.
+const DECIPOINT: u32 = 10;
+
+/// The length of one of the unit.
+fn unit_of(axis: Axis, unit: Unit, environment: &Env) -> u32 {
+    match (unit, axis) {
+        (Unit::PclUnit, _) => environment.pcl_unit(),
+        (Unit::Decipoint, _) => DECIPOINT,
+        (Unit::Column, Axis::Horizontal) => environment.hmi(),
+        (Unit::Column, Axis::Vertical) => environment.vmi(),
+    }
+}
+
+/// Whether so many of a length are no whole number of units of 1/7200 inch.
+fn has_rest(value: Value, length: u32) -> bool {
+    u64::from(value.parts) * u64::from(length) % u64::from(WHOLE) != 0
+}
+
+/// Units of 1/7200 inch in a bit of a pattern.
+const BIT_UNITS: i64 = 24;
+
+/// Whether a place lies half a dot past a dot or more.
+fn is_half_past_or_more(place: u32, dpi: Dpi) -> bool {
+    2 * (place % dpi.unit()) >= dpi.unit()
+}
+
+/// Why a raster that starts at a place may stand elsewhere, if that lies more than half a dot past a dot.
+fn between_dots(place: u32, dpi: Dpi) -> Option<Doubt> {
+    is_more_than_half_past(place, dpi).then_some(Doubt::BetweenDots)
+}
+
+/// Whether a place lies more than half a dot past a dot.
+fn is_more_than_half_past(place: u32, dpi: Dpi) -> bool {
+    2 * (place % dpi.unit()) > dpi.unit()
+}
