@@ -76,7 +76,7 @@ abbrev pub asks_text : AsksDifference → List ℕ
 asks_text (asks.Page number difference) = page_text (codes "not the same: page ") number ++ asked_text difference
 asks_text (asks.ExitCount first second) = pair_text (codes "not the same: exit count ") (decimal first) (decimal second)
 asks_text (asks.Exit number difference) = page_text (codes "not the same: exit ") number ++ exit_text difference
-asks_text asks.Lasting = codes "not the same: what stays in the printer"
+asks_text asks.Lasting = codes "not the same: what the printer keeps or ejects"
 
 -- ---- the line on standard output, and the status
 

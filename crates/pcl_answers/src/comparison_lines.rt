@@ -75,7 +75,7 @@ fn append_asks(difference: AsksDifference, line: &mut Vec<u8>) -> Result<(), All
             append_exit(difference, line)
         }
         AsksDifference::Lasting => {
-            line.extend_from_slice(b"not the same: what stays in the printer")
+            line.extend_from_slice(b"not the same: what the printer keeps or ejects")
         }
     }
 }

@@ -73,7 +73,7 @@ ExitsDifferBy one other Lines = (one.pages ≡ other.pages) × (one.lines ≢ ot
 
 -- ---- jobs
 
--- what stays in the printer is the same: nothing of either lasts, or both are one job, byte for byte
+-- what the printer keeps or ejects is the same: nothing of either lasts, or both are one job, byte for byte
 abbrev pub LeaveTheSame : Asks → Asks → Type 0
 LeaveTheSame asks others = (asks.lasts ≡ others.lasts) × (asks.whole ≡ others.whole)
 

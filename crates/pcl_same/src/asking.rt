@@ -82,7 +82,7 @@ fn differing(setting: Setting, first: Option<i64>, second: Option<i64>) -> Optio
     })
 }
 
-/// How two jobs differ in what stays in the printer.
+/// How two jobs differ in what the printer keeps, or ejects on some printers.
 fn lasting_difference(first: &Asks<'_>, second: &Asks<'_>) -> Option<AsksDifference>
     ensures { MatchOption result ((first.now.lasts ≡ second.now.lasts) × (first.now.whole.now ≡ second.now.whole.now))
         (λ difference. (difference ≡ AsksDifference.Lasting)

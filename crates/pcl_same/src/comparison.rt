@@ -105,7 +105,8 @@ pub enum AsksDifference {
         number: usize,
         difference: ExitDifference,
     },
-    /// One of them counts on fonts or macros that stay in the printer, or changes these, and the other isn't the same job byte for byte.
+    /// One of them counts on fonts or macros that stay in the printer, or changes these, or has a command that ejects a page on some
+    /// printers, and the other isn't the same job byte for byte.
     Lasting,
 }
 
