@@ -48,7 +48,10 @@ impl Lettering {
         } = collection;
         let letters = match form {
             Form::Characters => Lettered::Characters(lay_out(alloc, patterns, letters)?),
-            Form::Macros => { Lettered::Macros(lay_out_macros(alloc, &widths, patterns, letters)?) }
+            Form::Macros { scale } => {
+                let layout = lay_out_macros(alloc, scale, &widths, patterns, letters)?;
+                Lettered::Macros(layout)
+            }
         };
         Ok(Lettering { letters, rules })
     }

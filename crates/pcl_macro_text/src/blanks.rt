@@ -16,8 +16,8 @@ const CODES: usize = 189;
 /// The codes up to 126.
 const LOW_CODES: usize = 94;
 
-/// Two quarters of a dot at 300 dots per inch, by which characters advance, are a dot at 600.
-const QUARTERS: i32 = 2;
+/// Characters advance by quarters of a dot at 300 dots per inch.
+const QUARTERS: i32 = 4;
 
 /// The header of a proportional font of type 1: its size, format and type, a cell of one dot, portrait, Roman-8, a pitch, a height
 /// and a width of one dot, the last code, and a name.
@@ -29,12 +29,18 @@ const HEADER: &[u8; 64] =
 #[derive(Drop)]
 pub struct Blanks {
     gaps: IndexMap<i32, u32>,
+    /// How many quarters of a dot at 300 dots per inch a gap of 1 is.
+    quarters: i32,
 }
 
 impl Blanks {
-    /// The blanks of a job, where each gap is there so often.
-    pub fn new(gaps: IndexMap<i32, u32>) -> Result<Blanks, AllocError> {
-        let mut blanks = Blanks { gaps };
+    /// The blanks of a job, where each gap is there so often, in dots of which this many are one at 300 dots per inch.
+    pub fn new(gaps: IndexMap<i32, u32>, scale: u32) -> Result<Blanks, AllocError> {
+        let scale = i32::try_from(scale).unwrap_or(1).max(1);
+        let mut blanks = Blanks {
+            gaps,
+            quarters: QUARTERS / scale,
+        };
         blanks.keep_frequent()?;
         Ok(blanks)
     }
@@ -87,7 +93,7 @@ impl Blanks {
     /// Appends the characters.
     fn append_characters(&self, out: &mut Vec<u8>) -> Result<(), AllocError> {
         for (place, gap) in self.gaps.keys().enumerate() {
-            append_character(code_of(place), *gap, out)?;
+            append_character(code_of(place), gap.saturating_mul(self.quarters), out)?;
         }
         Ok(())
     }
@@ -103,9 +109,9 @@ fn code_of(place: usize) -> u8 {
     u8::try_from(code).unwrap_or(u8::MAX)
 }
 
-/// Appends the character of a code, which advances by a gap: one white dot.
-fn append_character(code: u8, gap: i32, out: &mut Vec<u8>) -> Result<(), AllocError> {
-    let advance = i16::try_from(gap.saturating_mul(QUARTERS)).unwrap_or(0);
+/// Appends the character of a code, which advances by this many quarters of a dot at 300 dots per inch: one white dot.
+fn append_character(code: u8, quarters: i32, out: &mut Vec<u8>) -> Result<(), AllocError> {
+    let advance = i16::try_from(quarters).unwrap_or(0);
     append_labelled(b"\x1b*c", u32::from(code), out)?;
     out.extend_from_slice(b"E\x1b(s17W")?;
     // Format 4, no continuation, a descriptor of 14 bytes, class 1, portrait, no offsets, width and height of one dot.

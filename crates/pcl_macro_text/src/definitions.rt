@@ -16,12 +16,20 @@ pub fn append_definitions(
     layout: &MacroLayout,
     out: &mut Vec<u8>,
 ) -> Result<(), AllocError> {
-    out.extend_from_slice(b"\x1b&u600D")?;
+    append_unit(layout, out)?;
     layout.plan.macros.blanks.append_font(out)?;
     for mark in layout.plan.macros.uses.keys() {
         append_definition(alloc, layout, *mark, out)?;
     }
     Ok(())
+}
+
+/// Appends the unit in which macros move the cursor, a dot, where it isn't the one that a reset sets.
+pub fn append_unit(layout: &MacroLayout, out: &mut Vec<u8>) -> Result<(), AllocError> {
+    match layout.scale {
+        1 => Ok(()),
+        _ => out.extend_from_slice(b"\x1b&u600D"),
+    }
 }
 
 /// Appends the definition of the macro of a mark.

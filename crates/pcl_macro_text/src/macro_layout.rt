@@ -13,6 +13,8 @@ const GLYPH_LIMIT: u32 = 16_384;
 /// What of a job is printed by macros.
 #[derive(Drop)]
 pub struct MacroLayout {
+    /// How many dots are one at 300 dots per inch: 1 or 2.
+    pub scale: u32,
     pub patterns: Patterns,
     pub letters: Letters,
     pub plan: MacroPlan,
@@ -26,17 +28,19 @@ pub struct MacroPlan {
     pub macros: Macros,
 }
 
-/// The layout of these letters, on pages of these widths.
+/// The layout of these letters, on pages of these widths, of which so many dots are one at 300 dots per inch.
 pub fn lay_out_macros(
     alloc: Global,
+    scale: u32,
     widths: &[u32],
     patterns: Patterns,
     letters: Letters,
 ) -> Result<MacroLayout, AllocError> {
     let mut letters = letters;
     letters.letters.retain(|letter| letter.glyph < GLYPH_LIMIT);
-    let plan = MacroPlan::new(alloc, widths, &letters)?;
+    let plan = MacroPlan::new(alloc, scale, widths, &letters)?;
     Ok(MacroLayout {
+        scale,
         patterns,
         letters,
         plan,
@@ -45,11 +49,16 @@ pub fn lay_out_macros(
 
 impl MacroPlan {
     /// The macros of these letters, on pages of these widths.
-    fn new(alloc: Global, widths: &[u32], letters: &Letters) -> Result<MacroPlan, AllocError> {
+    fn new(
+        alloc: Global,
+        scale: u32,
+        widths: &[u32],
+        letters: &Letters,
+    ) -> Result<MacroPlan, AllocError> {
         let metrics = find_metrics(alloc, widths, &letters.letters, letters.glyphs.len())?;
         let script = find_script(alloc, widths, &letters.letters, &metrics)?;
         let text = find_phrases(alloc, script)?;
-        let macros = Macros::new(alloc, &text)?;
+        let macros = Macros::new(alloc, &text, scale)?;
         Ok(MacroPlan {
             metrics,
             text,

@@ -34,11 +34,11 @@ pub struct Setting {
 }
 
 impl Macros {
-    /// The macros of a text: those of its glyphs and phrases.
-    pub fn new(alloc: Global, text: &Text) -> Result<Macros, AllocError> {
+    /// The macros of a text: those of its glyphs and phrases. So many of its dots are one at 300 dots per inch.
+    pub fn new(alloc: Global, text: &Text, scale: u32) -> Result<Macros, AllocError> {
         let mut uses = IndexMap::new(alloc);
         count_text(text, &mut uses)?;
-        let blanks = find_blanks(alloc, &uses)?;
+        let blanks = find_blanks(alloc, &uses, scale)?;
         keep_macros(&mut uses)?;
         let left = find_left(alloc, text, &uses)?;
         Ok(Macros { uses, left, blanks })
@@ -115,10 +115,10 @@ fn count_marks(marks: &[Mark], uses: &mut Uses) -> Result<(), AllocError> {
 }
 
 /// The characters that make the gaps among marks that are used so often.
-fn find_blanks(alloc: Global, uses: &Uses) -> Result<Blanks, AllocError> {
+fn find_blanks(alloc: Global, uses: &Uses, scale: u32) -> Result<Blanks, AllocError> {
     let mut gaps = IndexMap::new(alloc);
     count_gaps(uses, &mut gaps)?;
-    Blanks::new(gaps)
+    Blanks::new(gaps, scale)
 }
 
 /// Takes the gaps out of marks, with how often each is used.

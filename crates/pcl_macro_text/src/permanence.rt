@@ -1,5 +1,6 @@
 //! Macros that a reset leaves.
 
+use crate::definitions::append_unit;
 use crate::macro_layout::MacroLayout;
 use pcl_patterns::append_labelled;
 use std::alloc::AllocError;
@@ -18,7 +19,7 @@ pub fn append_deletion(layout: &MacroLayout, out: &mut Vec<u8>) -> Result<(), Al
 
 /// Appends what is set anew after a reset that left the macros: the unit of measure and the font of blanks.
 pub fn append_settings(layout: &MacroLayout, out: &mut Vec<u8>) -> Result<(), AllocError> {
-    out.extend_from_slice(b"\x1b&u600D")?;
+    append_unit(layout, out)?;
     layout.plan.macros.blanks.append_selection(out)
 }
 

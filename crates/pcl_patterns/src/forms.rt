@@ -15,8 +15,8 @@ const MACRO_BYTES: usize = 50;
 pub enum Form {
     /// By characters of soft fonts: at 300 dots per inch, since a bit of a font is a dot of these.
     Characters,
-    /// By macros that send rasters.
-    Macros,
+    /// By macros that send rasters, where so many dots are one at 300 dots per inch.
+    Macros { scale: u32 },
 }
 
 impl Form {
@@ -24,7 +24,7 @@ impl Form {
     pub fn scale(self) -> u32 {
         match self {
             Form::Characters => 1,
-            Form::Macros => 2,
+            Form::Macros { scale } => scale,
         }
     }
 
@@ -32,7 +32,7 @@ impl Form {
     fn letter_bytes(self) -> usize {
         match self {
             Form::Characters => 3,
-            Form::Macros => 5,
+            Form::Macros { .. } => 5,
         }
     }
 
@@ -40,7 +40,7 @@ impl Form {
     pub fn definition_bytes(self, pattern: Pattern<'_>, changes: Changes) -> usize {
         match self {
             Form::Characters => pattern.rows.len().saturating_add(CHARACTER_BYTES),
-            Form::Macros => {
+            Form::Macros { .. } => {
                 let rows = changes.rows.saturating_mul(ROW_BYTES);
                 let bytes = changes.bytes.saturating_add(pattern.height as usize);
                 rows.saturating_add(bytes).saturating_add(MACRO_BYTES)

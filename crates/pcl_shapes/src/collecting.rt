@@ -9,7 +9,6 @@ use crate::rules::{Rules, find_rules};
 use crate::runs::{KeptRuns, RowWalk};
 use crate::screening::screen_shapes;
 use crate::shapes::{Extent, Shapes, find_shapes};
-use pcl_base::Dpi;
 use pcl_bitmap::{Page, PageSink};
 use pcl_patterns::{Form, Pattern, Patterns, Row, number_of_place, short_number};
 use std::alloc::{AllocError, Global};
@@ -74,10 +73,10 @@ impl Model for Collection {
 }
 
 impl Collection {
-    /// No page yet, of pages of this many dots per inch.
-    pub fn new(alloc: Global, dpi: Dpi) -> Collection {
+    /// No page yet, of pages whose letters are printed so.
+    pub fn new(alloc: Global, form: Form) -> Collection {
         Collection {
-            form: form_at(dpi),
+            form,
             widths: Vec::new(alloc),
             heights: Vec::new(alloc),
             rules: Rules::new(alloc),
@@ -255,14 +254,6 @@ impl Collection {
             pattern,
         })?;
         Ok(())
-    }
-}
-
-/// How letters of pages of this many dots per inch are printed.
-fn form_at(dpi: Dpi) -> Form {
-    match dpi {
-        Dpi::Dpi300 => Form::Characters,
-        Dpi::Dpi600 => Form::Macros,
     }
 }
 
