@@ -8,7 +8,7 @@
 
 use itoa::Buffer;
 use pcl_base::{Dpi, JobFault};
-use pcl_shrink::shrink;
+use pcl_shrink::{Readers, shrink};
 use std::alloc::{AllocError, Global};
 use std::io;
 
@@ -530,7 +530,7 @@ fn print_outcome<R: Print + AllocGlobal>(
     job: &[u8],
     dpi: Dpi,
 ) -> io::Result<()> {
-    match shrink(rt.alloc(), job, dpi) {
+    match shrink(rt.alloc(), job, dpi, Readers::Profile) {
         Ok(shrunk) => {
             println!(rt;
                 "{name}: {:?}, {} to {}",

@@ -1,9 +1,10 @@
 -- A job that counts at two resolutions.
 use Rattle.std.proofs.Common.{◌≡◌, ℕ, List, Bool, true, Option, Some, None, Result, Ok, Err, IfOk, arith}
-use Rattle.pcl_shrink.proofs.Names.{Dpi, JobFault, Refused, Memory, Refusal, Sheet, HasPages, IsAccepted, IsRefused, IsRefusal, IsKept, KeptJob, IsAskedComparison, Same, IsSameAlso, SaysIfSame, SaysIfSameAt, IsAcceptedAlso, IsKeptAlso, KeepsJobs, Shrunk, IsShrunk, IsShrunkAt, IsShrunkEverywhere}
+use Rattle.pcl_shrink.proofs.Names.{Dpi, JobFault, Refused, Memory, Refusal, Sheet, HasPages, IsAccepted, IsRefused, IsRefusal, IsKept, KeptJob, IsAskedComparison, Same, IsSameAlso, SaysIfSame, SaysIfSameAt, IsAcceptedAlso, IsKeptAlso, KeepsJobs, Readers, Shrunk, IsShrunk, IsShrunkAt, IsShrunkEverywhere}
 use Rattle.pcl_base.specs.declared.dpi.Dpi.TheVariants.{Dpi300, Dpi600}
 use Rattle.pcl_same.specs.Keeping.{KeepsJob}
 use Rattle.pcl_shrink.proofs.Looked.{answered_also}
+use Rattle.pcl_shrink.proofs.Written.{accepted_for}
 
 -- a job that is accepted isn't refused
 abbrev pub Apart : Type 0
@@ -36,15 +37,16 @@ found_also dpi also job candidate first (Err fault) is counts look again = tt
 
 -- ---- shrinking
 
-pub fine_alone : Apart → (job : List ℕ) {refusal : Refusal} (fault : JobFault) (result : Result Shrunk JobFault) → fault ≡ Refused refusal
-    → IsShrunkAt Dpi300 (Some Dpi600) job (Err fault) → IsAccepted Dpi600 job → IsShrunk Dpi600 job result → IsShrunkEverywhere job result
-fine_alone apart job {refusal} fault (Ok shrunk) is refused accepted s = (Dpi600, None, ((refusal, rw is at refused), accepted), s)
-fine_alone apart job fault (Err (Refused why)) is refused accepted s = absurd (apart Dpi600 job accepted.0 why accepted.1 s)
-fine_alone apart job fault (Err Memory) is refused accepted s = tt
+pub fine_alone : Apart → (readers : Readers) (job : List ℕ) {refusal : Refusal} (fault : JobFault) (result : Result Shrunk JobFault) → fault ≡ Refused refusal
+    → IsShrunkAt readers Dpi300 (Some Dpi600) job (Err fault) → IsAccepted Dpi600 job → IsShrunk readers Dpi600 job result
+    → IsShrunkEverywhere readers job result
+fine_alone apart readers job {refusal} fault (Ok shrunk) is refused accepted s = (Dpi600, None, ((refusal, rw is at refused), accepted), s)
+fine_alone apart readers job fault (Err (Refused why)) is refused accepted s = absurd (apart Dpi600 job accepted.0 why accepted.1 s)
+fine_alone apart readers job fault (Err Memory) is refused accepted s = tt
 
-pub coarse_alone : (job : List ℕ) (refusal : Refusal) (result : Result Shrunk JobFault) → IsRefusal Dpi600 job refusal
-    → IsShrunk Dpi300 job result → IsShrunkEverywhere job result
-coarse_alone job refusal (Ok shrunk) refused s =
-    (Dpi300, None, ((s.smaller.pages, s.smaller.meaning), (refusal, refused)), s)
-coarse_alone job refusal (Err (Refused why)) refused s = (s, (refusal, refused))
-coarse_alone job refusal (Err Memory) refused s = tt
+pub coarse_alone : (readers : Readers) (job : List ℕ) (refusal : Refusal) (result : Result Shrunk JobFault) → IsRefusal Dpi600 job refusal
+    → IsShrunk readers Dpi300 job result → IsShrunkEverywhere readers job result
+coarse_alone readers job refusal (Ok shrunk) refused s =
+    (Dpi300, None, (accepted_for Dpi300 None job shrunk readers shrunk.doubt s, (refusal, refused)), s)
+coarse_alone readers job refusal (Err (Refused why)) refused s = (s, (refusal, refused))
+coarse_alone readers job refusal (Err Memory) refused s = tt

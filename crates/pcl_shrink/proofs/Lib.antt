@@ -1,5 +1,6 @@
 pub mod Names
 mod Smaller
+pub mod Written
 mod LeastJobs
 mod Shorter
 mod Looked

@@ -4,7 +4,7 @@ pub use Rattle.pcl_base.specs.declared.{dpi.Dpi.Dpi, fault.JobFault.JobFault, fa
 pub use Rattle.pcl_bitmap.proofs.Names.{IsPicture}
 pub use Rattle.pcl_output.proofs.Names.{frame_bytes}
 pub use Rattle.pcl_page.proofs.{Jobs.accepted_pages, Jobs.has_pages}
-pub use Rattle.pcl_page.specs.declared.{asks.AskedPage.AskedPage}
+pub use Rattle.pcl_page.specs.declared.{asks.AskedPage.AskedPage, doubts.Doubt.Doubt, doubts.Readers.Readers}
 pub use Rattle.pcl_page.specs.{Accepting.IsAccepted, Accepting.IsRefused, Asks.of_job, Jobs.performance_of, Performing.asks_among}
 pub use Rattle.pcl_page.proofs.Names.{AllAlike, Asks, Exit, Hands, HasAsks, HasPages, IsRefusal, Sheet, asks_of, exit_of}
 pub use Rattle.pcl_writer.proofs.Names.{IsWrittenPage}
@@ -12,6 +12,6 @@ pub use Rattle.pcl_meaning.proofs.Names.{IsJobOf, PrintEach, next_page, page_sai
 pub use Rattle.pcl_meaning.proofs.{WrittenJobs.job_of_texts}
 pub use Rattle.pcl_same.proofs.Names.{IsAskedComparison, IsComparedAsked, IsComparedBeside, IsKept}
 pub use Rattle.pcl_same.specs.declared.{comparison.AskedComparison.AskedComparison, comparison.AskedComparison.TheVariants.Same, fault.Job.TheVariants.Second, fault.SameFault.SameFault, keeping.KeptJob.KeptJob}
-pub use Rattle.pcl_shrink.specs.{Asking.asked_at, Asking.asked_job, Asking.asked_before, Asking.asked_pages, Asking.asked_text, Asking.exit_bytes, Asking.exit_text, Asking.exits_after, Asking.fitted, Asking.is_exit_after, Asking.is_reset_before, Asking.is_usual, Asking.page_start, Asking.plain_page, Asking.reset_text, Asking.side_text, Looking.IsSameAlso, Looking.IsSameAt, Looking.SaysIfSame, Looking.SaysIfSameAt, Outcome.IsOutcome, Outcome.RefusesWith, Shrinking.CountsAt, Shrinking.IsRefusedEverywhere, Shrinking.IsShrunk, Shrinking.IsShrunkAt, Shrinking.IsShrunkEverywhere, Shrinking.IsShrunkTo, Shrinking.IsSmallerEverywhere, Shrinking.IsSmallerJob, Shrinking.IsSmallerJobAt, Shrinking.PrintsAlike, Texts.AreLeastTexts, Texts.TakesText, Texts.least_of}
+pub use Rattle.pcl_shrink.specs.{Asking.asked_at, Asking.asked_job, Asking.asked_before, Asking.asked_pages, Asking.asked_text, Asking.exit_bytes, Asking.exit_text, Asking.exits_after, Asking.fitted, Asking.is_exit_after, Asking.is_reset_before, Asking.is_usual, Asking.page_start, Asking.plain_page, Asking.reset_text, Asking.side_text, Looking.IsSameAlso, Looking.IsSameAt, Looking.SaysIfSame, Looking.SaysIfSameAt, Outcome.IsOutcome, Outcome.RefusesWith, Shrinking.CountsAt, Shrinking.IsRefusedEverywhere, Shrinking.IsShrunk, Shrinking.IsShrunkAt, Shrinking.IsLeft, Shrinking.IsShrunkEverywhere, Shrinking.IsShrunkFor, Shrinking.IsShrunkTo, Shrinking.IsSmallerEverywhere, Shrinking.IsSmallerJob, Shrinking.IsSmallerJobAt, Shrinking.IsWrittenEverywhere, Shrinking.IsWrittenFor, Shrinking.PrintsAlike, Texts.AreLeastTexts, Texts.TakesText, Texts.least_of}
 pub use Rattle.pcl_shrink.specs.declared.{candidate.Proposal.Proposal, candidate.Shrunk.Shrunk, keeping.KeptJobs.KeptJobs, rasters.Text.Text}
 pub use Rattle.pcl_shrink.specs.inner.{Best.IsBest, Best.IsShorter, Best.best_bytes, Kept.AreKept, Kept.IsAcceptedAlso, Kept.IsKeptAlso, Kept.KeepsJobs, Proposals.IsLimit}

@@ -108,6 +108,9 @@ proposal_smaller one one_asks {dpi} {also} {job} {best} {proposal} s (looked, sa
   within_input = omega (arith, s.within_input, short);
 }
 
+pub prints_itself : {dpi : Dpi} {job : List ℕ} {pages : List Sheet} → HasPages dpi job pages → PrintsAlike dpi pages job
+prints_itself {dpi} {job} {pages} meaning = record { again = pages; accepted = meaning; alike = same_pages dpi pages }
+
 pub prints_pages : OnePages → (dpi : Dpi) (job output : List ℕ) (pages : List Sheet) → IsSmallerJob dpi job output → HasPages dpi job pages
     → PrintsAlike dpi pages output
 prints_pages one dpi job output pages s meaning = rw (one dpi job s.pages pages s.meaning meaning) at s.prints

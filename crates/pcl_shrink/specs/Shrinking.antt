@@ -1,5 +1,5 @@
 -- The smallest job that is found with the pages of another.
-use Rattle.std.specs.Prelude.{◌≡◌, ℕ, ◌≤◌, List, length, Option, Some, None, Result, Ok, Err}
+use Rattle.std.specs.Prelude.{◌≡◌, ◌⊎◌, ℕ, ◌≤◌, List, length, Option, Some, None, Result, Ok, Err}
 use Rattle.pcl_base.specs.declared.dpi.Dpi.{Dpi}
 use Rattle.pcl_base.specs.declared.dpi.Dpi.TheVariants.{Dpi300, Dpi600}
 use Rattle.pcl_base.specs.declared.fault.JobFault.{JobFault}
@@ -15,6 +15,9 @@ use Rattle.pcl_meaning.specs.JobTexts.{said_for, IsJobOf}
 use Rattle.pcl_shrink.specs.Asking.{asked_job}
 use Rattle.pcl_shrink.specs.Looking.{IsSameAlso, IsSameAt}
 use Rattle.pcl_shrink.specs.Texts.{AreLeastTexts}
+use Rattle.pcl_page.specs.declared.doubts.Doubt.{Doubt}
+use Rattle.pcl_page.specs.declared.doubts.Readers.{Readers}
+use Rattle.pcl_page.specs.declared.doubts.Readers.TheVariants.{Printers, Profile}
 use Rattle.pcl_shrink.specs.declared.candidate.Shrunk.{Shrunk}
 
 -- a job that is accepted, with pages like these one by one: as many, of the same sizes, with as many copies, dot for dot
@@ -51,13 +54,36 @@ pub record IsShrunkTo (dpi : Dpi) (also : Option Dpi) (job : List ℕ) (shrunk :
   pub smaller : IsSmallerJobAt dpi also job shrunk.job.items
   pub counted : shrunk.pages ≡ length smaller.pages
 
-abbrev pub IsShrunkAt : Dpi → Option Dpi → List ℕ → Result Shrunk JobFault → Type 0
-IsShrunkAt dpi also job (Ok shrunk) = IsShrunkTo dpi also job shrunk
-IsShrunkAt dpi also job (Err (Refused refusal)) = IsRefusal dpi job refusal
-IsShrunkAt dpi also job (Err Memory) = Unit {0}
+-- a job as it came, and how many pages it has
+pub record IsLeft (dpi : Dpi) (job : List ℕ) (shrunk : Shrunk) : Type 0 where
+  pub pages : List Sheet
+  pub meaning : HasPages dpi job pages
+  pub same : shrunk.job.items ≡ job
+  pub counted : shrunk.pages ≡ length pages
 
-abbrev pub IsShrunk : Dpi → List ℕ → Result Shrunk JobFault → Type 0
-IsShrunk dpi job result = IsShrunkAt dpi None job result
+-- for printers a job goes as it came where they may read it otherwise
+abbrev pub IsShrunkFor : Readers → Option Doubt → Dpi → Option Dpi → List ℕ → Shrunk → Type 0
+IsShrunkFor Printers (Some doubt) dpi also job shrunk = IsLeft dpi job shrunk
+IsShrunkFor Printers None dpi also job shrunk = IsShrunkTo dpi also job shrunk
+IsShrunkFor Profile doubt dpi also job shrunk = IsShrunkTo dpi also job shrunk
+
+abbrev pub IsShrunkAt : Readers → Dpi → Option Dpi → List ℕ → Result Shrunk JobFault → Type 0
+IsShrunkAt readers dpi also job (Ok shrunk) = IsShrunkFor readers shrunk.doubt dpi also job shrunk
+IsShrunkAt readers dpi also job (Err (Refused refusal)) = IsRefusal dpi job refusal
+IsShrunkAt readers dpi also job (Err Memory) = Unit {0}
+
+abbrev pub IsShrunk : Readers → Dpi → List ℕ → Result Shrunk JobFault → Type 0
+IsShrunk readers dpi job result = IsShrunkAt readers dpi None job result
+
+-- ---- what is written
+
+-- the job itself, which is accepted
+abbrev pub IsInput : Dpi → List ℕ → List ℕ → Type 0
+IsInput dpi job output = IsAccepted dpi job × (output ≡ job)
+
+abbrev pub IsWrittenFor : Readers → Dpi → List ℕ → List ℕ → Type 0
+IsWrittenFor Printers dpi job output = IsSmallerJob dpi job output ⊎ IsInput dpi job output
+IsWrittenFor Profile dpi job output = IsSmallerJob dpi job output
 
 -- ---- at each resolution
 
@@ -71,11 +97,16 @@ CountsAt job dpi also = ⊥
 abbrev pub IsSmallerEverywhere : List ℕ → List ℕ → Type 0
 IsSmallerEverywhere job output = (dpi : Dpi) × (also : Option Dpi) × CountsAt job dpi also × IsSmallerJobAt dpi also job output
 
+abbrev pub IsWrittenEverywhere : Readers → List ℕ → List ℕ → Type 0
+IsWrittenEverywhere Printers job output = IsSmallerEverywhere job output ⊎ ((dpi : Dpi) × IsInput dpi job output)
+IsWrittenEverywhere Profile job output = IsSmallerEverywhere job output
+
 -- it is refused at both, at 300 dots per inch so
 abbrev pub IsRefusedEverywhere : List ℕ → Refusal → Type 0
 IsRefusedEverywhere job refusal = IsRefusal Dpi300 job refusal × IsRefused Dpi600 job
 
-abbrev pub IsShrunkEverywhere : List ℕ → Result Shrunk JobFault → Type 0
-IsShrunkEverywhere job (Ok shrunk) = (dpi : Dpi) × (also : Option Dpi) × CountsAt job dpi also × IsShrunkTo dpi also job shrunk
-IsShrunkEverywhere job (Err (Refused refusal)) = IsRefusedEverywhere job refusal
-IsShrunkEverywhere job (Err Memory) = Unit {0}
+abbrev pub IsShrunkEverywhere : Readers → List ℕ → Result Shrunk JobFault → Type 0
+IsShrunkEverywhere readers job (Ok shrunk) =
+    (dpi : Dpi) × (also : Option Dpi) × CountsAt job dpi also × IsShrunkFor readers shrunk.doubt dpi also job shrunk
+IsShrunkEverywhere readers job (Err (Refused refusal)) = IsRefusedEverywhere job refusal
+IsShrunkEverywhere readers job (Err Memory) = Unit {0}

@@ -1,5 +1,7 @@
 //! What a job is shrunk to.
 
+use pcl_page::Doubt;
+
 /// A way to write the pages of a job.
 #[derive(Clone, Copy, Debug, PartialEq, Eq)]
 pub enum Candidate {
@@ -22,6 +24,8 @@ pub struct Shrunk {
     pub by: Candidate,
     /// How many pages it has.
     pub pages: usize,
+    /// Why it is the job as it came, where printers may read that otherwise.
+    pub doubt: Option<Doubt>,
 }
 
 /// A job that may have the pages of another.

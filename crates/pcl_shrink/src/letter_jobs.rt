@@ -3,6 +3,7 @@
 ghost use Rattle.pcl_shrink.specs.Outcome.{IsOutcome};
 
 use crate::asking::{append_end, append_page_start, append_page_text};
+use crate::shifts::{Shift, shift_at};
 use pcl_base::{Dpi, JobFault};
 use pcl_lettering::{END_RASTER, Lettering, PageWriter};
 use pcl_page::{Asks, Page, PageSink, perform};
@@ -10,19 +11,20 @@ use std::alloc::{AllocError, Global};
 use std::marker::Model;
 
 /// A proposal of a smaller job with the same pages, which asks for what a job asks for, with these letters as soft fonts or as macros
-/// (docs/GLYPHS.md), and with these texts for the pages and stretches of pages where that takes fewer bytes: none where that is so
-/// everywhere, or where it has as many bytes as the job. Nothing is promised of it but that the input is accepted. A refusal is the job's.
+/// (docs/GLYPHS.md), and with these texts for the pages and stretches of pages where that takes fewer bytes. Where the dots of the pages lie
+/// at 600 dots per inch is given if that counts. None where no page has letters, or where it has as many bytes as the job. Nothing is promised of it but that the input is accepted. A refusal is the job's.
 pub fn letter_job(
     alloc: Global,
     job: &[u8],
     dpi: Dpi,
+    shifts: &[Shift],
     asks: &Asks<'_>,
     texts: &[Vec<u8>],
     lettering: &Lettering,
 ) -> Result<Option<Vec<u8>>, JobFault>
     ensures { IsOutcome dpi job.now result }
 {
-    let writer = LetterWriter::new(alloc, asks, texts, lettering, job.len())?;
+    let writer = LetterWriter::new(alloc, shifts, asks, texts, lettering, job.len())?;
     let writer = after_pages(alloc, job, dpi, writer)?;
     Ok(writer.finish()?)
 }
@@ -46,6 +48,8 @@ fn after_pages<S: PageSink + Drop>(
 /// deleted at its end.
 #[derive(Drop)]
 struct LetterWriter<'a, 'b> {
+    /// Where the dots of its pages lie at 600 dots per inch, if that counts.
+    shifts: &'b [Shift],
     /// What the job asks for.
     asks: &'b Asks<'a>,
     /// The texts of its pages without letters.
@@ -76,12 +80,14 @@ impl<'a, 'b> LetterWriter<'a, 'b> {
     /// Before the first page.
     fn new(
         alloc: Global,
+        shifts: &'b [Shift],
         asks: &'b Asks<'a>,
         texts: &'b [Vec<u8>],
         lettering: &'b Lettering,
         limit: usize,
     ) -> Result<LetterWriter<'a, 'b>, AllocError> {
         Ok(LetterWriter {
+            shifts,
             asks,
             texts,
             lettering,
@@ -182,9 +188,9 @@ impl<'a, 'b> LetterWriter<'a, 'b> {
         Ok((writer.out.len() < writer.limit).then_some(writer.out))
     }
 
-    /// Appends what was written of a page, so that it says what was said of it. The end of a raster may stand before it, where macros of
-    /// the page before left a method.
-    fn append_written(&mut self, written: &[u8]) -> Result<(), AllocError> {
+    /// Appends what was written of a page, of which this is a text without letters, so that it says what was said of it. The end of a
+    /// raster may stand before it, where macros of the page before left a method.
+    fn append_written(&mut self, written: &[u8], plain: &[u8]) -> Result<(), AllocError> {
         let text = match written.strip_prefix(END_RASTER) {
             Some(text) => {
                 self.out.extend_from_slice(END_RASTER)?;
@@ -192,7 +198,12 @@ impl<'a, 'b> LetterWriter<'a, 'b> {
             }
             None => written,
         };
-        append_page_text(self.asks, self.pages, text, &mut self.out)
+        let place = self.out.len();
+        append_page_text(self.asks, self.pages, text, &mut self.out)?;
+        match shift_at(self.shifts, self.pages) {
+            Shift::HalfLower if text != plain => lower_page(&mut self.out, place),
+            _ => Ok(()),
+        }
     }
 
     /// Appends a page, of which this is a text without letters.
@@ -203,11 +214,28 @@ impl<'a, 'b> LetterWriter<'a, 'b> {
         self.plain = self.plain.saturating_add(written.len());
         written.clear();
         self.writer.append_page(page, text, &mut written)?;
-        self.append_written(&written)?;
+        self.append_written(&written, text)?;
         self.pages = self.pages.saturating_add(1);
         self.give_up_if_too_long();
         Ok(())
     }
+}
+
+/// What ends the start of a page text: no top margin.
+const NO_MARGIN: &[u8] = b"0E";
+
+/// A top margin of half a dot at 300 dots per inch, from which moves to a row count: a line of 0.08 of 1/48 inch.
+const HALF_DOT_MARGIN: &[u8] = b".08c1E";
+
+/// Puts the marks of the page whose text begins in this place half a dot lower.
+fn lower_page(out: &mut Vec<u8>, place: usize) -> Result<(), AllocError> {
+    let text = out.split_off(place.min(out.len()))?;
+    let end = text.iter().position(|byte| *byte == b'E');
+    let end = end.unwrap_or(0).saturating_add(1).min(text.len());
+    let (start, rest) = text.split_at(end);
+    out.extend_from_slice(start.strip_suffix(NO_MARGIN).unwrap_or(start))?;
+    out.extend_from_slice(HALF_DOT_MARGIN)?;
+    out.extend_from_slice(rest)
 }
 
 /// Whether a universal exit stands before the page of this number, from 0.

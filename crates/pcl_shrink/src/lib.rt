@@ -20,4 +20,5 @@ mod texts;
 
 pub use candidate::{Candidate, Shrunk};
 pub use laws::shrunk_jobs_have_the_same_pages;
+pub use pcl_page::{Doubt, Readers};
 pub use shrinking::{shrink, shrink_everywhere};

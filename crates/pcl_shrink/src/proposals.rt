@@ -12,7 +12,7 @@ use crate::shifts::Shift;
 use crate::texts::{Found, page_texts};
 use pcl_base::{Dpi, JobFault};
 use pcl_lettering::Lettering;
-use pcl_page::Asks;
+use pcl_page::{Asks, Doubt};
 use pcl_shapes::Collection;
 use std::alloc::Global;
 
@@ -25,6 +25,8 @@ pub struct Proposed {
     pub limit: usize,
     /// How many pages the job has.
     pub pages: usize,
+    /// What printers may read otherwise in it, if there is anything.
+    pub doubt: Option<Doubt>,
 }
 
 /// Proposes a job with the pages of a job, which asks for what that asks for: its pages as their shortest rasters, or, where that is
@@ -35,11 +37,13 @@ pub fn propose(alloc: Global, job: &[u8], dpi: Dpi, shifts: &[Shift]) -> Result<
     let (texts, found) = page_texts(alloc, job, dpi, shifts)?;
     let pages = texts.len();
     let limit = asked_len(alloc, &found.asks, &texts)?;
+    let doubt = found.doubt;
     let proposal = proposal_of(alloc, job, dpi, shifts, texts, found)?;
     Ok(Proposed {
         proposal,
         limit,
         pages,
+        doubt,
     })
 }
 
@@ -56,13 +60,13 @@ fn proposal_of(
 ) -> Result<Option<Proposal>, JobFault>
     ensures { RefusesWith dpi job.now result }
 {
-    let Found { shapes, asks } = found;
+    let Found { shapes, asks, .. } = found;
     if asks.lasts || shifts.contains(&Shift::Other) {
         return Ok(None);
     }
     let by = raster_kind(&texts);
     let plain = shortest_texts(alloc, texts, shifts)?;
-    match propose_letters(alloc, job, dpi, &asks, &plain, shapes)? {
+    match propose_letters(alloc, job, dpi, shifts, &asks, &plain, shapes)? {
         Some(job) => Ok(Some(Proposal {
             job,
             by: Candidate::Glyphs,
@@ -90,14 +94,25 @@ fn propose_letters(
     alloc: Global,
     job: &[u8],
     dpi: Dpi,
+    shifts: &[Shift],
     asks: &Asks<'_>,
     plain: &[Vec<u8>],
     shapes: Collection,
 ) -> Result<Option<Vec<u8>>, JobFault>
     ensures { RefusesWith dpi job.now result }
 {
+    if shifts.contains(&Shift::HalfLower) && says_length(asks) {
+        return Ok(None);
+    }
     let lettering = Lettering::new(alloc, shapes)?;
-    lettered(alloc, job, dpi, asks, plain, &lettering)
+    lettered(alloc, job, dpi, shifts, asks, plain, &lettering)
+}
+
+/// Whether the length of a page is said: in lines, of which pages that lie half a dot lower set the spacing.
+fn says_length(asks: &Asks<'_>) -> bool {
+    asks.pages
+        .iter()
+        .any(|page| page.said.page_length.is_some())
 }
 
 /// A job with these letters, where there are any and it is shorter than these texts of its pages and than the job.
@@ -105,6 +120,7 @@ fn lettered(
     alloc: Global,
     job: &[u8],
     dpi: Dpi,
+    shifts: &[Shift],
     asks: &Asks<'_>,
     plain: &[Vec<u8>],
     lettering: &Lettering,
@@ -114,6 +130,6 @@ fn lettered(
     if lettering.is_empty() {
         Ok(None)
     } else {
-        letter_job(alloc, job, dpi, asks, plain, lettering)
+        letter_job(alloc, job, dpi, shifts, asks, plain, lettering)
     }
 }

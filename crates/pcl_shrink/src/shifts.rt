@@ -4,7 +4,8 @@ ghost use Rattle.pcl_shrink.specs.Outcome.{IsOutcome};
 
 use pcl_base::{Dpi, JobFault};
 use pcl_bitmap::{Bitmap, trimmed_len};
-use pcl_page::{Page, PageSink, perform};
+use pcl_page::{Doubt, Page, PageSink, perform_doubted};
+use pcl_patterns::Form;
 use pcl_shapes::are_equal;
 use std::alloc::{AllocError, Global};
 use std::marker::Model;
@@ -20,15 +21,48 @@ pub enum Shift {
     Other,
 }
 
-/// The shift of each page of a job that is accepted at 600 dots per inch. A refusal is the job's.
-pub fn page_shifts(alloc: Global, job: &[u8]) -> Result<Vec<Shift>, JobFault>
+/// What is known of a job at 600 dots per inch.
+#[derive(Drop)]
+pub struct Fine {
+    /// The shift of each page, if these were looked for.
+    pub shifts: Vec<Shift>,
+    /// What printers may read otherwise, if there is anything.
+    pub doubt: Option<Doubt>,
+}
+
+impl Fine {
+    /// Nothing is known.
+    pub fn unknown(alloc: Global) -> Fine {
+        Fine {
+            shifts: Vec::new(alloc),
+            doubt: None,
+        }
+    }
+}
+
+/// What is known of a job that is accepted at 600 dots per inch. A refusal is the job's.
+pub fn look_finely(alloc: Global, job: &[u8]) -> Result<Fine, JobFault>
     ensures { IsOutcome Dpi.Dpi600 job.now result }
 {
     let mut finder = ShiftFinder {
         shifts: Vec::new(alloc),
     };
-    perform(alloc, job, Dpi::Dpi600, &mut finder)?;
-    Ok(finder.shifts)
+    let mut doubt = None;
+    perform_doubted(alloc, job, Dpi::Dpi600, &mut doubt, &mut finder)?;
+    Ok(Fine {
+        shifts: finder.shifts,
+        doubt,
+    })
+}
+
+/// How letters are printed on pages with these shifts, at a resolution: characters between dots are read in two ways, so pages that lie
+/// half a dot lower at 600 dots per inch take macros.
+pub fn form_of(dpi: Dpi, shifts: &[Shift]) -> Form {
+    match dpi {
+        Dpi::Dpi300 if shifts.contains(&Shift::HalfLower) => Form::Macros { scale: 1 },
+        Dpi::Dpi300 => Form::Characters,
+        Dpi::Dpi600 => Form::Macros { scale: 2 },
+    }
 }
 
 /// The shift of the page of this number, from 0: whole where none was looked for.

@@ -1,81 +1,132 @@
 //! A job shrunk.
 
-ghost use Rattle.std.specs.Prelude.{◌≡◌, length, IfOk};
+ghost use Rattle.std.specs.Prelude.{◌≡◌, length, Some, None, IfOk};
 ghost use Rattle.pcl_base.specs.declared.dpi.Dpi.TheVariants.{Dpi600};
 ghost use Rattle.pcl_page.specs.Accepting.{IsAccepted};
+ghost use Rattle.pcl_page.specs.declared.doubts.Readers.TheVariants.{Profile};
 ghost use Rattle.pcl_shrink.specs.Shrinking.{IsShrunk, IsShrunkAt, IsShrunkEverywhere};
 ghost use Rattle.pcl_shrink.specs.inner.Best.{best_bytes, IsBest, IsShorter};
 ghost use Rattle.pcl_shrink.specs.inner.Kept.{AreKept, IsAcceptedAlso};
-ghost use Rattle.pcl_shrink.specs.inner.Proposals.{IsBestWithin, IsLimit, IsWithin};
+ghost use Rattle.pcl_shrink.specs.inner.Proposals.{IsBestWithin, IsLimit, IsMeasured, IsWithin};
 
 use crate::candidate::Proposal;
 use crate::keeping::{KeptJobs, Resolutions, keep_jobs};
 use crate::looking::is_same;
 use crate::proposals::{Proposed, propose};
 use crate::raster_jobs::asked_job;
-use crate::shifts::{Shift, page_shifts};
+use crate::shifts::{Fine, look_finely};
 use crate::texts::texts_alone;
 use crate::{Candidate, Shrunk};
 use pcl_base::{Dpi, JobFault};
 use pcl_meaning::written_jobs_say_copies_and_sizes;
-use pcl_page::one_meaning;
+use pcl_page::{Doubt, Readers, one_meaning};
 use std::alloc::{AllocError, Global};
 
 /// The smallest job that is found with the pages of a job, dot for dot, and which asks the printer for what that asks for. It is
-/// never longer than the job, nor than the least raster job of its pages where nothing is asked for. A refusal is the job's.
-pub fn shrink(alloc: Global, job: &[u8], dpi: Dpi) -> Result<Shrunk, JobFault>
-    ensures { IsShrunk dpi job.now result }
+/// never longer than the job, nor than the least raster job of its pages where nothing is asked for. For printers it is the job as it
+/// came where these may read that otherwise. A refusal is the job's.
+pub fn shrink(alloc: Global, job: &[u8], dpi: Dpi, readers: Readers) -> Result<Shrunk, JobFault>
+    ensures { IsShrunk readers dpi job.now result }
 {
     let at = Resolutions {
         first: dpi,
         also: None,
     };
-    shrink_at(alloc, job, at, &[])
+    shrink_at(alloc, job, at, &Fine::unknown(alloc), readers)
 }
 
 /// The same at each of 300 and 600 dots per inch at which a job is accepted: what is written has its pages at both, where both accept it.
 /// A refusal is the one at 300, where it is refused at 600 too.
-pub fn shrink_everywhere(alloc: Global, job: &[u8]) -> Result<Shrunk, JobFault>
-    ensures { IsShrunkEverywhere job.now result }
+pub fn shrink_everywhere(alloc: Global, job: &[u8], readers: Readers) -> Result<Shrunk, JobFault>
+    ensures { IsShrunkEverywhere readers job.now result }
 {
     one_meaning();
-    match page_shifts(alloc, job) {
-        Ok(shifts) => shrink_fine(alloc, job, &shifts),
-        Err(JobFault::Refused(_)) => shrink(alloc, job, Dpi::Dpi300),
+    match look_finely(alloc, job) {
+        Ok(fine) => shrink_fine(alloc, job, &fine, readers),
+        Err(JobFault::Refused(_)) => shrink(alloc, job, Dpi::Dpi300, readers),
         Err(JobFault::Memory) => Err(JobFault::Memory),
     }
 }
 
-/// The same of a job that is accepted at 600 dots per inch, where its pages have these shifts.
-fn shrink_fine(alloc: Global, job: &[u8], shifts: &[Shift]) -> Result<Shrunk, JobFault>
-    ensures { IsAccepted Dpi600 job.now → IsShrunkEverywhere job.now result }
+/// The same of a job that is accepted at 600 dots per inch, where this is known of it there.
+fn shrink_fine(alloc: Global, job: &[u8], fine: &Fine, readers: Readers) -> Result<Shrunk, JobFault>
+    ensures { IsAccepted Dpi600 job.now → IsShrunkEverywhere readers job.now result }
 {
     one_meaning();
     let at = Resolutions {
         first: Dpi::Dpi300,
         also: Some(Dpi::Dpi600),
     };
-    match shrink_at(alloc, job, at, shifts) {
+    match shrink_at(alloc, job, at, fine, readers) {
         Ok(shrunk) => Ok(shrunk),
-        Err(JobFault::Refused(_)) => shrink(alloc, job, Dpi::Dpi600),
+        Err(JobFault::Refused(_)) => shrink(alloc, job, Dpi::Dpi600, readers),
         Err(JobFault::Memory) => Err(JobFault::Memory),
     }
 }
 
-/// The same at these resolutions, where the pages have these shifts.
+/// The same at these resolutions, where this is known of the job at 600 dots per inch.
 fn shrink_at(
     alloc: Global,
     job: &[u8],
     at: Resolutions,
-    shifts: &[Shift],
+    fine: &Fine,
+    readers: Readers,
 ) -> Result<Shrunk, JobFault>
-    ensures { IsAcceptedAlso at.also job.now → IsShrunkAt at.first at.also job.now result }
+    ensures { IsAcceptedAlso at.also job.now → IsShrunkAt readers at.first at.also job.now result }
+{
+    let proposed = propose(alloc, job, at.first, &fine.shifts)?;
+    match heeded(readers, proposed.doubt.or(fine.doubt)) {
+        Some(doubt) => Ok(as_it_came(alloc, job, &proposed, doubt)?),
+        None => shrink_to(alloc, job, at, proposed),
+    }
+}
+
+/// What is heeded of what printers may read otherwise.
+fn heeded(readers: Readers, doubt: Option<Doubt>) -> Option<Doubt>
+    ensures { readers ≡ Profile → result ≡ None }
+{
+    match readers {
+        Readers::Printers => doubt,
+        Readers::Profile => None,
+    }
+}
+
+/// A job as it came, since printers may read it otherwise.
+fn as_it_came(
+    alloc: Global,
+    job: &[u8],
+    proposed: &Proposed,
+    doubt: Doubt,
+) -> Result<Shrunk, AllocError>
+    ensures same { IfOk result (λ shrunk. shrunk.job.items ≡ job.now) }
+    ensures pages { IfOk result (λ shrunk. shrunk.pages ≡ proposed.now.pages) }
+    ensures doubt { IfOk result (λ shrunk. shrunk.doubt ≡ Some doubt) }
+{
+    Ok(Shrunk {
+        job: Vec::from_slice(alloc, job)?,
+        by: Candidate::Input,
+        pages: proposed.pages,
+        doubt: Some(doubt),
+    })
+}
+
+/// The best of a job and of what is proposed for it, at these resolutions.
+fn shrink_to(
+    alloc: Global,
+    job: &[u8],
+    at: Resolutions,
+    proposed: Proposed,
+) -> Result<Shrunk, JobFault>
+    ensures shrunk { IsAcceptedAlso at.also job.now → IsMeasured at.first job.now proposed.limit proposed.pages
+        → IsShrunkAt Profile at.first at.also job.now result }
+    ensures sure { IfOk result (λ shrunk. shrunk.doubt ≡ None) }
 {
     let Proposed {
         proposal,
         limit,
         pages,
-    } = propose(alloc, job, at.first, shifts)?;
+        ..
+    } = proposed;
     let best = best_of(alloc, job, at, proposal, limit)?;
     one_meaning();
     Ok(best_or_input(alloc, job, best, pages)?)
@@ -188,13 +239,20 @@ fn best_or_input(
 ) -> Result<Shrunk, AllocError>
     ensures job { IfOk result (λ shrunk. shrunk.job.items ≡ best_bytes job.now best) }
     ensures pages { IfOk result (λ shrunk. shrunk.pages ≡ pages) }
+    ensures doubt { IfOk result (λ shrunk. shrunk.doubt ≡ None) }
 {
     match best {
-        Some(Proposal { job, by }) => Ok(Shrunk { job, by, pages }),
+        Some(Proposal { job, by }) => Ok(Shrunk {
+            job,
+            by,
+            pages,
+            doubt: None,
+        }),
         None => Ok(Shrunk {
             job: Vec::from_slice(alloc, job)?,
             by: Candidate::Input,
             pages,
+            doubt: None,
         }),
     }
 }

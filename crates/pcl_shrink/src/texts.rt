@@ -3,9 +3,9 @@
 ghost use Rattle.pcl_shrink.specs.Texts.{HasTexts, HasTextsAlone};
 
 use crate::rasters::{Text, page_text};
-use crate::shifts::{Shift, shift_at};
+use crate::shifts::{Shift, form_of, shift_at};
 use pcl_base::{Dpi, JobFault};
-use pcl_page::{Asks, Page, PageSink, perform_asked};
+use pcl_page::{Asks, Doubt, Page, PageSink, perform_doubted};
 use pcl_shapes::Collection;
 use std::alloc::{AllocError, Global};
 use std::marker::Model;
@@ -17,10 +17,12 @@ pub struct Found<'a> {
     pub shapes: Collection,
     /// What it asks of the printer.
     pub asks: Asks<'a>,
+    /// What printers may read otherwise, if there is anything.
+    pub doubt: Option<Doubt>,
 }
 
-/// The texts of the pages of a job as rasters, and what letters are found by of those pages whose dots are whole at 600 dots per inch too.
-/// A refusal is the job's.
+/// The texts of the pages of a job as rasters, and what letters are found by of those pages whose dots are whole at 600 dots per inch too,
+/// or half a dot lower there. A refusal is the job's.
 pub fn page_texts<'a>(
     alloc: Global,
     job: &'a [u8],
@@ -31,12 +33,17 @@ pub fn page_texts<'a>(
 {
     let mut writer = TextWriter {
         texts: Vec::new(alloc),
-        shapes: Collection::new(alloc, dpi),
+        shapes: Collection::new(alloc, form_of(dpi, shifts)),
         shifts,
     };
-    let asks = perform_asked(alloc, job, dpi, &mut writer)?;
-    let shapes = writer.shapes;
-    Ok((writer.texts, Found { shapes, asks }))
+    let mut doubt = None;
+    let asks = perform_doubted(alloc, job, dpi, &mut doubt, &mut writer)?;
+    let found = Found {
+        shapes: writer.shapes,
+        asks,
+        doubt,
+    };
+    Ok((writer.texts, found))
 }
 
 /// The texts of the pages of a job as rasters, alone. A refusal is the job's.
@@ -49,7 +56,8 @@ pub fn texts_alone(alloc: Global, job: &[u8], dpi: Dpi) -> Result<Vec<Text>, Job
     }
 }
 
-/// Collects the shapes of the next page, whose text takes this many bytes as a raster, where its dots are whole at 600 dots per inch too.
+/// Collects the shapes of the next page, whose text takes this many bytes as a raster, where its dots are whole at 600 dots per inch too, or
+/// half a dot lower there.
 fn collect(
     shapes: &mut Collection,
     page: &Page,
@@ -57,11 +65,11 @@ fn collect(
     bytes: usize,
 ) -> Result<(), AllocError> {
     match shift {
-        Shift::Whole => {
+        Shift::Whole | Shift::HalfLower => {
             shapes.add_room(bytes);
             shapes.page(page)
         }
-        Shift::HalfLower | Shift::Other => shapes.pass_page(page),
+        Shift::Other => shapes.pass_page(page),
     }
 }
 

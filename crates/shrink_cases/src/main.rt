@@ -1,5 +1,7 @@
-//! Jobs, and what they are shrunk to. It prints a line for each: which candidate wins, and the bytes that came in and that go out;
-//! `stdout` has what has to come.
+//! Jobs, and what they are shrunk to. It prints a line for each: which candidate wins, and the bytes that came in and that go out; then
+//! how many cases of a table hold, of jobs that printers may read otherwise (`doubts`). `stdout` has what has to come. The table lies in
+//! the folder that the program's argument names, or where it runs: the gate runs it in `data/`, and beside `src/` it is
+//! `rt run -- data`.
 //!
 //! The least raster job of a white Letter page has 42 bytes: `ESC E` 2, `ESC&l1x2a0E` 9, `ESC*p0x0Y` 7, `ESC*t300R` 7,
 //! `ESC*r2400s0A` 10, `ESC*rC` 4, the form feed 1, `ESC E` 2. A row of n bytes, for n up to 9, takes 5 and n more. With squares of
@@ -15,14 +17,21 @@
 //! the end, 11; the two macros at 600 take 21 and 19, and 7 for the unit of measure after the reset. A page with a dot takes 40 as a
 //! raster.
 //!
-//! A raster where a reset leaves the cursor stands half a dot lower at 600 dots per inch: for both the raster starts there, for two bytes.
-//! A stroke of forty dots takes 40 bytes around its rows, 10 for the first, 6 for the second, and 4 for each of the 38 others.
+//! A raster where a reset leaves the cursor stands half a dot lower at 600 dots per inch: for both a raster starts there, for two bytes
+//! more, 40 around its rows and 10 for one of a byte. A stroke of forty dots goes as a macro below a top margin of half a dot, which takes
+//! four bytes more: 80 for the macro (11, 7 to go up, 7 for its raster, 7 for its first row, 43 for the others, 5), 2 before it, 9 and 28 of
+//! the page text, `ESC*b3M` 5, `ESC*p0x227Y` 9, 11 to run it, and 3 after.
 #![tactic(auto)]
 
+mod doubts;
+
+use case_tables::{RunFault, check_lines};
+use doubts::Doubts;
 use pcl_base::{Dpi, JobFault};
-use pcl_shrink::{Shrunk, shrink, shrink_everywhere};
+use pcl_shrink::{Readers, Shrunk, shrink, shrink_everywhere};
 use std::alloc::{AllocError, Global};
 use std::io;
+use std::rt::Files;
 
 /// A job, and what it is a case of.
 struct Case {
@@ -113,6 +122,11 @@ const FINE: &[u8] = b"\x1b*t600R\x1b*r1A\x1b*b1W\x80";
 /// A raster at 300 dots per inch.
 const USUAL: &[u8] = b"\x1b*t300R\x1b*r1A\x1b*b1W\x80";
 
+/// The same after commands that do nothing.
+const WORDY: &[u8] =
+    b"\x1b&l0O\x1b&l0O\x1b&l0O\x1b&l0O\x1b&l0O\x1b&l0O\x1b&l0O\x1b&l0O\x1b&l0O\x1b&l0O\
+    \x1b*t300R\x1b*r1A\x1b*b1W\x80";
+
 const CASES: [Case; 10] = [
     Case {
         name: "an empty job",
@@ -159,42 +173,60 @@ const CASES: [Case; 10] = [
     },
 ];
 
-fn main(rt: HostRuntime) -> io::Result<()> {
+fn main(rt: HostRuntime) -> Result<(), RunFault> {
     for case in &CASES {
         print_shrunk(&rt, case.name, case.job, Dpi::Dpi300)?;
     }
     for case in &LETTERED {
-        let job = lettered_job(rt.alloc(), case)?;
+        let job = lettered_job(rt.alloc(), case).map_err(io::Error::from)?;
         print_shrunk(&rt, case.name, &job, case.dpi)?;
     }
+    print_letters(&rt)?;
+    let folder = std::env::args(&rt)?.nth(1);
+    print_doubts(&rt, folder.as_ref().map_or(".", |folder| folder.as_str()))
+}
+
+/// Prints the lines of jobs of letters, and of those that one resolution refuses.
+fn print_letters<R: Print + AllocGlobal>(rt: &R) -> io::Result<()> {
     let mut letters = Vec::new(rt.alloc());
     append_letters(90, &mut letters)?;
-    print_shrunk(&rt, "a letter ninety times", &letters, Dpi::Dpi300)?;
-    print_shrunk(&rt, "the same at 600 dots per inch", &letters, Dpi::Dpi600)?;
-    let again = shrink(rt.alloc(), &letters, Dpi::Dpi300);
+    print_shrunk(rt, "a letter ninety times", &letters, Dpi::Dpi300)?;
+    print_shrunk(rt, "the same at 600 dots per inch", &letters, Dpi::Dpi600)?;
+    let again = shrink(rt.alloc(), &letters, Dpi::Dpi300, Readers::Printers);
     if let Ok(shrunk) = again {
         print_shrunk(
-            &rt,
+            rt,
             "soft fonts: what it was shrunk to",
             &shrunk.job,
             Dpi::Dpi300,
         )?;
     }
     print_shrunk(
-        &rt,
+        rt,
         "a raster that 300 dots per inch refuse",
         FINE,
         Dpi::Dpi300,
     )?;
-    print_shrunk(&rt, "and that 600 accept", FINE, Dpi::Dpi600)?;
-    print_shrunk(&rt, "one that 300 dots per inch accept", USUAL, Dpi::Dpi300)?;
+    print_shrunk(rt, "and that 600 accept", FINE, Dpi::Dpi600)?;
+    print_shrunk(rt, "one that 300 dots per inch accept", USUAL, Dpi::Dpi300)?;
     print_shrunk(
-        &rt,
+        rt,
         "one that 600 refuse as well",
         b"\x1b*cP\x1be",
         Dpi::Dpi600,
     )?;
-    print_everywhere(&rt, &letters)
+    print_everywhere(rt, &letters)
+}
+
+/// Prints how many jobs go as they came where printers may read them otherwise, and no others.
+fn print_doubts(rt: &(impl Files + AllocGlobal + Print), folder: &str) -> Result<(), RunFault> {
+    let cases = Doubts::new(rt.alloc());
+    let (count, failed) = check_lines(rt, rt.alloc(), folder, "doubts.txt", cases)?;
+    if failed > 0 {
+        return Err(RunFault::Fails { failed, count });
+    }
+    println!(rt; "{count} jobs are read otherwise, or aren't")?;
+    Ok(())
 }
 
 /// Prints the lines of jobs that are shrunk for both resolutions, among them one of letters.
@@ -202,6 +234,7 @@ fn print_everywhere<R: Print + AllocGlobal>(rt: &R, letters: &[u8]) -> io::Resul
     let mut lower = Vec::new(rt.alloc());
     append_stroke(40, &mut lower)?;
     print_at_both(rt, "a stroke where a reset leaves the cursor", &lower)?;
+    print_at_both(rt, "a dot there with much around it", WORDY)?;
     print_at_both(rt, "a letter ninety times on whole dots", letters)?;
     let mut between = Vec::from_slice(rt.alloc(), b"\x1b&u600D\x1b&l0E\x1b*p21x20Y")?;
     append_stroke(40, &mut between)?;
@@ -212,7 +245,7 @@ fn print_everywhere<R: Print + AllocGlobal>(rt: &R, letters: &[u8]) -> io::Resul
 
 /// Prints the line of a job that is shrunk for both resolutions.
 fn print_at_both<R: Print + AllocGlobal>(rt: &R, name: &str, job: &[u8]) -> io::Result<()> {
-    match shrink_everywhere(rt.alloc(), job) {
+    match shrink_everywhere(rt.alloc(), job, Readers::Printers) {
         Ok(shrunk) => print_lengths(rt, name, job, &shrunk),
         Err(fault) => print_fault(rt, name, fault),
     }
@@ -234,7 +267,7 @@ fn print_shrunk<R: Print + AllocGlobal>(
     job: &[u8],
     dpi: Dpi,
 ) -> io::Result<()> {
-    match shrink(rt.alloc(), job, dpi) {
+    match shrink(rt.alloc(), job, dpi, Readers::Printers) {
         Ok(shrunk) => print_lengths(rt, name, job, &shrunk),
         Err(fault) => print_fault(rt, name, fault),
     }

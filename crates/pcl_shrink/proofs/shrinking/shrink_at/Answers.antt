@@ -1,15 +1,20 @@
-use Rattle.std.proofs.Common.{◌∙◌, ap, length, subst, sym}
-use Rattle.pcl_shrink.proofs.Names.{IsSmallerJobAt}
+use Rattle.std.proofs.Common.{◌∙◌}
+use Rattle.pcl_shrink.proofs.Written.{sure_at, left_for}
 use Rattle.pcl_shrink.proofs.shrinking.shrink_at.Goals as goal
 
-pub returns : goal.returns
-returns c = λ accepted.
-    let job = c.args.job.now in
-    let measured = c.in_ok-proposal.ensures in
-    let smaller = c.in_ok-best.ensures accepted measured.limit_is in
-    let s = subst (IsSmallerJobAt c.args.at.first c.args.at.also job) (sym c.in_ok-best_or_input.ensures.job) smaller in
-    record {
-      smaller = s;
-      counted = c.in_ok-best_or_input.ensures.pages ∙ measured.counted
-          ∙ ap length (c.one_meaning.ensures.pages c.args.at.first job measured.limit_is.pages s.pages measured.limit_is.meaning s.meaning);
-    }
+pub returns-in_ok-as_it_came-in-Some : goal.returns-in_ok-as_it_came-in-Some
+returns-in_ok-as_it_came-in-Some c = λ accepted.
+    let measured = c.in_ok-proposed.ensures in
+    let left = c.in_ok-as_it_came-in-Some.ensures in
+    left_for c.args.at.first c.args.at.also c.args.job.now _ c.args.readers c.heeded.result _ c.heeded.ensures c.in-Some.is left.doubt
+    (record {
+      pages = measured.limit_is.pages;
+      meaning = measured.limit_is.meaning;
+      same = left.same;
+      counted = left.pages ∙ measured.counted;
+    })
+
+pub returns-in-None : goal.returns-in-None
+returns-in-None c = λ accepted.
+    sure_at c.args.at.first c.args.at.also c.args.job.now c.args.readers c.shrink_to.result
+    (c.shrink_to.ensures.shrunk accepted c.in_ok-proposed.ensures) c.shrink_to.ensures.sure

@@ -1,13 +1,15 @@
 use Rattle.std.specs.Prelude.{Some}
 use Rattle.pcl_base.specs.declared.dpi.Dpi.TheVariants.{Dpi300, Dpi600}
 use Rattle.pcl_shrink.proofs.Everywhere.{fine_alone}
+use Rattle.pcl_shrink.proofs.Written.{accepted_for}
 use Rattle.pcl_shrink.proofs.shrinking.shrink_fine.Goals as goal
 
 pub returns-in-Ok : goal.returns-in-Ok
 returns-in-Ok c = λ accepted.
-    let s = c.in-Ok.ensures accepted in (Dpi300, Some Dpi600, ((s.smaller.pages, s.smaller.meaning), accepted), s)
+    let s = c.in-Ok.ensures accepted in
+    (Dpi300, Some Dpi600, (accepted_for Dpi300 (Some Dpi600) c.args.job.now _ c.args.readers _ s, accepted), s)
 
 pub returns-in-Err-Refused : goal.returns-in-Err-Refused
 returns-in-Err-Refused c = λ accepted.
-    fine_alone c.one_meaning.ensures.apart c.args.job.now _ c.shrink.result c.in-Err-Refused.field-0-is (c.in-Err-Refused.ensures accepted)
-    accepted c.shrink.ensures
+    fine_alone c.one_meaning.ensures.apart c.args.readers c.args.job.now _ c.shrink.result c.in-Err-Refused.field-0-is
+    (c.in-Err-Refused.ensures accepted) accepted c.shrink.ensures

@@ -1,0 +1,14 @@
+use Rattle.std.proofs.Common.{◌∙◌, ap, length, subst, sym}
+use Rattle.pcl_shrink.proofs.Names.{IsSmallerJobAt}
+use Rattle.pcl_shrink.proofs.shrinking.shrink_to.Goals as goal
+
+pub returns-clause-shrunk : goal.returns-clause-shrunk
+returns-clause-shrunk c = λ accepted measured.
+    let job = c.args.job.now in
+    let smaller = c.in_ok-best.ensures accepted measured.limit_is in
+    let s = subst (IsSmallerJobAt c.args.at.first c.args.at.also job) (sym c.in_ok-best_or_input.ensures.job) smaller in
+    record {
+      smaller = s;
+      counted = c.in_ok-best_or_input.ensures.pages ∙ measured.counted
+          ∙ ap length (c.one_meaning.ensures.pages c.args.at.first job measured.limit_is.pages s.pages measured.limit_is.meaning s.meaning);
+    }
