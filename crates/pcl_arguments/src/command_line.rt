@@ -29,6 +29,8 @@ enum Argument {
     Folder,
     /// That a batch has none, and writes each job in its place.
     InPlace,
+    /// That a batch shrinks jobs too that printers may read otherwise.
+    ProfileOnly,
     /// The format of a certificate.
     Format,
     /// JSON where lines of columns could be asked for.
@@ -48,6 +50,12 @@ const ABOUT: &str = "A print filter for HP PCL 5: reads a job, and writes or sho
 const STATUSES: &str =
     "Statuses: 0 done, proved or the same, 1 refused, no such page, not proved or not the same, 2 usage, \
                         3 reading, writing or memory.";
+
+/// The option by which jobs are shrunk too that printers may read otherwise, and its help.
+const PROFILE_ONLY: &str = "profile-only";
+
+const READ_OTHERWISE: &str =
+    "Shrink jobs too that some printers read otherwise, which else go as they came";
 
 /// The subcommands, in the order of the help.
 const SUBCOMMANDS: [Subcommand; 8] = [
@@ -117,6 +125,7 @@ const SUBCOMMANDS: [Subcommand; 8] = [
                 "report",
                 "Tell on standard error the bytes of both jobs, the pages, and how they are written",
             ),
+            Argument::Flag(PROFILE_ONLY, READ_OTHERWISE),
             Argument::Dpi,
         ],
     },
@@ -135,6 +144,7 @@ const SUBCOMMANDS: [Subcommand; 8] = [
                 "min",
                 "Write least raster jobs as min does, each with a certificate beside it",
             ),
+            Argument::ProfileOnly,
             Argument::Flag("json", "Report in JSON, an object on each line"),
             Argument::Dpi,
             Argument::Jobs,
@@ -236,6 +246,7 @@ fn arg<'a>(alloc: Global, argument: Argument) -> Result<Arg<'a>, AllocError> {
         Argument::Output => Ok(output(alloc)),
         Argument::Folder => folder(alloc),
         Argument::InPlace => in_place(alloc),
+        Argument::ProfileOnly => profile_only(alloc),
         Argument::Format => format(alloc),
         Argument::Json => json(alloc),
         Argument::Quiet => Ok(quiet(alloc)),
@@ -314,6 +325,11 @@ fn in_place<'a>(alloc: Global) -> Result<Arg<'a>, AllocError> {
     .conflicts_with("output")?
     .conflicts_with("keep-folders")?
     .conflicts_with("min")
+}
+
+/// That a batch shrinks jobs too that printers may read otherwise.
+fn profile_only<'a>(alloc: Global) -> Result<Arg<'a>, AllocError> {
+    flag(alloc, PROFILE_ONLY, READ_OTHERWISE).conflicts_with("min")
 }
 
 /// The format of a certificate.

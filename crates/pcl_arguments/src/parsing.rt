@@ -6,6 +6,7 @@ use clap::{ArgMatches, Error};
 use pcl_base::{Dpi, PAGE_LIMIT};
 use pcl_cert::Format;
 use pcl_explain::kind_named;
+use pcl_page::Readers;
 use pcl_request::{
     Batch, Beside, Certificate, CheckedFiles, ComparedFiles, Destination, Layout, ReportForm,
     Request, Resolution, Rewriting, Run, Source, Target, Task, Work, resolution_named,
@@ -81,8 +82,8 @@ fn batch_with<'w>(batch: &ArgMatches<'w>) -> Result<Batch<'w>, WrongWord<'w>> {
         place: place_of(batch)?,
         rewriting: match resolution {
             _ if batch.get_flag("min") => Rewriting::Certify,
-            Resolution::FirstAccepted => Rewriting::ShrinkEverywhere,
-            Resolution::Given(_) => Rewriting::Shrink,
+            Resolution::FirstAccepted => Rewriting::ShrinkEverywhere(readers_of(batch)),
+            Resolution::Given(_) => Rewriting::Shrink(readers_of(batch)),
         },
         resolution,
         form: if batch.get_flag("json") {
@@ -159,6 +160,7 @@ fn run_of<'w>(name: &str, command: &ArgMatches<'w>) -> Result<Run<'w>, WrongWord
         "pages" => Work::Task(pages_task(command)),
         "shrink" => Work::Task(Task::Shrink {
             report: command.get_flag("report"),
+            readers: readers_of(command),
         }),
         _ => Work::Task(Task::Preview {
             choice: page_choice(command)?,
@@ -171,6 +173,15 @@ fn run_of<'w>(name: &str, command: &ArgMatches<'w>) -> Result<Run<'w>, WrongWord
         resolution: seen_at(work, resolution),
         quiet: name == "min" && command.get_flag("quiet"),
     })
+}
+
+/// For which readers a job is shrunk.
+fn readers_of(command: &ArgMatches<'_>) -> Readers {
+    if command.get_flag("profile-only") {
+        Readers::Profile
+    } else {
+        Readers::Printers
+    }
 }
 
 /// The resolution at which a job is seen; one is as good as the other where none is read.

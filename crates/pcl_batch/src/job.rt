@@ -9,7 +9,7 @@ use crate::rewriter::Rewriter;
 use crate::writing::write_again;
 use pcl_base::{Dpi, JobFault};
 use pcl_files::{FileKind, JobFiles, read_file, resolve};
-use pcl_page::page_count;
+use pcl_page::{Readers, page_count};
 use pcl_report::{Entry, FileSum, Outcome, Paths, Sums, file_name, sums_text};
 use pcl_request::{Batch, Destination, Rewriting};
 use pcl_streams::Fault;
@@ -182,9 +182,23 @@ fn how_of(alloc: Global, batch: Batch<'_>, dpi: Dpi) -> Result<String, AllocErro
     let version = batch.version;
     let dots = dpi.dots();
     match batch.rewriting {
-        Rewriting::Shrink => format!(in alloc; "pclmin {version} shrink --dpi {dots}"),
-        Rewriting::ShrinkEverywhere => format!(in alloc; "pclmin {version} shrink --dpi auto"),
+        Rewriting::Shrink(readers) => {
+            let flag = flag_of(readers);
+            format!(in alloc; "pclmin {version} shrink{flag} --dpi {dots}")
+        }
+        Rewriting::ShrinkEverywhere(readers) => {
+            let flag = flag_of(readers);
+            format!(in alloc; "pclmin {version} shrink{flag} --dpi auto")
+        }
         Rewriting::Certify => format!(in alloc; "pclmin {version} min --cert --dpi {dots}"),
+    }
+}
+
+/// What says for which readers a job is shrunk, as digests name it.
+fn flag_of(readers: Readers) -> &'static str {
+    match readers {
+        Readers::Printers => "",
+        Readers::Profile => " --profile-only",
     }
 }
 
@@ -271,7 +285,7 @@ fn is_of(job: Job<'_>, sums: Sums<'_>) -> bool {
 fn has_foreign_certificate<F: JobFiles>(files: &F, job: Job<'_>, is_named: bool) -> bool {
     let is_there = files.kind_of(job.paths.certificate.as_str()).is_some();
     match job.rewriting {
-        Rewriting::Shrink | Rewriting::ShrinkEverywhere => is_there && is_named,
+        Rewriting::Shrink(_) | Rewriting::ShrinkEverywhere(_) => is_there && is_named,
         Rewriting::Certify => is_there && !is_named,
     }
 }
@@ -288,7 +302,7 @@ fn found_earlier<F: JobFiles>(
         return Ok(Found::Earlier);
     };
     let certificate = match job.rewriting {
-        Rewriting::Shrink | Rewriting::ShrinkEverywhere => None,
+        Rewriting::Shrink(_) | Rewriting::ShrinkEverywhere(_) => None,
         Rewriting::Certify => sum_of(files, alloc, job.paths.certificate.as_str())?,
     };
     let certificate = certificate.as_ref();

@@ -1,7 +1,8 @@
 -- What was read and written where a text on a job is.
-use Rattle.std.proofs.Common.{◌≡◌, ◌≤◌, ℕ, List, Option, Result, Ok, Err, length, arith}
-use Rattle.pcl_command.proofs.Names.{Keeps-refl, Dpi, JobFault, Refusal, IsRefusal, fault_of, Fault, WriteFault, IsRead, input_limit, IsWritten, IsDescribed, IsRefusedEverywhere, IsShrunk, IsShrunkEverywhere, IsSmallerEverywhere, Shrunk, IsTextRun}
+use Rattle.std.proofs.Common.{◌≡◌, ◌≤◌, ℕ, List, Option, Result, Ok, Err, length, subst, arith}
+use Rattle.pcl_command.proofs.Names.{Keeps-refl, Dpi, JobFault, Refusal, IsRefusal, fault_of, Fault, WriteFault, IsRead, input_limit, IsWritten, IsDescribed, IsRefusedEverywhere, IsShrunk, IsShrunkEverywhere, IsWrittenEverywhere, IsWrittenFor, Readers, Shrunk, IsTextRun}
 use Rattle.pcl_base.specs.declared.fault.JobFault.TheVariants as fault
+use Rattle.pcl_shrink.proofs.Written.{written_for, written_everywhere}
 
 -- of a job that was read to its end, where its text was written, or a prefix of it
 pub text_run : (Tells : List ℕ → List ℕ → Type 0) (Refuses : List ℕ → Refusal → Type 0) {given left : Option (List ℕ)}
@@ -35,15 +36,21 @@ pub undescribed : (dpi : Dpi) (job : List ℕ) (why : JobFault) → IsDescribed 
 undescribed dpi job (fault.Refused refusal) d = d
 undescribed dpi job fault.Memory d = tt
 
-pub unshrunk : (dpi : Dpi) (job : List ℕ) (why : JobFault) → IsShrunk dpi job (Err why) → IsTextless dpi job why
-unshrunk dpi job (fault.Refused refusal) s = s
-unshrunk dpi job fault.Memory s = tt
+pub unshrunk : (readers : Readers) (dpi : Dpi) (job : List ℕ) (why : JobFault) → IsShrunk readers dpi job (Err why) → IsTextless dpi job why
+unshrunk readers dpi job (fault.Refused refusal) s = s
+unshrunk readers dpi job fault.Memory s = tt
 
-pub unshrunk_everywhere : (job : List ℕ) (why : JobFault) → IsShrunkEverywhere job (Err why) → IsTextlessBy IsRefusedEverywhere job why
-unshrunk_everywhere job (fault.Refused refusal) s = s
-unshrunk_everywhere job fault.Memory s = tt
+pub unshrunk_everywhere : (readers : Readers) (job : List ℕ) (why : JobFault) → IsShrunkEverywhere readers job (Err why)
+    → IsTextlessBy IsRefusedEverywhere job why
+unshrunk_everywhere readers job (fault.Refused refusal) s = s
+unshrunk_everywhere readers job fault.Memory s = tt
 
-pub smaller_there : {lent job : List ℕ} {shrunk : Shrunk} → lent ≡ job → IsShrunkEverywhere lent (Ok shrunk)
-    → IsSmallerEverywhere job shrunk.job.items
-smaller_there {lent} {job} {shrunk} is s =
-    let there : IsSmallerEverywhere lent shrunk.job.items = (s.0, s.1, s.2, s.3.smaller) in rw is at there
+pub written_here : (readers : Readers) (dpi : Dpi) {lent job : List ℕ} (shrunk : Shrunk) → lent ≡ job
+    → IsShrunk readers dpi lent (Ok shrunk) → IsWrittenFor readers dpi job shrunk.job.items
+written_here readers dpi {lent} {job} shrunk is s =
+    subst (λ (it : List ℕ). IsWrittenFor readers dpi it shrunk.job.items) is (written_for dpi lent shrunk readers shrunk.doubt s)
+
+pub written_there : (readers : Readers) {lent job : List ℕ} (shrunk : Shrunk) → lent ≡ job → IsShrunkEverywhere readers lent (Ok shrunk)
+    → IsWrittenEverywhere readers job shrunk.job.items
+written_there readers {lent} {job} shrunk is s =
+    subst (λ (it : List ℕ). IsWrittenEverywhere readers it shrunk.job.items) is (written_everywhere s.0 s.1 lent shrunk readers shrunk.doubt s.2 s.3)

@@ -9,7 +9,7 @@ use Rattle.pcl_cert.specs.declared.format.Format.TheVariants.{One}
 use Rattle.pcl_streams.specs.declared.fault.Fault.{Fault}
 use Rattle.pcl_streams.specs.JobFaults.{RefusedOrMemory, fault_of}
 use Rattle.pcl_tool.specs.Minimizing.{IsCertifiedJobOf}
-use Rattle.pcl_shrink.specs.Shrinking.{IsSmallerJob, IsSmallerEverywhere, IsRefusedEverywhere}
+use Rattle.pcl_shrink.specs.Shrinking.{IsWrittenFor, IsWrittenEverywhere, IsRefusedEverywhere}
 use Rattle.pcl_files.specs.Failures.{HasFailed}
 use Rattle.pcl_files.specs.Messages.{line_of, status_for}
 use Rattle.pcl_files.specs.declared.failures.Failure.{Failure}
@@ -20,16 +20,16 @@ use Rattle.pcl_command.specs.declared.rewriting.Again.{Again}
 
 -- the smallest job that is found, alone, or the least raster job and its certificate
 abbrev pub IsRewrittenTo : Rewriting → Dpi → (job again : List ℕ) → Option (Vec ℕ) → Type 0
-IsRewrittenTo Shrink dpi job again None = IsSmallerJob dpi job again
-IsRewrittenTo Shrink dpi job again (Some certificate) = ⊥
-IsRewrittenTo ShrinkEverywhere dpi job again None = IsSmallerEverywhere job again
-IsRewrittenTo ShrinkEverywhere dpi job again (Some certificate) = ⊥
+IsRewrittenTo (Shrink readers) dpi job again None = IsWrittenFor readers dpi job again
+IsRewrittenTo (Shrink readers) dpi job again (Some certificate) = ⊥
+IsRewrittenTo (ShrinkEverywhere readers) dpi job again None = IsWrittenEverywhere readers job again
+IsRewrittenTo (ShrinkEverywhere readers) dpi job again (Some certificate) = ⊥
 IsRewrittenTo Certify dpi job again (Some certificate) = IsCertifiedJobOf dpi One job again certificate.items
 IsRewrittenTo Certify dpi job again None = ⊥
 
 -- a refusal is the one at the resolution; or at both
 abbrev pub RefusesAgain : Rewriting → Dpi → List ℕ → Refusal → Type 0
-RefusesAgain ShrinkEverywhere dpi job refusal = IsRefusedEverywhere job refusal
+RefusesAgain (ShrinkEverywhere readers) dpi job refusal = IsRefusedEverywhere job refusal
 RefusesAgain other dpi job refusal = IsRefusal dpi job refusal
 
 -- where it isn't written again it is refused so, or memory ran out

@@ -13,7 +13,7 @@ use Rattle.pcl_streams.specs.PageImages.{IsPagesPreview}
 use Rattle.pcl_streams.specs.Transfer.{AppendsFront, IsWritten}
 use Rattle.pcl_tool.specs.Minimizing.{IsFiltered, IsRead}
 use Rattle.pcl_explain.specs.Findings.{Explains, ExplainsKind}
-use Rattle.pcl_shrink.specs.Shrinking.{IsSmallerJob, IsSmallerEverywhere, IsRefusedEverywhere}
+use Rattle.pcl_shrink.specs.Shrinking.{IsWrittenFor, IsWrittenEverywhere, IsRefusedEverywhere}
 use Rattle.pcl_files.specs.Failures.{HasFailed, HasFailedFile, IsOutcome}
 use Rattle.pcl_files.specs.Files.{FileAct, Opened, Unopened, Begun, Unbegun}
 use Rattle.pcl_files.specs.Messages.{line_of, status_for}
@@ -87,7 +87,7 @@ HasDoneTask (Preview choice) dpi given left old new done = IsPreviewRun dpi choi
 HasDoneTask Explain dpi given left old new done = IsTextRun (Explains dpi) NeverRefuses given left old new done
 HasDoneTask (ExplainKind kind) dpi given left old new done = (left ≡ given) × IsKindExplained kind old new done
 HasDoneTask (DescribePages layout) dpi given left old new done = IsTextRun (TellsOfPages dpi) (IsRefusal dpi) given left old new done
-HasDoneTask (Shrink report) dpi given left old new done = IsTextRun (IsSmallerJob dpi) (IsRefusal dpi) given left old new done
+HasDoneTask (Shrink report readers) dpi given left old new done = IsTextRun (IsWrittenFor readers dpi) (IsRefusal dpi) given left old new done
 
 -- the job can't be read, or the task is done with the bytes of the job, at the first resolution at which that is accepted
 abbrev pub HasDoneFirst : Task → (given left old new : Option (List ℕ)) → Result (Unit {0}) Fault → Type 0
@@ -98,7 +98,8 @@ HasDoneFirst task given left old new done =
 
 -- a job is shrunk for each resolution at which it is accepted
 abbrev pub HasDoneAccepted : Task → (given left old new : Option (List ℕ)) → Result (Unit {0}) Fault → Type 0
-HasDoneAccepted (Shrink report) given left old new done = IsTextRun IsSmallerEverywhere IsRefusedEverywhere given left old new done
+HasDoneAccepted (Shrink report readers) given left old new done =
+    IsTextRun (IsWrittenEverywhere readers) IsRefusedEverywhere given left old new done
 HasDoneAccepted task given left old new done = HasDoneFirst task given left old new done
 
 -- the task at a resolution that is given, or at those at which the job is accepted

@@ -4,7 +4,7 @@ use itoa::Buffer;
 use pcl_base::{Dpi, JobFault};
 use pcl_files::Reporter;
 use pcl_page::page_count;
-use pcl_shrink::{Candidate, Shrunk};
+use pcl_shrink::{Candidate, Doubt, Shrunk};
 use std::alloc::{AllocError, Global};
 
 /// What is said of a job without pages.
@@ -48,6 +48,10 @@ fn shrunk_line(alloc: Global, len: usize, shrunk: &Shrunk) -> Result<Vec<u8>, Al
     append_number(shrunk.job.len(), b" out, ", &mut line)?;
     append_number(shrunk.pages, b" pages, ", &mut line)?;
     line.extend_from_slice(candidate_name(shrunk.by))?;
+    if let Some(doubt) = shrunk.doubt {
+        line.extend_from_slice(b", since printers read otherwise ")?;
+        line.extend_from_slice(doubt_name(doubt))?;
+    }
     line.extend_from_slice(b"\n")?;
     Ok(line)
 }
@@ -68,6 +72,25 @@ fn candidate_name(by: Candidate) -> &'static [u8] {
         Candidate::Raster => b"as least rasters",
         Candidate::Coarse => b"as rasters of other resolutions",
         Candidate::Glyphs => b"as glyphs",
+    }
+}
+
+/// What printers may read otherwise in a job.
+fn doubt_name(doubt: Doubt) -> &'static [u8] {
+    match doubt {
+        Doubt::BetweenDots => b"what stands between dots",
+        Doubt::ShortRaster => b"where the cursor is after fewer rows than a raster's height",
+        Doubt::FirstLine => b"where the cursor is after settings on a page without marks",
+        Doubt::SeedRow => b"an offset of 0 before a row by method 3",
+        Doubt::RasterSize => b"a width or a height of a raster of 0",
+        Doubt::Advance => b"an advance below 0",
+        Doubt::Code => b"a code without a character",
+        Doubt::EmptyMark => b"a mark without dots on the page",
+        Doubt::ColumnWidth => b"the column width after another font, or a font sent anew",
+        Doubt::PastEnd => b"a tab, or a move by rows, past the end of the page",
+        Doubt::PartOfUnit => b"a part of a unit",
+        Doubt::Ejection => b"sides, a media type or a page length on a page with marks",
+        Doubt::Edge => b"ink past an edge of the page",
     }
 }
 

@@ -24,8 +24,10 @@ pub fn rewrite(alloc: Global, job: &[u8], dpi: Dpi, rewriting: Rewriting) -> Res
     ensures { IsRewritten rewriting dpi job.now result }
 {
     match rewriting {
-        Rewriting::Shrink => shrunk_again(alloc, shrink(alloc, job, dpi)),
-        Rewriting::ShrinkEverywhere => shrunk_again(alloc, shrink_everywhere(alloc, job)),
+        Rewriting::Shrink(readers) => shrunk_again(alloc, shrink(alloc, job, dpi, readers)),
+        Rewriting::ShrinkEverywhere(readers) => {
+            shrunk_again(alloc, shrink_everywhere(alloc, job, readers))
+        }
         Rewriting::Certify => match minimize(alloc, job, dpi, Format::One) {
             Ok(output) => Ok(Again {
                 job: output.job,

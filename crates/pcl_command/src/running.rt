@@ -3,7 +3,7 @@
 ghost use Rattle.std.specs.Prelude.{◌≡◌, if◌then◌else◌, None, Some};
 ghost use Rattle.pcl_page.specs.Delivering.{IsRefusal};
 ghost use Rattle.pcl_explain.specs.Findings.{Explains};
-ghost use Rattle.pcl_shrink.specs.Shrinking.{IsSmallerJob, IsSmallerEverywhere, IsRefusedEverywhere};
+ghost use Rattle.pcl_shrink.specs.Shrinking.{IsWrittenFor, IsWrittenEverywhere, IsRefusedEverywhere};
 ghost use Rattle.pcl_command.specs.Runs.{HasCarriedOut, HasDone, HasDoneAccepted, HasDoneFirst, HasDoneSeen, HasDoneTask, HasEnded, HasWritten, HasWrittenTo, IsKindExplained, IsPreviewRun, IsTextRun, NeverRefuses, TellsOfPages};
 ghost use Rattle.pcl_command.specs.World.{world};
 
@@ -17,7 +17,7 @@ use pcl_files::{Failure, JobFiles, Reporter, outcome, settle};
 use pcl_page::first_accepted;
 use pcl_pages::describe_pages;
 use pcl_request::{Layout, Request, Resolution, Run, Source, Target, Task, Work};
-use pcl_shrink::{shrink, shrink_everywhere};
+use pcl_shrink::{Readers, shrink, shrink_everywhere};
 use pcl_streams::{Fault, PageChoice, preview_pages, read_all, write_all};
 use pcl_tool::{INPUT_LIMIT, filter_watched};
 use std::alloc::Global;
@@ -197,7 +197,9 @@ fn do_accepted<R: Read, W: Write, P: Reporter>(
     ensures { HasDoneAccepted task (R.remaining reader.old) (R.remaining reader.new) (W.contents out.old) (W.contents out.new) result }
 {
     match task {
-        Task::Shrink { report } => write_smallest(alloc, report, reader, out, watcher),
+        Task::Shrink { report, readers } => {
+            write_smallest(alloc, report, readers, reader, out, watcher)
+        }
         Task::Minimize
         | Task::Preview { .. }
         | Task::Explain
@@ -239,7 +241,9 @@ fn do_task<R: Read, W: Write, P: Reporter>(
         Task::Explain => explain(alloc, dpi, reader, out, watcher),
         Task::ExplainKind { kind } => explain_kind(alloc, kind, out),
         Task::DescribePages { layout } => describe(alloc, layout, dpi, reader, out, watcher),
-        Task::Shrink { report } => write_smaller(alloc, report, dpi, reader, out, watcher),
+        Task::Shrink { report, readers } => {
+            write_smaller(alloc, report, readers, dpi, reader, out, watcher)
+        }
     }
 }
 
@@ -300,21 +304,22 @@ fn describe<R: Read, W: Write, P: Reporter>(
     write_all(out, &text)
 }
 
-/// Writes the smallest job that is found with the pages of the job that a reader gives, which asks for the same. A job without
-/// pages is reported, and what shrinking it did if that is asked for.
+/// Writes the smallest job that is found with the pages of the job that a reader gives, which asks for the same, for these readers. A
+/// job without pages is reported, and what shrinking it did if that is asked for.
 fn write_smaller<R: Read, W: Write, P: Reporter>(
     alloc: Global,
     report: bool,
+    readers: Readers,
     dpi: Dpi,
     reader: &mut R,
     out: &mut W,
     reporter: P,
 ) -> Result<(), Fault>
-    ensures { IsTextRun (IsSmallerJob dpi) (IsRefusal dpi) (R.remaining reader.old) (R.remaining reader.new)
+    ensures { IsTextRun (IsWrittenFor readers dpi) (IsRefusal dpi) (R.remaining reader.old) (R.remaining reader.new)
         (W.contents out.old) (W.contents out.new) result }
 {
     let job = read_all(alloc, reader, INPUT_LIMIT)?;
-    let shrunk = shrink(alloc, &job, dpi)?;
+    let shrunk = shrink(alloc, &job, dpi, readers)?;
     report_shrunk(alloc, job.len(), &shrunk, report, reporter)?;
     write_all(out, &shrunk.job)
 }
@@ -323,15 +328,16 @@ fn write_smaller<R: Read, W: Write, P: Reporter>(
 fn write_smallest<R: Read, W: Write, P: Reporter>(
     alloc: Global,
     report: bool,
+    readers: Readers,
     reader: &mut R,
     out: &mut W,
     reporter: P,
 ) -> Result<(), Fault>
-    ensures { IsTextRun IsSmallerEverywhere IsRefusedEverywhere (R.remaining reader.old) (R.remaining reader.new)
+    ensures { IsTextRun (IsWrittenEverywhere readers) IsRefusedEverywhere (R.remaining reader.old) (R.remaining reader.new)
         (W.contents out.old) (W.contents out.new) result }
 {
     let job = read_all(alloc, reader, INPUT_LIMIT)?;
-    let shrunk = shrink_everywhere(alloc, &job)?;
+    let shrunk = shrink_everywhere(alloc, &job, readers)?;
     report_shrunk(alloc, job.len(), &shrunk, report, reporter)?;
     write_all(out, &shrunk.job)
 }

@@ -23,7 +23,8 @@ use Rattle.pcl_tool.specs.JobVerdicts.{IsJobVerdict}
 use Rattle.pcl_same.specs.declared.comparison.AskedComparison.{AskedComparison}
 use Rattle.pcl_same.specs.declared.comparison.AskedComparison.TheVariants as comparisons
 use Rattle.pcl_answers.specs.Comparisons.{IsComparisonFor}
-use Rattle.pcl_shrink.specs.Shrinking.{IsSmallerJob}
+use Rattle.pcl_page.specs.declared.doubts.Readers.TheVariants.{Printers}
+use Rattle.pcl_shrink.specs.Shrinking.{IsWrittenFor}
 use Rattle.pcl_explain.specs.Findings.{Explains}
 use Rattle.pcl_same.specs.declared.fault.Job.{Job}
 use Rattle.pcl_same.specs.declared.fault.Job.TheVariants.{First, Second}
@@ -134,9 +135,9 @@ HasLeastJob job (Some format) dpi answer =
 abbrev pub HasWrittenJob : List ℕ → ℕ → Dpi → Answer → Type 0
 HasWrittenJob job number dpi answer = (format : Option Format) × IsFormatFor number format × HasLeastJob job format dpi answer
 
--- a job with the same pages, which asks for the same and is no longer
+-- a job with the same pages, which asks for the same and is no longer; for printers it may be the job as it came
 abbrev pub HasSmallerJob : List ℕ → Dpi → Answer → Type 0
-HasSmallerJob job dpi answer = IsSmallerJob dpi job answer.made.now
+HasSmallerJob job dpi answer = IsWrittenFor Printers dpi job answer.made.now
 
 -- the number of the job's pages
 abbrev pub HasPageCount : List ℕ → Dpi → Answer → Type 0

@@ -9,7 +9,7 @@ use crate::arguments::{format_numbered, seen_at};
 use crate::failure::Failure;
 use pcl_base::Dpi;
 use pcl_cert::Format;
-use pcl_shrink::shrink;
+use pcl_shrink::{Readers, shrink};
 use pcl_tool::{Fault, INPUT_LIMIT, Unwatched, least_job, minimize};
 use std::alloc::Global;
 
@@ -77,7 +77,8 @@ fn certified_answer(alloc: Global, job: &[u8], format: Format, dpi: Dpi) -> Answ
     }
 }
 
-/// `pclmin_shrink`: the smallest job that is found with the same pages. It asks the printer for the same.
+/// `pclmin_shrink`: the smallest job that is found with the same pages, which asks the printer for the same; the job as it came where
+/// printers may read that otherwise.
 #[unsafe(no_mangle)]
 pub extern "C" fn pcl_library_shrink(
     alloc: Global,
@@ -94,11 +95,11 @@ pub extern "C" fn pcl_library_shrink(
     };
 }
 
-/// The smallest job that is found.
+/// The smallest job that is found, for printers.
 fn shrink_answer(alloc: Global, job: &[u8], dpi: Dpi) -> Answer
     ensures { AnswersAt dpi job.now (HasSmallerJob job.now dpi) result }
 {
-    match shrink(alloc, job, dpi) {
+    match shrink(alloc, job, dpi, Readers::Printers) {
         Ok(shrunk) => Answer::of_bytes(shrunk.job, dpi),
         Err(fault) => Answer::of_failure(alloc, &Failure::from(fault), 0),
     }

@@ -1,14 +1,15 @@
 //! What a batch is asked for.
 
 use crate::request::Resolution;
+use pcl_page::Readers;
 
 /// How each job is written again.
 #[derive(Clone, Copy, Debug, PartialEq, Eq)]
 pub enum Rewriting {
-    /// As the smallest job that is found with the same dots.
-    Shrink,
+    /// As the smallest job that is found with the same dots, for these readers.
+    Shrink(Readers),
     /// The same at each resolution at which the job is accepted.
-    ShrinkEverywhere,
+    ShrinkEverywhere(Readers),
     /// As the least raster job, with a certificate of the first format in a file of its own.
     Certify,
 }

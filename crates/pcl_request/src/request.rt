@@ -6,6 +6,7 @@ ghost use Rattle.pcl_request.specs.declared.request.Resolution.{Resolution};
 
 use pcl_base::{Dpi, Kind};
 use pcl_cert::Format;
+use pcl_page::Readers;
 use pcl_streams::PageChoice;
 
 /// What a run makes of its job.
@@ -21,8 +22,9 @@ pub enum Task {
     ExplainKind { kind: Kind },
     /// What its pages are, in a layout.
     DescribePages { layout: Layout },
-    /// The smallest job that is found with its pages, which asks for the same; and a report of its bytes if that is asked for.
-    Shrink { report: bool },
+    /// The smallest job that is found with its pages, which asks for the same, for these readers; and a report of its bytes if that is
+    /// asked for.
+    Shrink { report: bool, readers: Readers },
 }
 
 /// A certificate that is asked for.

@@ -1,5 +1,5 @@
-use Rattle.pcl_command.proofs.Names.{List, ℕ, Err, subst, err_from_is_err_and, IsRefusedEverywhere, IsSmallerEverywhere, IsShrunkEverywhere}
-use Rattle.pcl_command.proofs.TextRuns.{text_run, textless_by, unshrunk_everywhere, smaller_there}
+use Rattle.pcl_command.proofs.Names.{List, ℕ, Err, subst, err_from_is_err_and, IsRefusedEverywhere, IsShrunkEverywhere, IsWrittenEverywhere}
+use Rattle.pcl_command.proofs.TextRuns.{text_run, textless_by, unshrunk_everywhere, written_there}
 use Rattle.pcl_command.proofs.running.write_smallest.Goals as goal
 
 pub returns-in_err-shrunk : goal.returns-in_err-shrunk
@@ -7,12 +7,13 @@ returns-in_err-shrunk g c =
     let p = err_from_is_err_and c.from_residual-in_err-shrunk.result c.from_residual-in_err-shrunk.ensures.1 in
     let r = c.in_ok-job.ensures in
     rw (p.1, p.2)
-    (textless_by IsSmallerEverywhere IsRefusedEverywhere _ c.in_err-shrunk.field-0.0 (record { given = r.0; ended = r.1 }) r.2
-    (unshrunk_everywhere _ c.in_err-shrunk.field-0.0 (subst (λ (job : List ℕ). IsShrunkEverywhere job (Err c.in_err-shrunk.field-0.0))
+    (textless_by (IsWrittenEverywhere c.args.readers) IsRefusedEverywhere _ c.in_err-shrunk.field-0.0 (record { given = r.0; ended = r.1 }) r.2
+    (unshrunk_everywhere c.args.readers _ c.in_err-shrunk.field-0.0
+    (subst (λ (job : List ℕ). IsShrunkEverywhere c.args.readers job (Err c.in_err-shrunk.field-0.0))
     c.deref.ensures.value c.in_err-shrunk.ensures)))
 
 pub returns : goal.returns
 returns g c =
     let r = c.in_ok-job.ensures in
-    text_run IsSmallerEverywhere IsRefusedEverywhere _ _ _ (record { given = r.0; ended = r.1 })
-    (smaller_there c.deref.ensures.value c.in_ok-shrunk.ensures) (rw c.deref-2.ensures.value at c.write_all.ensures)
+    text_run (IsWrittenEverywhere c.args.readers) IsRefusedEverywhere _ _ _ (record { given = r.0; ended = r.1 })
+    (written_there c.args.readers _ c.deref.ensures.value c.in_ok-shrunk.ensures) (rw c.deref-2.ensures.value at c.write_all.ensures)
