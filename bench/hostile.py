@@ -271,9 +271,10 @@ FACTORS = 4, 2
 
 
 def taken(program, how, path, dpi):
-    """The processor's seconds and the bytes of memory of a run, and the bytes that it writes."""
+    """The processor's seconds and the bytes of memory of a run, and the bytes that it writes. What printers read otherwise is shrunk too."""
     out = path.with_suffix("." + how)
-    command = ["/usr/bin/time", "-f", "%U %S %M", program, how, "--dpi", str(dpi), "-o", out, path]
+    readers = ["--profile-only"] if how == "shrink" else []
+    command = ["/usr/bin/time", "-f", "%U %S %M", program, how, *readers, "--dpi", str(dpi), "-o", out, path]
     told = subprocess.run(command, stderr=subprocess.PIPE, text=True, check=True).stderr.splitlines()[-1]
     user, system, kilobytes = told.split()
     written = out.stat().st_size

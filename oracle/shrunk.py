@@ -4,11 +4,12 @@
     python3 oracle/shrunk.py PCLMIN PLAIN COUNT SEED [--workers N] [--folder FOLDER]
 
 The jobs are those of random_jobs.py: one to three that are mostly accepted, joined, or one of any kind, by `--dpi 300`, `--dpi 600` or
-`--dpi auto`, which is drawn too; the first of eight that is accepted, or the last. What `shrink` writes of an accepted one is no longer,
-has as many pages, each the same by the plain program, and is the same by `same --asked`; by `--dpi auto` it has these pages at each
-resolution at which the plain program accepts the job. A job that `shrink` refuses is refused by the plain program in the same line. A
-job that doesn't hold is kept in FOLDER (build/fuzz) as shrunk-SEED-NUMBER.pcl, with a line on standard output, and the status is then
-1. The number of workers is 1 if it isn't given; the jobs don't depend on it.
+`--dpi auto`, which is drawn too; the first of eight that is accepted, or the last. Four of five go by `--profile-only`. What `shrink`
+writes of an accepted one is no longer, has as many pages, each the same by the plain program, and is the same by `same --asked`; by `--dpi auto` it has these pages at each
+resolution at which the plain program accepts the job. Without `--profile-only` it is the job as it came, or printers don't read it
+otherwise. A job that `shrink` refuses is refused by the plain program in the same line. A job that doesn't hold is kept in FOLDER
+(build/fuzz) as shrunk-SEED-NUMBER.pcl, with a line on standard output, and the status is then 1. The number of workers is 1 if it isn't
+given; the jobs don't depend on it.
 """
 
 import argparse
@@ -55,15 +56,22 @@ class Looker:
                 out.write(content)
         return self.pclmin.run(["same", "--asked", "--dpi", dpi] + self.pclmin.names[:2], b"")
 
+    def is_doubted(self, job, dpi):
+        """Whether printers may read a job otherwise, by what `shrink` reports."""
+        return b"since printers read otherwise" in self.pclmin.run(["shrink", "--report", "--dpi", dpi], job)[2]
+
     def look(self, number):
         """What doesn't hold of a job, none where all does; and how it came out."""
         draw = random.Random("%d %d shrunk" % (self.seed, number))
         for _ in range(TRIES):
             job, dpi = random_job(draw)
-            status, written, said = self.pclmin.run(["shrink", "--dpi", dpi], job)
+            readers = ["--profile-only"] if draw.random() < 0.8 else []
+            status, written, said = self.pclmin.run(["shrink", "--dpi", dpi] + readers, job)
             if status == 0:
                 break
         fault, outcome = self.fault_of(job, dpi, status, written, said)
+        if not fault and not readers and written != job and self.is_doubted(written, dpi):
+            fault = "what is written may be read otherwise"
         if fault:
             with open(os.path.join(self.folder, "shrunk-%d-%d.pcl" % (self.seed, number)), "wb") as out:
                 out.write(job)
