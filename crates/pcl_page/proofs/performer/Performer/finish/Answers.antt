@@ -1,5 +1,4 @@
-use Rattle.std.proofs.Common.{subst, sym}
-use Rattle.pcl_page.proofs.Names.{refl, arith, TooManyPages, Performer, Holds}
+use Rattle.pcl_page.proofs.Names.{refl, arith, TooManyPages}
 use Rattle.pcl_page.proofs.Steps.{end_marked, end_unmarked, end_past}
 use Rattle.pcl_page.proofs.performer.Performer.finish.Goals as goal
 
