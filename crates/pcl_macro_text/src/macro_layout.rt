@@ -28,7 +28,7 @@ pub struct MacroPlan {
     pub macros: Macros,
 }
 
-/// The layout of these letters, on pages of these widths, of which so many dots are one at 300 dots per inch.
+/// The layout of these letters, on pages of these widths, of which `scale` dots are one at 300 dots per inch.
 pub fn lay_out_macros(
     alloc: Global,
     scale: u32,

@@ -34,7 +34,7 @@ pub struct Setting {
 }
 
 impl Macros {
-    /// The macros of a text: those of its glyphs and phrases. So many of its dots are one at 300 dots per inch.
+    /// The macros of a text: those of its glyphs and phrases. `scale` of its dots are one at 300 dots per inch.
     pub fn new(alloc: Global, text: &Text, scale: u32) -> Result<Macros, AllocError> {
         let mut uses = IndexMap::new(alloc);
         count_text(text, &mut uses)?;

@@ -472,7 +472,7 @@ fn unit_of(axis: Axis, unit: Unit, environment: &Env) -> u32 {
     }
 }
 
-/// Whether so many of a length are no whole number of units of 1/7200 inch.
+/// Whether a value times a length is no whole number of units of 1/7200 inch.
 fn has_rest(value: Value, length: u32) -> bool {
     u64::from(value.parts) * u64::from(length) % u64::from(WHOLE) != 0
 }

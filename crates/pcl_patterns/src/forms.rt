@@ -15,7 +15,7 @@ const MACRO_BYTES: usize = 50;
 pub enum Form {
     /// By characters of soft fonts: at 300 dots per inch, since a bit of a font is a dot of these.
     Characters,
-    /// By macros that send rasters, where so many dots are one at 300 dots per inch.
+    /// By macros that send rasters, where `scale` dots are one at 300 dots per inch.
     Macros { scale: u32 },
 }
 

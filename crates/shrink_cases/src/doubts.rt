@@ -19,7 +19,7 @@ use std::alloc::{AllocError, Global};
 
 /// What the lines of the table say up to one of them.
 #[derive(Drop)]
-pub struct Doubts {
+pub struct DoubtCases {
     name: String,
     start: Vec<u8>,
     job: Vec<u8>,
@@ -27,10 +27,10 @@ pub struct Doubts {
     dpi: Option<Dpi>,
 }
 
-impl Doubts {
+impl DoubtCases {
     /// Before the first line.
-    pub fn new(alloc: Global) -> Doubts {
-        Doubts {
+    pub fn new(alloc: Global) -> DoubtCases {
+        DoubtCases {
             name: String::new(alloc),
             start: Vec::new(alloc),
             job: Vec::new(alloc),
@@ -77,7 +77,7 @@ impl Doubts {
     }
 }
 
-impl CasesOfLines for Doubts {
+impl CasesOfLines for DoubtCases {
     fn name(&self) -> &str {
         self.name.as_str()
     }

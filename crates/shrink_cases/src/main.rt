@@ -26,7 +26,7 @@
 mod doubts;
 
 use case_tables::{RunFault, check_lines};
-use doubts::Doubts;
+use doubts::DoubtCases;
 use pcl_base::{Dpi, JobFault};
 use pcl_shrink::{Readers, Shrunk, shrink, shrink_everywhere};
 use std::alloc::{AllocError, Global};
@@ -220,7 +220,7 @@ fn print_letters<R: Print + AllocGlobal>(rt: &R) -> io::Result<()> {
 
 /// Prints how many jobs go as they came where printers may read them otherwise, and no others.
 fn print_doubts(rt: &(impl Files + AllocGlobal + Print), folder: &str) -> Result<(), RunFault> {
-    let cases = Doubts::new(rt.alloc());
+    let cases = DoubtCases::new(rt.alloc());
     let (count, failed) = check_lines(rt, rt.alloc(), folder, "doubts.txt", cases)?;
     if failed > 0 {
         return Err(RunFault::Fails { failed, count });
