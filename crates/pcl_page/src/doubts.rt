@@ -34,7 +34,7 @@ pub enum Doubt {
     Advance,
     /// A code without a character.
     Code,
-    /// A rectangle or a character without dots on an unmarked page.
+    /// A rectangle or a character without dots, or a raster without rows, on an unmarked page.
     EmptyMark,
     /// The column width after another font came into use, or the selected one was sent anew.
     ColumnWidth,
@@ -42,9 +42,9 @@ pub enum Doubt {
     PastEnd,
     /// A part of a unit of 1/7200 inch, or of a PCL unit.
     PartOfUnit,
-    /// Sides or a media type on a marked page, which may eject it.
+    /// Sides, a media type or a page length on a marked page, which may eject it.
     Ejection,
-    /// Ink past the left or the right edge of the page.
+    /// Ink past the left or the right edge of the page, or half a dot past its lower one.
     Edge,
 }
 
