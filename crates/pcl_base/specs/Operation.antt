@@ -5,7 +5,7 @@ use Rattle.pcl_base.specs.declared.name.Name.TheVariants.{Empty, One, Two, Three
 use Rattle.pcl_base.specs.declared.operation.Axis.TheVariants.{Horizontal, Vertical}
 use Rattle.pcl_base.specs.declared.operation.Unit.TheVariants.{PclUnit, Decipoint, Column}
 use Rattle.pcl_base.specs.declared.operation.Side.TheVariants.{Primary, Secondary}
-use Rattle.pcl_base.specs.declared.operation.Asking.TheVariants.{Sides, OutputBin, MediaType, PaperSource, SheetSide, PageLength}
+use Rattle.pcl_base.specs.declared.operation.Asking.TheVariants.{Sides, OutputBin, MediaType, PaperSource, SheetSide, PageLength, LeftOffset, TopOffset}
 use Rattle.pcl_base.specs.declared.operation.Operation.{Operation}
 use Rattle.pcl_base.specs.declared.operation.Operation.TheVariants.{Reset, UniversalExit, ClearMargins, HalfLineFeed, HorizontalTab, LineFeed, FormFeed, CarriageReturn, Shift, PageSize, Copies, VerticalMotionIndex, LineSpacing, TopMargin, TextLength, PerforationSkip, OnlyZero, Ask, UnitOfMeasure, HorizontalMotionIndex, LineTermination, LeftMargin, Move, CursorStack, MacroId, ControlMacros, RectangleSize, FillRectangle, FontId, CharacterCode, ControlFonts, DownloadFont, DownloadCharacter, SelectFont, PrintText, RasterResolution, RasterWidth, RasterHeight, RasterPresentation, StartRaster, EndRaster, EndRasterResetMethod, RasterMethod, RasterOffset, RasterRow, NoEffect}
 
@@ -49,8 +49,8 @@ operations =
     (named (codes "&lF"), TextLength) ∷
     (named (codes "&lL"), PerforationSkip) ∷
     (named (codes "&lO"), OnlyZero) ∷
-    (named (codes "&lU"), OnlyZero) ∷
-    (named (codes "&lZ"), OnlyZero) ∷
+    (named (codes "&lU"), Ask LeftOffset) ∷
+    (named (codes "&lZ"), Ask TopOffset) ∷
     (named (codes "&lH"), Ask PaperSource) ∷
     (named (codes "&lS"), Ask Sides) ∷
     (named (codes "&lG"), Ask OutputBin) ∷

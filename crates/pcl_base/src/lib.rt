@@ -10,6 +10,7 @@ mod limits;
 mod method;
 mod name;
 mod operation;
+mod profile;
 mod refusal;
 mod size;
 mod value;
@@ -25,6 +26,7 @@ pub use limits::{
 pub use method::Method;
 pub use name::Name;
 pub use operation::{Asking, Axis, Operation, Side, Unit};
+pub use profile::Profile;
 pub use refusal::Refusal;
 pub use size::Size;
 pub use value::{Sign, Value};

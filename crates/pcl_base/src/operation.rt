@@ -49,6 +49,10 @@ pub enum Asking {
     SheetSide,
     /// The length of the page in lines, by which printers choose a paper ("Page Length").
     PageLength,
+    /// How far the page is moved to the right on its sheet ("Left Offset Registration").
+    LeftOffset,
+    /// How far the page is moved down on its sheet ("Top Offset Registration").
+    TopOffset,
 }
 
 /// What a command does. docs/LANGUAGE.md, "Commands", says of each which values it takes.
@@ -86,7 +90,7 @@ pub enum Operation {
     TextLength,
     /// Sets whether a line feed skips the bottom margin ("Perforation Skip").
     PerforationSkip,
-    /// Takes 0 alone and does nothing: orientation, offsets, print direction, transparency.
+    /// Takes 0 alone and does nothing: orientation, print direction, transparency.
     OnlyZero,
     /// Asks something of the printer besides dots; a paper source and a side of the sheet eject a marked page.
     Ask(Asking),
@@ -181,8 +185,8 @@ impl Operation {
             Name::Three(b'&', b'l', b'F') => Operation::TextLength,
             Name::Three(b'&', b'l', b'L') => Operation::PerforationSkip,
             Name::Three(b'&', b'l', b'O') => Operation::OnlyZero,
-            Name::Three(b'&', b'l', b'U') => Operation::OnlyZero,
-            Name::Three(b'&', b'l', b'Z') => Operation::OnlyZero,
+            Name::Three(b'&', b'l', b'U') => Operation::Ask(Asking::LeftOffset),
+            Name::Three(b'&', b'l', b'Z') => Operation::Ask(Asking::TopOffset),
             Name::Three(b'&', b'l', b'H') => Operation::Ask(Asking::PaperSource),
             Name::Three(b'&', b'l', b'S') => Operation::Ask(Asking::Sides),
             Name::Three(b'&', b'l', b'G') => Operation::Ask(Asking::OutputBin),

@@ -9,6 +9,7 @@ use Rattle.pcl_env.specs.Stack.{place_of}
 
 abbrev pub settings : Size → Place → List Position → Setup → Settings
 settings size cursor stack setup = record {
+  profile = setup.profile;
   size = size;
   copies = setup.copies;
   pcl_unit = setup.pcl_unit;

@@ -1,4 +1,5 @@
 pub mod Settings
+pub mod Offset
 pub mod Outcome
 pub mod Stack
 pub mod Usable

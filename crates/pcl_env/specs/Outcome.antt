@@ -1,18 +1,21 @@
 -- What each command does to the settings and to the page, and which values it takes.
-use Rattle.std.specs.Prelude.{◌≡◌, ℕ, ◌+◌, ◌-◌, ◌*◌, ◌/◌, ◌==◌, ◌&&◌, nat_lt, nat_le, Bool, min, max, if◌then◌else◌, length, List, [], ◌∷◌, Option, Some, None, Result, Ok, IsErr}
+use Rattle.std.specs.Prelude.{◌≡◌, ℕ, ◌+◌, ◌-◌, ◌*◌, ◌/◌, ◌==◌, ◌&&◌, ◌||◌, not, nat_lt, nat_le, Bool, true, min, max, if◌then◌else◌, length, List, [], ◌∷◌, Option, Some, None, Result, Ok, IsErr, ℤ}
 use Rattle.std.specs.List.{list_any}
+use Rattle.std.specs.Ordering.{int_eq}
 use Rattle.pcl_base.specs.declared.dpi.Dpi.{Dpi}
 use Rattle.pcl_base.specs.declared.dpi.Dpi.TheVariants.{Dpi300, Dpi600}
 use Rattle.pcl_base.specs.declared.method.Method.{Method}
 use Rattle.pcl_base.specs.declared.method.Method.TheVariants.{Plain}
 use Rattle.pcl_base.specs.declared.operation.Asking.{Asking}
-use Rattle.pcl_base.specs.declared.operation.Asking.TheVariants.{PaperSource, SheetSide}
+use Rattle.pcl_base.specs.declared.operation.Asking.TheVariants.{PaperSource, SheetSide, LeftOffset, TopOffset}
 use Rattle.pcl_base.specs.declared.operation.Axis.{Axis}
 use Rattle.pcl_base.specs.declared.operation.Axis.TheVariants.{Horizontal, Vertical}
 use Rattle.pcl_base.specs.declared.operation.Unit.{Unit as Measure}
 use Rattle.pcl_base.specs.declared.operation.Unit.TheVariants.{PclUnit, Decipoint, Column}
 use Rattle.pcl_base.specs.declared.operation.Operation.{Operation}
 use Rattle.pcl_base.specs.declared.operation.Operation.TheVariants.{Reset, UniversalExit, ClearMargins, HalfLineFeed, HorizontalTab, LineFeed, FormFeed, CarriageReturn, Shift, PageSize, Copies, VerticalMotionIndex, LineSpacing, TopMargin, TextLength, PerforationSkip, OnlyZero, Ask, UnitOfMeasure, HorizontalMotionIndex, LineTermination, LeftMargin, Move, CursorStack, MacroId, RectangleSize, FontId, CharacterCode, DownloadFont, DownloadCharacter, SelectFont, PrintText, RasterResolution, RasterWidth, RasterHeight, RasterPresentation, StartRaster, EndRasterResetMethod, RasterMethod, RasterOffset, RasterRow}
+use Rattle.pcl_base.specs.declared.profile.Profile.{Profile}
+use Rattle.pcl_base.specs.declared.profile.Profile.TheVariants.{Stated, Drivers}
 use Rattle.pcl_base.specs.declared.size.Size.{Size}
 use Rattle.pcl_base.specs.declared.value.Sign.{Sign}
 use Rattle.pcl_base.specs.declared.value.Sign.TheVariants.{Absent, Plus, Minus}
@@ -20,10 +23,11 @@ use Rattle.pcl_base.specs.declared.value.Value.{Value}
 use Rattle.pcl_base.specs.Limits.{copies_limit, id_limit, stack_limit}
 use Rattle.pcl_base.specs.Method.{method_with_code}
 use Rattle.pcl_base.specs.Size.{size_with_code, units_wide, units_high}
-use Rattle.pcl_base.specs.Value.{whole_of, signed_whole, is_minus, is_below_zero, scaled_by}
+use Rattle.pcl_base.specs.Value.{whole_of, is_minus, is_below_zero, scaled_by}
 use Rattle.pcl_env.specs.declared.effect.Effect.{Effect}
 use Rattle.pcl_env.specs.declared.effect.Effect.TheVariants as page
 use Rattle.pcl_env.specs.declared.effect.Unsupported.{Unsupported}
+use Rattle.pcl_env.specs.Offset.{offset_of, lies_at}
 use Rattle.pcl_env.specs.Settings.{inch, margin, Position, Settings, put_x, put_y, put, to_first_line, asked_with, copies_said, defaults, with_size}
 
 -- the settings after a command and what becomes of the page; none where the value isn't taken
@@ -165,6 +169,17 @@ effect_of_asking PaperSource = page.EjectMarked
 effect_of_asking SheetSide = page.EjectMarked
 effect_of_asking other = page.Stay
 
+-- An offset moves the page on its sheet, whole: the stated profile takes 0 alone. Drivers send others, but on a marked page only the one
+-- that it lies at.
+abbrev pub is_offset_taken : Profile → Value → Bool → Option ℤ → Bool
+is_offset_taken Stated v m said = whole_of v == 0
+is_offset_taken Drivers v m said = not m || int_eq (offset_of v) (lies_at said)
+
+abbrev pub is_asking_taken : Asking → Value → Bool → Settings → Bool
+is_asking_taken LeftOffset v m s = is_offset_taken s.profile v m s.asked.left_offset
+is_asking_taken TopOffset v m s = is_offset_taken s.profile v m s.asked.top_offset
+is_asking_taken other v m s = true
+
 -- ---- each command
 
 -- lines per inch that VMI can be set to, and PCL units per inch
@@ -179,8 +194,8 @@ units_of_measure =
 -- a command with this value, on a page that is marked or not; all others set nothing, and those whose numbers say what is drawn or
 -- done to fonts and macros are refused there
 unfoldable pub outcome : Dpi → Operation → Value → Bool → Settings → Outcome
-outcome dpi Reset v m s = Some (defaults, page.EjectMarked)
-outcome dpi UniversalExit v m s = if is_minus v.sign && whole_of v == 12345 then Some (defaults, page.EjectMarked) else None
+outcome dpi Reset v m s = Some (defaults s.profile, page.EjectMarked)
+outcome dpi UniversalExit v m s = if is_minus v.sign && whole_of v == 12345 then Some (defaults s.profile, page.EjectMarked) else None
 outcome dpi ClearMargins v m s = stays (record s { left = 0 })
 outcome dpi HalfLineFeed v m s = feed (s.vmi / 2) s
 outcome dpi HorizontalTab v m s = stays (put_x (tab_stop s) s)
@@ -197,7 +212,8 @@ outcome dpi TopMargin v m s = from_zero v (set_top (whole_of v * s.vmi) m s)
 outcome dpi TextLength v m s = by_count v (λ n. stays_if (nat_le 1 n) (set_bottom (s.top + n * s.vmi) s))
 outcome dpi PerforationSkip v m s = up_to 1 v (record s { skips = whole_of v == 1 })
 outcome dpi OnlyZero v m s = stays_if (whole_of v == 0) s
-outcome dpi (Ask what) v m s = Some (record s { asked = asked_with what (signed_whole v) s.vmi s.asked }, effect_of_asking what)
+outcome dpi (Ask what) v m s =
+    if is_asking_taken what v m s then Some (record s { asked = asked_with what v s.vmi s.asked }, effect_of_asking what) else None
 outcome dpi UnitOfMeasure v m s = one_of units_of_measure v (record s { pcl_unit = inch / whole_of v })
 outcome dpi HorizontalMotionIndex v m s = from_zero v (record s { hmi = scaled_by 60 v })
 outcome dpi LineTermination v m s =

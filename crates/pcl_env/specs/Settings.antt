@@ -4,13 +4,17 @@ use Rattle.std.specs.Ordering.{int_eq}
 use Rattle.pcl_base.specs.declared.method.Method.{Method}
 use Rattle.pcl_base.specs.declared.method.Method.TheVariants.{Plain}
 use Rattle.pcl_base.specs.declared.operation.Asking.{Asking}
-use Rattle.pcl_base.specs.declared.operation.Asking.TheVariants.{Sides, OutputBin, MediaType, PaperSource, SheetSide, PageLength}
+use Rattle.pcl_base.specs.declared.operation.Asking.TheVariants.{Sides, OutputBin, MediaType, PaperSource, SheetSide, PageLength, LeftOffset, TopOffset}
 use Rattle.pcl_base.specs.declared.operation.Side.{Side}
 use Rattle.pcl_base.specs.declared.operation.Side.TheVariants.{Primary, Secondary}
+use Rattle.pcl_base.specs.declared.profile.Profile.{Profile}
 use Rattle.pcl_base.specs.declared.size.Size.{Size}
 use Rattle.pcl_base.specs.declared.size.Size.TheVariants.{Letter}
+use Rattle.pcl_base.specs.declared.value.Value.{Value}
 use Rattle.pcl_base.specs.Size.{code_of, units_wide, units_high}
+use Rattle.pcl_base.specs.Value.{signed_whole}
 use Rattle.pcl_env.specs.declared.asked.Asked.{Asked}
+use Rattle.pcl_env.specs.Offset.{offset_of}
 
 -- ---- lengths
 
@@ -29,6 +33,8 @@ pub record Position : Type 0 where
   pub y : ℕ
 
 pub record Settings : Type 0 where
+  -- which commands a job may have: the same from its first to its last
+  pub profile : Profile
   pub size : Size
   pub copies : ℕ
   -- the PCL unit, the column width (HMI) and the line spacing (VMI)
@@ -99,17 +105,21 @@ nothing_asked = record {
   output_bin = None;
   media_type = None;
   paper_source = None;
+  left_offset = None;
+  top_offset = None;
 }
 
 -- The last value of each asking counts, with this line spacing. A page length is this many lines; paper source 0 ejects the page and leaves
 -- the source as it is; a side of the sheet is asked of the next page alone (pcl_page).
-abbrev pub asked_with : Asking → ℤ → ℕ → Asked → Asked
-asked_with Sides value vmi asked = record asked { sides = Some value }
-asked_with OutputBin value vmi asked = record asked { output_bin = Some value }
-asked_with MediaType value vmi asked = record asked { media_type = Some value }
-asked_with PaperSource value vmi asked = if int_eq value (pos 0) then asked else record asked { paper_source = Some value }
-asked_with SheetSide value vmi asked = asked
-asked_with PageLength value vmi asked = record asked { page_length = Some (value *ℤ pos vmi) }
+abbrev pub asked_with : Asking → Value → ℕ → Asked → Asked
+asked_with Sides v vmi asked = record asked { sides = Some (signed_whole v) }
+asked_with OutputBin v vmi asked = record asked { output_bin = Some (signed_whole v) }
+asked_with MediaType v vmi asked = record asked { media_type = Some (signed_whole v) }
+asked_with PaperSource v vmi asked = if int_eq (signed_whole v) (pos 0) then asked else record asked { paper_source = Some (signed_whole v) }
+asked_with SheetSide v vmi asked = asked
+asked_with PageLength v vmi asked = record asked { page_length = Some (signed_whole v *ℤ pos vmi) }
+asked_with LeftOffset v vmi asked = record asked { left_offset = Some (offset_of v) }
+asked_with TopOffset v vmi asked = record asked { top_offset = Some (offset_of v) }
 
 abbrev pub copies_said : ℕ → Asked → Asked
 copies_said copies asked = record asked { copies = Some (pos copies) }
@@ -120,8 +130,9 @@ size_said size asked = record asked { page_size = Some (pos (code_of size)); pag
 
 -- ---- what a reset leaves
 
-abbrev pub defaults : Settings
-defaults = record {
+abbrev pub defaults : Profile → Settings
+defaults profile = record {
+  profile = profile;
   size = Letter;
   copies = 1;
   pcl_unit = inch / 300;

@@ -2,9 +2,10 @@
 
 ghost use Rattle.std.specs.Prelude.{◌≡◌, pos, Some, if◌then◌else◌};
 ghost use Rattle.std.specs.Ordering.{int_eq};
-ghost use Rattle.pcl_base.specs.Value.{signed_whole};
+ghost use Rattle.pcl_env.specs.Offset.{lie_together};
 ghost use Rattle.pcl_env.specs.Settings.{asked_with, copies_said, size_said};
 
+use crate::offset::{lies_at, offset_of};
 use pcl_base::{Asking, Size, Value};
 
 /// What a job said of each of these since the last reset, `None` where it said nothing: the last value, as its whole part with its sign
@@ -26,6 +27,11 @@ pub struct Asked {
     pub media_type: Option<i64>,
     /// Where the paper comes from, `&lH`; never 0, which only ejects the page.
     pub paper_source: Option<i64>,
+    /// How far the page is moved to the right on its sheet, `&lU`, in ten-thousandths of a decipoint; an offset of less than a decipoint
+    /// is 0.
+    pub left_offset: Option<i64>,
+    /// How far it is moved down, `&lZ`, in the same.
+    pub top_offset: Option<i64>,
 }
 
 impl Asked {
@@ -38,12 +44,14 @@ impl Asked {
         output_bin: None,
         media_type: None,
         paper_source: None,
+        left_offset: None,
+        top_offset: None,
     };
 
     /// The same, but with this value of what is asked, where lines are spaced so, in units of 1/7200 inch. The side of a sheet changes
     /// nothing here: it is asked of the next page alone.
     pub fn with(self, what: Asking, value: Value, line_spacing: u32) -> Asked
-        ensures { result ≡ asked_with what (signed_whole value) line_spacing self }
+        ensures { result ≡ asked_with what value line_spacing self }
     {
         let whole = i64::from(value.whole());
         match what {
@@ -65,6 +73,14 @@ impl Asked {
                 page_length: Some(whole * i64::from(line_spacing)),
                 ..self
             },
+            Asking::LeftOffset => Asked {
+                left_offset: Some(offset_of(value)),
+                ..self
+            },
+            Asking::TopOffset => Asked {
+                top_offset: Some(offset_of(value)),
+                ..self
+            },
         }
     }
 
@@ -79,6 +95,14 @@ impl Asked {
             paper_source: Some(source),
             ..self
         }
+    }
+
+    /// Whether this and another put the page in one place on its sheet.
+    pub fn lies_with(self, other: Asked) -> bool
+        ensures { result ≡ lie_together self other }
+    {
+        lies_at(self.left_offset) == lies_at(other.left_offset)
+            && lies_at(self.top_offset) == lies_at(other.top_offset)
     }
 
     /// The same, but with as many copies.

@@ -14,7 +14,7 @@ mod raster;
 
 use crate::Asked;
 use crate::stack::{Position, Stack};
-use pcl_base::{DOT_UNITS, Method, Side, Size};
+use pcl_base::{DOT_UNITS, Method, Profile, Side, Size};
 use std::marker::Model;
 
 /// The units of an inch.
@@ -42,6 +42,8 @@ pub struct Env {
 /// The settings that the return of a macro call puts back.
 #[derive(Clone, Copy)]
 struct Setup {
+    /// Which commands the job may have.
+    profile: Profile,
     copies: u8,
     pcl_unit: u32,
     /// The column width.
@@ -109,9 +111,9 @@ impl Model for Saved {
 }
 
 impl Env {
-    /// The settings at the beginning of a job, and after a reset.
-    pub fn new() -> Env
-        ensures { result ≡ defaults }
+    /// The settings at the beginning of a job that is read by this profile, and after a reset.
+    pub fn new(profile: Profile) -> Env
+        ensures { result ≡ defaults profile }
     {
         Env {
             size: Size::Letter,
@@ -121,6 +123,7 @@ impl Env {
             },
             stack: Stack::new(),
             setup: Setup {
+                profile,
                 copies: 1,
                 pcl_unit: DOT_UNITS,
                 hmi: COLUMN,

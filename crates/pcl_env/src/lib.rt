@@ -4,8 +4,10 @@
 mod asked;
 mod effect;
 mod env;
+mod offset;
 mod stack;
 
 pub use asked::Asked;
 pub use effect::{Effect, Unsupported};
 pub use env::{Env, Saved};
+pub use offset::append_offset;

@@ -3,7 +3,7 @@ use pcl_base::Axis::{Horizontal, Vertical};
 use pcl_base::Operation::*;
 use pcl_base::Sign::{Absent, Minus, Plus};
 use pcl_base::Unit::{Column, Decipoint, PclUnit};
-use pcl_base::{Asking, Dpi, Method, Operation, Side, Sign, Size, Value};
+use pcl_base::{Asking, Dpi, Method, Operation, Profile, Side, Sign, Size, Value};
 use pcl_env::{Asked, Effect, Env, Unsupported};
 use std::process::Abort;
 
@@ -252,7 +252,7 @@ fn commands(rt: HostRuntime) {
 }
 
 fn assert_steps(rt: &impl Abort, steps: &[Step]) {
-    let mut env = Env::new();
+    let mut env = Env::new(Profile::Stated);
     for (operation, sign, parts, wanted) in steps {
         let value = Value {
             sign: *sign,
@@ -266,7 +266,7 @@ fn assert_steps(rt: &impl Abort, steps: &[Step]) {
                 &(answer, env.x(), env.y()),
                 wanted,
             );
-            env = Env::new();
+            env = Env::new(Profile::Stated);
         }
     }
 }
@@ -283,7 +283,7 @@ fn say(env: &mut Env, operation: Operation, whole: u32) -> Result<Effect, Unsupp
 // The last value of each asking counts, and a reset takes all back.
 #[test]
 fn askings(rt: HostRuntime) {
-    let mut env = Env::new();
+    let mut env = Env::new(Profile::Stated);
     let answers = (
         say(&mut env, Ask(Asking::Sides), 1),
         say(&mut env, Ask(Asking::OutputBin), 2),
@@ -313,10 +313,60 @@ fn askings(rt: HostRuntime) {
         output_bin: Some(2),
         media_type: Some(3),
         paper_source: Some(5),
+        left_offset: None,
+        top_offset: None,
     };
     assert_gives(&rt, &"asked", &env.asked(), &asked);
     let _answer = say(&mut env, Reset, 0);
     assert_gives(&rt, &"after a reset", &env.asked(), &Asked::NOTHING);
+}
+
+/// An offset in ten-thousandths of a decipoint, said on a page that is marked or not by a profile, and what comes of it.
+type OffsetStep = (Sign, u32, bool, Result<Effect, Unsupported>, Option<i64>);
+
+// The stated profile takes less than a decipoint alone, whatever the page has.
+const STATED_OFFSETS: [OffsetStep; 4] = [
+    (Absent, 0, true, STAY, Some(0)),
+    (Minus, 9_999, false, STAY, Some(0)),
+    (Absent, 10_000, false, REFUSED, Some(0)),
+    (Minus, 1_800_000, true, REFUSED, Some(0)),
+];
+
+// Drivers send any on an unmarked page, and on a marked one that at which it lies.
+const DRIVERS_OFFSETS: [OffsetStep; 8] = [
+    (Minus, 1_800_000, false, STAY, Some(-1_800_000)),
+    (Minus, 1_800_000, true, STAY, Some(-1_800_000)),
+    (Plus, 1_800_000, true, REFUSED, Some(-1_800_000)),
+    (Absent, 0, true, REFUSED, Some(-1_800_000)),
+    (Absent, 361_234, false, STAY, Some(361_234)),
+    (Absent, 361_235, true, REFUSED, Some(361_234)),
+    (Plus, 5_000, false, STAY, Some(0)),
+    (Minus, 9_999, true, STAY, Some(0)),
+];
+
+fn assert_offsets(rt: &impl Abort, profile: Profile, steps: &[OffsetStep]) {
+    let mut env = Env::new(profile);
+    for (sign, parts, is_marked, wanted, said) in steps {
+        let value = Value {
+            sign: *sign,
+            parts: *parts,
+        };
+        let left = env.apply(Ask(Asking::LeftOffset), value, *is_marked, Dpi::Dpi300);
+        let top = env.apply(Ask(Asking::TopOffset), value, *is_marked, Dpi::Dpi300);
+        let asked = env.asked();
+        assert_gives(
+            rt,
+            &value,
+            &(left, top, asked.left_offset, asked.top_offset),
+            &(*wanted, *wanted, *said, *said),
+        );
+    }
+}
+
+#[test]
+fn offsets(rt: HostRuntime) {
+    assert_offsets(&rt, Profile::Stated, &STATED_OFFSETS);
+    assert_offsets(&rt, Profile::Drivers, &DRIVERS_OFFSETS);
 }
 
 // The greatest number that each command takes, and the next one.
@@ -337,7 +387,7 @@ const GREATEST_NUMBERS: [(Operation, u32, u32); 11] = [
 #[test]
 fn greatest_numbers(rt: HostRuntime) {
     for (operation, greatest, refused) in &GREATEST_NUMBERS {
-        let mut env = Env::new();
+        let mut env = Env::new(Profile::Stated);
         let answers = (
             say(&mut env, *operation, *greatest),
             say(&mut env, *operation, *refused),
@@ -349,7 +399,7 @@ fn greatest_numbers(rt: HostRuntime) {
 // A raster of 600 dots per inch on a page that has as many, and a top margin on a marked page.
 #[test]
 fn other_pages(rt: HostRuntime) {
-    let mut env = Env::new();
+    let mut env = Env::new(Profile::Stated);
     let fine = Value {
         sign: Absent,
         parts: 6_000_000,
@@ -374,7 +424,7 @@ const UNITS: [u32; 26] = [
 #[test]
 fn units_of_an_inch(rt: HostRuntime) {
     for units in &UNITS {
-        let mut env = Env::new();
+        let mut env = Env::new(Profile::Stated);
         let answers = (
             say(&mut env, UnitOfMeasure, *units),
             say(&mut env, Move(Horizontal, PclUnit), *units),
@@ -389,7 +439,7 @@ const LINES: [u32; 10] = [1, 2, 3, 4, 6, 8, 12, 16, 24, 48];
 #[test]
 fn lines_of_an_inch(rt: HostRuntime) {
     for lines in &LINES {
-        let mut env = Env::new();
+        let mut env = Env::new(Profile::Stated);
         env.move_to(0, 0);
         assert_gives(&rt, lines, &say(&mut env, LineSpacing, *lines), &STAY);
         assert_feeds(&rt, &mut env, *lines);
@@ -407,7 +457,7 @@ fn assert_feeds(rt: &impl Abort, env: &mut Env, lines: u32) {
 // The twenty-first position isn't kept, and the newest comes back first.
 #[test]
 fn cursor_stack(rt: HostRuntime) {
-    let mut env = Env::new();
+    let mut env = Env::new(Profile::Stated);
     for place in 1..=21 {
         assert_pushes(&rt, &mut env, (place, 2 * place));
     }
@@ -484,7 +534,7 @@ const CHANGED: Settings = (
 // What a call puts back, and what it leaves.
 #[test]
 fn calls(rt: HostRuntime) {
-    let mut env = Env::new();
+    let mut env = Env::new(Profile::Stated);
     assert_gives(&rt, &"at first", &settings(&env), &DEFAULTS);
     let saved = env.save();
     assert_changes(&rt, &mut env);

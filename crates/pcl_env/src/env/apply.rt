@@ -40,7 +40,7 @@ impl Env {
             Operation::TextLength => self.set_text_length(value),
             Operation::PerforationSkip => self.set_perforation_skip(value),
             Operation::OnlyZero => stay_if(value.whole() == 0),
-            Operation::Ask(what) => self.ask(what, value),
+            Operation::Ask(what) => self.ask(what, value, is_marked),
             Operation::UnitOfMeasure => self.set_unit_of_measure(value),
             Operation::HorizontalMotionIndex => self.set_horizontal_motion_index(value),
             Operation::LineTermination => self.set_line_termination(value),

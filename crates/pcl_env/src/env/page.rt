@@ -5,12 +5,13 @@ ghost use Rattle.pcl_base.specs.Value.{zero_value};
 ghost use Rattle.pcl_base.specs.declared.operation.Operation.TheVariants.{Reset, UniversalExit, PageSize, Copies, FormFeed, Ask};
 ghost use Rattle.pcl_env.specs.Settings.{to_first_line, with_size};
 ghost use Rattle.pcl_base.specs.declared.dpi.Dpi.TheVariants.{Dpi300};
-ghost use Rattle.pcl_env.specs.Outcome.{outcome, Answers};
+ghost use Rattle.pcl_env.specs.Outcome.{outcome, is_asking_taken, is_offset_taken, Answers};
 
 use super::{Env, MARGIN};
+use crate::offset::{lies_at, offset_of};
 use crate::stack::Position;
 use crate::{Effect, Unsupported};
-use pcl_base::{Asking, COPIES_LIMIT, Size, Value};
+use pcl_base::{Asking, COPIES_LIMIT, Profile, Size, Value};
 
 /// The most copies of a page.
 const MOST_COPIES: u32 = COPIES_LIMIT as u32;
@@ -24,7 +25,7 @@ impl Env {
     pub fn reset(&mut self) -> Result<Effect, Unsupported>
         ensures { Answers (outcome Dpi300 Reset zero_value false self.old) result self.old self.new }
     {
-        *self = Env::new();
+        *self = Env::new(self.setup.profile);
         Ok(Effect::EjectMarked)
     }
 
@@ -69,19 +70,51 @@ impl Env {
         }
     }
 
-    /// Sets what the page is asked with; another paper source and another side of the sheet are for the next page ("Paper
-    /// Source", "Duplex Page Side Selection").
+    /// Sets what the page is asked with, if it is marked or not; another paper source and another side of the sheet are for the next page
+    /// ("Paper Source", "Duplex Page Side Selection").
     #[tactic(auto, unfolding(crate::specs::Outcome::outcome))]
-    pub fn ask(&mut self, what: Asking, value: Value) -> Result<Effect, Unsupported>
-        ensures { Answers (outcome Dpi300 (Ask what) value false self.old) result self.old self.new }
+    pub fn ask(
+        &mut self,
+        what: Asking,
+        value: Value,
+        is_marked: bool,
+    ) -> Result<Effect, Unsupported>
+        ensures { Answers (outcome Dpi300 (Ask what) value is_marked self.old) result self.old self.new }
     {
+        if !self.is_asking_taken(what, value, is_marked) {
+            return Err(Unsupported);
+        }
         self.setup.asked = self.setup.asked.with(what, value, self.setup.vmi);
         Ok(match what {
-            Asking::Sides | Asking::OutputBin | Asking::MediaType | Asking::PageLength => {
-                Effect::Stay
-            }
+            Asking::Sides
+            | Asking::OutputBin
+            | Asking::MediaType
+            | Asking::PageLength
+            | Asking::LeftOffset
+            | Asking::TopOffset => Effect::Stay,
             Asking::PaperSource | Asking::SheetSide => Effect::EjectMarked,
         })
+    }
+
+    /// Whether the page can be asked with the value.
+    fn is_asking_taken(&self, what: Asking, value: Value, is_marked: bool) -> bool
+        ensures { result ≡ is_asking_taken what value is_marked self.now }
+    {
+        let profile = self.setup.profile;
+        match what {
+            Asking::LeftOffset => {
+                is_offset_taken(profile, value, is_marked, self.setup.asked.left_offset)
+            }
+            Asking::TopOffset => {
+                is_offset_taken(profile, value, is_marked, self.setup.asked.top_offset)
+            }
+            Asking::Sides
+            | Asking::OutputBin
+            | Asking::MediaType
+            | Asking::PaperSource
+            | Asking::SheetSide
+            | Asking::PageLength => true,
+        }
     }
 
     /// Puts the cursor on the first line, as each eject does. It keeps its place along the line.
@@ -102,5 +135,15 @@ impl Env {
         self.setup.left = 0;
         self.setup.asked = self.setup.asked.with_size(size);
         self.new_page();
+    }
+}
+
+/// Whether an offset is taken where this one was said before: a page that is marked stays at its offset.
+fn is_offset_taken(profile: Profile, value: Value, is_marked: bool, said: Option<i64>) -> bool
+    ensures { result ≡ is_offset_taken profile value is_marked said }
+{
+    match profile {
+        Profile::Stated => value.whole() == 0,
+        Profile::Drivers => !is_marked || offset_of(value) == lies_at(said),
     }
 }
