@@ -4,6 +4,8 @@ use Rattle.std.specs.Global.{Vec}
 use Rattle.pcl_base.specs.declared.dpi.Dpi.{Dpi}
 use Rattle.pcl_base.specs.declared.fault.JobFault.{JobFault}
 use Rattle.pcl_base.specs.declared.fault.JobFault.TheVariants.{Refused, Memory}
+use Rattle.pcl_base.specs.declared.profile.Profile.{Profile}
+use Rattle.pcl_base.specs.declared.profile.Profile.TheVariants.{Stated}
 use Rattle.pcl_base.specs.Refusal.{refusal}
 use Rattle.pcl_base.specs.declared.refusal.Refusal.{Refusal}
 use Rattle.pcl_escape.specs.Said.{Said}
@@ -14,7 +16,7 @@ use Rattle.pcl_page.specs.declared.asks.Asks.{Asks as AsksOfCode}
 use Rattle.pcl_page.specs.Asks.{asks_of}
 use Rattle.pcl_page.specs.Situation.{Sheet}
 use Rattle.pcl_page.specs.Performing.{Shows, Performance, done, pages_of, asks_among}
-use Rattle.pcl_page.specs.Jobs.{performance_of, HasPages, HasAsks}
+use Rattle.pcl_page.specs.Jobs.{performance_of, HasPages, HasAsksBy}
 
 -- a sink takes pages that show these sheets, in order, each once
 abbrev pub Hands : {S : Type 0} → (S → Page → S → Type 0) → Dpi → List Sheet → S → S → Type 0
@@ -30,30 +32,38 @@ HandsOver {S} takes dpi done (Err (Refused why)) old new = (done.refusal ≡ Som
 HandsOver {S} takes dpi done (Err Memory) old new =
     (front rest : List Sheet) × (pages_of done ≡ front ++ rest) × Hands takes dpi front old new
 
--- the job is read, and the performing refuses it
-pub record IsStopped (dpi : Dpi) (job : List ℕ) (refusal : Refusal) : Type 0 where
+-- the job is read, and the performing by this profile refuses it
+pub record IsStopped (profile : Profile) (dpi : Dpi) (job : List ℕ) (refusal : Refusal) : Type 0 where
   pub commands : List Said
   pub reading : IsReading job commands
-  pub refused : (performance_of dpi job commands).refusal ≡ Some refusal
+  pub refused : (performance_of profile dpi job commands).refusal ≡ Some refusal
 
--- the refusal of a job: its first fault, or else that of the first command that is refused
+-- the refusal of a job by a profile: its first fault, or else that of the first command that is refused
+abbrev pub IsRefusalBy : Profile → Dpi → List ℕ → Refusal → Type 0
+IsRefusalBy profile dpi job refusal = IsFault job refusal ⊎ IsStopped profile dpi job refusal
+
+-- the same by the stated profile
 abbrev pub IsRefusal : Dpi → List ℕ → Refusal → Type 0
-IsRefusal dpi job refusal = IsFault job refusal ⊎ IsStopped dpi job refusal
+IsRefusal dpi job refusal = IsRefusalBy Stated dpi job refusal
 
--- what the sink takes of a job whose reading is these commands, or that has no reading
-pub record IsPerformed {S : Type 0} (takes : S → Page → S → Type 0) (dpi : Dpi) (job : List ℕ) (result : Result (Unit {0}) JobFault)
-    (old new : S) : Type 0 where
+-- what the sink takes of a job whose reading is these commands
+pub record IsPerformed {S : Type 0} (takes : S → Page → S → Type 0) (profile : Profile) (dpi : Dpi) (job : List ℕ)
+    (result : Result (Unit {0}) JobFault) (old new : S) : Type 0 where
   pub commands : List Said
   pub reading : IsReading job commands
-  pub handed : HandsOver takes dpi (performance_of dpi job commands) result old new
+  pub handed : HandsOver takes dpi (performance_of profile dpi job commands) result old new
 
 -- The sink takes the pages of an accepted job, in order; those before the refused command; or the first of these where
 -- memory runs out. A job that has no reading gives it none.
+abbrev pub DeliversBy : {S : Type 0} → (S → Page → S → Type 0) → Profile → Dpi → List ℕ → Result (Unit {0}) JobFault → S → S → Type 0
+DeliversBy {S} takes profile dpi job (Ok unit) old new = IsPerformed takes profile dpi job (Ok unit) old new
+DeliversBy {S} takes profile dpi job (Err (Refused refusal)) old new =
+    (IsFault job refusal × (new ≡ old)) ⊎ IsPerformed takes profile dpi job (Err (Refused refusal)) old new
+DeliversBy {S} takes profile dpi job (Err Memory) old new = (new ≡ old) ⊎ IsPerformed takes profile dpi job (Err Memory) old new
+
+-- the same by the stated profile
 abbrev pub Delivers : {S : Type 0} → (S → Page → S → Type 0) → Dpi → List ℕ → Result (Unit {0}) JobFault → S → S → Type 0
-Delivers {S} takes dpi job (Ok unit) old new = IsPerformed takes dpi job (Ok unit) old new
-Delivers {S} takes dpi job (Err (Refused refusal)) old new =
-    (IsFault job refusal × (new ≡ old)) ⊎ IsPerformed takes dpi job (Err (Refused refusal)) old new
-Delivers {S} takes dpi job (Err Memory) old new = (new ≡ old) ⊎ IsPerformed takes dpi job (Err Memory) old new
+Delivers {S} takes dpi job result old new = DeliversBy takes Stated dpi job result old new
 
 -- pages show the sheets, one by one
 abbrev pub AllShow : Dpi → List Page → List Sheet → Type 0
@@ -73,6 +83,7 @@ HandsOverAsked {S} takes dpi done (Ok asks) old new = HandsOver takes dpi done (
 HandsOverAsked {S} takes dpi done (Err fault) old new = HandsOver takes dpi done (Err fault) old new
 
 -- the sink takes the pages, and where the job is accepted, this is what it asks of the printer besides dots
-abbrev pub DeliversAsked : {S : Type 0} → (S → Page → S → Type 0) → Dpi → List ℕ → Result AsksOfCode JobFault → S → S → Type 0
-DeliversAsked {S} takes dpi job (Ok asks) old new = Delivers takes dpi job (Ok tt) old new × HasAsks dpi job (asks_of asks)
-DeliversAsked {S} takes dpi job (Err fault) old new = Delivers takes dpi job (Err fault) old new
+abbrev pub DeliversAsked : {S : Type 0} → (S → Page → S → Type 0) → Profile → Dpi → List ℕ → Result AsksOfCode JobFault → S → S → Type 0
+DeliversAsked {S} takes profile dpi job (Ok asks) old new =
+    DeliversBy takes profile dpi job (Ok tt) old new × HasAsksBy profile dpi job (asks_of asks)
+DeliversAsked {S} takes profile dpi job (Err fault) old new = DeliversBy takes profile dpi job (Err fault) old new

@@ -1,5 +1,5 @@
 -- Macros: what an open definition does with a command, what a macro control does, and which macro it runs.
-use Rattle.std.specs.Prelude.{ℕ, ◌+◌, ◌==◌, Bool, true, false, not, is_some, if◌then◌else◌, ◌∷◌, Option, Some, None, Result, Ok, Err}
+use Rattle.std.specs.Prelude.{ℕ, ◌+◌, ◌==◌, ◌&&◌, Bool, true, false, not, is_some, if◌then◌else◌, ◌∷◌, Option, Some, None, Result, Ok, Err}
 use Rattle.std.specs.Option.{option_map, option_and_then}
 use Rattle.pcl_base.specs.declared.dpi.Dpi.{Dpi}
 use Rattle.pcl_base.specs.declared.kind.Kind.{Kind}
@@ -10,6 +10,7 @@ use Rattle.pcl_base.specs.declared.value.Value.{Value}
 use Rattle.pcl_base.specs.Operation.{operation_of}
 use Rattle.pcl_base.specs.Value.{count_of}
 use Rattle.pcl_env.specs.Settings.{Settings, kept, restored}
+use Rattle.pcl_env.specs.Offset.{lie_together}
 use Rattle.pcl_escape.specs.Said.{Said}
 use Rattle.pcl_macros.specs.declared.table.MacroControl.TheVariants.{All, Temporary, One, MakeTemporary, MakePermanent}
 use Rattle.pcl_macros.specs.History.{MacroEvent, MacroBody, defined, control, body_after}
@@ -18,7 +19,7 @@ use Rattle.pcl_page.specs.declared.macros.Action.{Action}
 use Rattle.pcl_page.specs.declared.macros.Action.TheVariants.{Begin, End, Execute, Call, Control}
 use Rattle.pcl_page.specs.declared.macros.Keeping.{Keeping}
 use Rattle.pcl_page.specs.declared.macros.Keeping.TheVariants.{Kept, Ends, Refused}
-use Rattle.pcl_page.specs.Situation.{Situation, end_raster, with_lasting, ◌|>◌, tried}
+use Rattle.pcl_page.specs.Situation.{Situation, is_marked, end_raster, with_lasting, ◌|>◌, tried}
 
 -- what a macro control does, by its number
 abbrev pub action_of : Value → Option Action
@@ -143,7 +144,10 @@ run_from other value s = None
 abbrev pub run_of : Said → Situation → Situation → Option Run
 run_of command s later = if is_some s.begun then None else run_from (operation_of command.name) command.value later
 
--- a call's end ends the raster, and all is set as before the call but the page size, the cursor and its stack
+-- A call's end ends the raster, and all is set as before the call but the page size, the cursor and its stack. Where that moves a page that is
+-- marked, its dots lie at two offsets, as no other job's.
 abbrev pub macro_ended : Dpi → Option Settings → Situation → Situation
 macro_ended dpi None s = s
-macro_ended dpi (Some saved) s = record (end_raster dpi s) { settings = restored saved (end_raster dpi s).settings }
+macro_ended dpi (Some saved) s =
+    with_lasting (is_marked s && not (lie_together s.settings.asked saved.asked))
+    (record (end_raster dpi s) { settings = restored saved (end_raster dpi s).settings })

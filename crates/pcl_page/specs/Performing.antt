@@ -4,6 +4,7 @@ use Rattle.pcl_base.specs.declared.dpi.Dpi.{Dpi}
 use Rattle.pcl_base.specs.declared.kind.Kind.{Kind}
 use Rattle.pcl_base.specs.declared.kind.Kind.TheVariants.{MacroOpen, MacroDepth}
 use Rattle.pcl_base.specs.declared.name.Name.TheVariants.{Empty}
+use Rattle.pcl_base.specs.declared.profile.Profile.{Profile}
 use Rattle.pcl_base.specs.declared.refusal.Refusal.{Refusal}
 use Rattle.pcl_base.specs.Limits.{macro_limit}
 use Rattle.pcl_base.specs.Refusal.{refusal}
@@ -97,9 +98,9 @@ ended dpi end (Some kind) s = record { situation = s; refusal = Some (refusal ki
 abbrev pub after_end : Dpi → ℕ → Situation → Performance
 after_end dpi end s = ended dpi end (end_refusal dpi s) s
 
--- the commands of a job, and then the end of the input
-abbrev pub performance : Dpi → ℕ → List Said → Performance
-performance dpi end commands = then_on (after_all dpi commands 0 commands at_begin) (after_end dpi end)
+-- the commands of a job that is read by this profile, and then the end of the input
+abbrev pub performance : Profile → Dpi → ℕ → List Said → Performance
+performance profile dpi end commands = then_on (after_all dpi commands 0 commands (at_begin profile)) (after_end dpi end)
 
 -- what was asked besides dots
 abbrev pub asks_among : Performance → Asks

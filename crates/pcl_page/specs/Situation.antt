@@ -8,6 +8,7 @@ use Rattle.pcl_base.specs.declared.operation.Asking.{Asking}
 use Rattle.pcl_base.specs.declared.operation.Asking.TheVariants.{Sides, MediaType, SheetSide}
 use Rattle.pcl_base.specs.declared.operation.Operation.{Operation}
 use Rattle.pcl_base.specs.declared.operation.Operation.TheVariants.{Reset, UniversalExit, Ask, FillRectangle, ControlFonts, DownloadFont, DownloadCharacter, SelectFont, PrintText, StartRaster, RasterOffset, RasterRow}
+use Rattle.pcl_base.specs.declared.profile.Profile.{Profile}
 use Rattle.pcl_base.specs.declared.size.Size.{Size}
 use Rattle.pcl_base.specs.declared.value.Value.{Value}
 use Rattle.pcl_base.specs.Dpi.{units_per_dot}
@@ -53,9 +54,10 @@ pub record Situation : Type 0 where
   pub asks : Asks
   pub performed : ℕ
 
-abbrev pub at_begin : Situation
-at_begin = record {
-  settings = defaults;
+-- before the first command of a job that is read by this profile
+abbrev pub at_begin : Profile → Situation
+at_begin profile = record {
+  settings = defaults profile;
   raster = None;
   fonts = [];
   macros = [];
@@ -306,4 +308,4 @@ with_what_stays fonts macros s = with_lasting (is_macro_permanent macros) (with_
 
 -- the end of the input acts as a reset that counts nothing; no macro runs after it
 abbrev pub at_end : Dpi → Situation → Situation
-at_end dpi s = put_back (with_what_stays s.fonts s.macros (turned defaults EjectMarked (end_raster dpi s)))
+at_end dpi s = put_back (with_what_stays s.fonts s.macros (turned (defaults s.settings.profile) EjectMarked (end_raster dpi s)))

@@ -1,39 +1,44 @@
-//! Whether a job is accepted, at which resolution, and how many pages it has.
+//! Whether a job is accepted by a profile, at which resolution, and how many pages it has.
 
 ghost use Rattle.std.specs.Prelude.{IfOk};
 ghost use Rattle.pcl_page.specs.Accepting.{IsPageCount, IsFirstAccepted, SaysIfAccepted};
 
-use crate::{Page, PageSink, perform};
-use pcl_base::{Dpi, JobFault};
+use crate::{Page, PageSink, perform_by};
+use pcl_base::{Dpi, JobFault, Profile};
 use std::alloc::{AllocError, Global};
 
 /// How many pages a job has. A refusal is the job's.
-pub fn page_count(alloc: Global, job: &[u8], dpi: Dpi) -> Result<usize, JobFault>
-    ensures { IsPageCount dpi job.now result }
+pub fn page_count(alloc: Global, job: &[u8], profile: Profile, dpi: Dpi) -> Result<usize, JobFault>
+    ensures { IsPageCount profile dpi job.now result }
 {
     let mut counted = Counted { pages: 0 };
-    perform(alloc, job, dpi, &mut counted)?;
+    perform_by(alloc, job, profile, dpi, &mut counted)?;
     Ok(counted.pages)
 }
 
 /// The first of 300 and 600 dots per inch at which a job is accepted; 300 where it is refused at both.
-pub fn first_accepted(alloc: Global, job: &[u8]) -> Result<Dpi, AllocError>
-    ensures { IfOk result (λ dpi. IsFirstAccepted job.now dpi) }
+pub fn first_accepted(alloc: Global, job: &[u8], profile: Profile) -> Result<Dpi, AllocError>
+    ensures { IfOk result (λ dpi. IsFirstAccepted profile job.now dpi) }
 {
-    if is_accepted(alloc, job, Dpi::Dpi300)? {
+    if is_accepted(alloc, job, profile, Dpi::Dpi300)? {
         return Ok(Dpi::Dpi300);
     }
-    if is_accepted(alloc, job, Dpi::Dpi600)? {
+    if is_accepted(alloc, job, profile, Dpi::Dpi600)? {
         return Ok(Dpi::Dpi600);
     }
     Ok(Dpi::Dpi300)
 }
 
 /// Whether the rules accept a job.
-pub fn is_accepted(alloc: Global, job: &[u8], dpi: Dpi) -> Result<bool, AllocError>
-    ensures { IfOk result (λ accepted. SaysIfAccepted dpi job.now accepted) }
+pub fn is_accepted(
+    alloc: Global,
+    job: &[u8],
+    profile: Profile,
+    dpi: Dpi,
+) -> Result<bool, AllocError>
+    ensures { IfOk result (λ accepted. SaysIfAccepted profile dpi job.now accepted) }
 {
-    match page_count(alloc, job, dpi) {
+    match page_count(alloc, job, profile, dpi) {
         Ok(_) => Ok(true),
         Err(JobFault::Refused(_)) => Ok(false),
         Err(JobFault::Memory) => Err(AllocError),

@@ -64,7 +64,7 @@ pub struct Doubts {
     raster: Option<Doubt>,
     /// Whether a raster has begun on the page.
     has_raster: bool,
-    /// Whether that raster starts between two rows of dots.
+    /// Whether that raster starts between two rows of dots, or the page is moved up on its sheet.
     is_low: bool,
     /// Whether the seed row may have dots that were cleared.
     is_seed_open: bool,
@@ -125,6 +125,7 @@ impl Doubts {
         environment: &Env,
         is_marked: bool,
         was_home: bool,
+        dpi: Dpi,
     ) {
         self.note_parts(operation, value, environment);
         self.note_width(operation, value, environment);
@@ -142,7 +143,7 @@ impl Doubts {
             }
             Operation::LineFeed | Operation::HalfLineFeed => self.row = self.row.or(self.spacing),
             Operation::CursorStack => self.note_stack(value),
-            Operation::Ask(what) => self.note_asking(what, environment, is_marked),
+            Operation::Ask(what) => self.note_asking(what, environment, is_marked, dpi),
             Operation::VerticalMotionIndex | Operation::LineSpacing if was_home && !is_marked => {
                 self.doubt_home(environment);
             }
@@ -251,15 +252,26 @@ impl Doubts {
     }
 
     /// Looks at what is asked: on a marked page it may eject that, on an unmarked one it may take the cursor to the first line.
-    fn note_asking(&mut self, what: Asking, environment: &Env, is_marked: bool) {
+    fn note_asking(&mut self, what: Asking, environment: &Env, is_marked: bool, dpi: Dpi) {
         match what {
             Asking::OutputBin => {}
+            Asking::LeftOffset => self.note_offset(environment.asked().left_offset, dpi),
+            Asking::TopOffset => self.note_offset(environment.asked().top_offset, dpi),
             Asking::Sides | Asking::MediaType | Asking::PageLength if is_marked => {
                 self.note(Doubt::Ejection);
             }
             Asking::PaperSource | Asking::SheetSide if is_marked => self.doubt_column(environment),
             _ => self.doubt_home(environment),
         }
+    }
+
+    /// Looks at an offset of the page that was set: a page that lies between the dots of its sheet, or far from it.
+    fn note_offset(&mut self, offset: Option<i64>, dpi: Dpi) {
+        let units = offset_units(offset);
+        let is_whole = offset.unwrap_or(0) % OFFSET_PARTS == 0;
+        let is_between = !is_whole || units % i64::from(dpi.unit()) != 0;
+        self.note_if(is_between, Doubt::BetweenDots);
+        self.note_if(units.unsigned_abs() > OFFSET_LIMIT, Doubt::Edge);
     }
 
     /// The cursor may go to the left end of the first line.
@@ -292,7 +304,7 @@ impl Doubts {
             return;
         }
         self.has_raster = true;
-        self.is_low = environment.y() % dpi.unit() != 0;
+        self.is_low = environment.y() % dpi.unit() != 0 || is_raised(environment);
         self.rows = SheetRows::start(left, self.is_low, environment, dpi);
         self.is_seed_open = false;
         self.raster = self.row.or(between_dots(environment.y(), dpi));
@@ -344,7 +356,9 @@ impl Doubts {
         self.note_if(is_between, Doubt::BetweenDots);
         let unit = u64::from(dpi.unit());
         let right = u64::from(environment.x()) / unit + width.div_ceil(unit);
-        let is_cut = right > u64::from(environment.size().width(dpi));
+        let bottom = u64::from(environment.y()) / unit + height.div_ceil(unit);
+        let is_cut = right > u64::from(environment.size().width(dpi))
+            || (is_raised(environment) && bottom > u64::from(environment.size().height(dpi)));
         self.note_if(is_cut && ink == Ink::Black, Doubt::Edge);
     }
 
@@ -370,9 +384,7 @@ impl Doubts {
         let is_between = is_half_past_or_more(environment.x(), dpi)
             || is_half_past_or_more(environment.y(), dpi);
         self.note_if(is_between, Doubt::BetweenDots);
-        let (left, right) = sides_of(glyph, environment);
-        let is_cut = left < 0 || right > i64::from(environment.size().units_wide());
-        self.note_if(is_cut, Doubt::Edge);
+        self.note_if(is_cut(glyph, environment), Doubt::Edge);
     }
 
     /// Looks at a character that is about to be inked, on a page that is marked or not.
@@ -419,14 +431,45 @@ fn sides_of(glyph: &Glyph<'_>, environment: &Env) -> (i64, i64) {
     (left, right)
 }
 
+/// Where it has its upper and its lower end.
+fn ends_of(glyph: &Glyph<'_>, environment: &Env) -> (i64, i64) {
+    let top = i64::from(environment.y()).saturating_sub(i64::from(glyph.top) * BIT_UNITS);
+    let bottom = top.saturating_add(i64::from(glyph.height) * BIT_UNITS);
+    (top, bottom)
+}
+
+/// Whether a part of the pattern of a character at the cursor is off the page, and may be on its sheet.
+fn is_cut(glyph: &Glyph<'_>, environment: &Env) -> bool {
+    let (left, right) = sides_of(glyph, environment);
+    let (top, bottom) = ends_of(glyph, environment);
+    let size = environment.size();
+    left < 0
+        || right > i64::from(size.units_wide())
+        || (top < 0 && is_lowered(environment))
+        || (bottom > i64::from(size.units_high()) && is_raised(environment))
+}
+
 /// Whether a part of the pattern of a character at the cursor is on the page.
 fn is_on_page(glyph: &Glyph<'_>, environment: &Env) -> bool {
     let (left, right) = sides_of(glyph, environment);
-    let top = i64::from(environment.y()).saturating_sub(i64::from(glyph.top) * BIT_UNITS);
-    let bottom = top.saturating_add(i64::from(glyph.height) * BIT_UNITS);
+    let (top, bottom) = ends_of(glyph, environment);
     let size = environment.size();
     left.max(0) < right.min(i64::from(size.units_wide()))
         && top.max(0) < bottom.min(i64::from(size.units_high()))
+}
+
+/// Whether the page is moved up on its sheet, or down.
+fn is_raised(environment: &Env) -> bool {
+    offset_units(environment.asked().top_offset) < 0
+}
+
+fn is_lowered(environment: &Env) -> bool {
+    offset_units(environment.asked().top_offset) > 0
+}
+
+/// An offset in units of 1/7200 inch.
+pub fn offset_units(offset: Option<i64>) -> i64 {
+    offset.unwrap_or(0) / OFFSET_PARTS
 }
 
 /// Whether the font that is meant is selected.
@@ -461,6 +504,12 @@ const HMI_UNIT: u32 = 60;
 
 /// Units of 1/7200 inch in a tenth of a point.
 const DECIPOINT: u32 = 10;
+
+/// Ten-thousandths of a decipoint in a unit of 1/7200 inch.
+const OFFSET_PARTS: i64 = 1_000;
+
+/// The longest offset of a page in these units, an inch: past it edges aren't looked at.
+const OFFSET_LIMIT: u64 = 7_200;
 
 /// The length of one of the unit.
 fn unit_of(axis: Axis, unit: Unit, environment: &Env) -> u32 {

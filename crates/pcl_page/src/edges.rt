@@ -1,13 +1,17 @@
 //! Raster rows past the page's right edge, where they are cut.
 
+use crate::doubts::offset_units;
 use pcl_base::{Dpi, Method, ROW_LIMIT};
 use pcl_env::Env;
 use pcl_rows::decode;
 
 /// The most bytes of a row as far as the sheet goes.
-const SHEET_LIMIT: usize = ROW_LIMIT + 32;
+const SHEET_LIMIT: usize = ROW_LIMIT + 128;
 
-/// The rows of a raster, as far as the sheet goes: a quarter of an inch past the page's right edge.
+/// How far the sheet goes past the page's right edge, where the page has no offset, in units of 1/7200 inch.
+const QUARTER_INCH: i64 = 1_800;
+
+/// The rows of a raster, as far as the sheet goes past the page's right edge.
 #[derive(Drop)]
 pub struct SheetRows {
     /// How many of their dots lie on the page, whole.
@@ -23,7 +27,7 @@ impl SheetRows {
     pub fn start(left: u32, is_wanted: bool, environment: &Env, dpi: Dpi) -> Option<SheetRows> {
         let scale = (dpi.dots() / environment.resolution().max(1)).max(1);
         let on_page = environment.size().width(dpi).saturating_sub(left) / scale;
-        let on_sheet = on_page.saturating_add((dpi.dots() / 4).div_ceil(scale));
+        let on_sheet = on_page.saturating_add(dots_past_page(environment, dpi).div_ceil(scale));
         let width = environment.raster_width().unwrap_or(on_sheet).min(on_sheet);
         if width <= on_page && !is_wanted {
             return None;
@@ -53,6 +57,12 @@ impl SheetRows {
         self.seed = row;
         has_dots_from(&self.seed, self.on_page)
     }
+}
+
+/// How many dots the sheet has past the page's right edge.
+fn dots_past_page(environment: &Env, dpi: Dpi) -> u32 {
+    let units = QUARTER_INCH.saturating_sub(offset_units(environment.asked().left_offset));
+    u32::try_from(units).unwrap_or(0).div_ceil(dpi.unit())
 }
 
 /// Whether a row has dots from one on.

@@ -7,7 +7,9 @@ use crate::doubts::Doubts;
 use crate::macros::{Action, Keeping, action_of, keeping_of, macro_lasts};
 use crate::performer::Performer;
 use arrayvec::ArrayVec;
-use pcl_base::{CallFault, Dpi, JobFault, Kind, MACRO_LIMIT, Name, Operation, Refusal, Value};
+use pcl_base::{
+    CallFault, Dpi, JobFault, Kind, MACRO_LIMIT, Name, Operation, Profile, Refusal, Value,
+};
 use pcl_env::Saved;
 use pcl_escape::{Command, CommandList};
 use pcl_macros::{MacroControl, Macros};
@@ -50,12 +52,17 @@ impl<'a> Interpreter<'a> {
     ghost use Rattle.pcl_page.specs.inner.Reflecting.{EndDone};
     ghost use Rattle.pcl_page.specs.inner.Unfolding.{IsAt, IsSomewhere, resumed, begun_among, work_left, GoesOn, IsStepped, IsActed, IsEntered, InterpreterEnds, IsAsking};
 
-    /// The start of a job. What is looked for of what printers may read otherwise is given.
-    pub fn new(alloc: Global, dpi: Dpi, doubts: Doubts) -> Result<Interpreter<'a>, AllocError>
-        ensures { IfOk result (λ interpreter. IsAt dpi at_begin interpreter × (interpreter.running.items ≡ [])) }
+    /// The start of a job that is read by this profile. What is looked for of what printers may read otherwise is given.
+    pub fn new(
+        alloc: Global,
+        profile: Profile,
+        dpi: Dpi,
+        doubts: Doubts,
+    ) -> Result<Interpreter<'a>, AllocError>
+        ensures { IfOk result (λ interpreter. IsAt dpi (at_begin profile) interpreter × (interpreter.running.items ≡ [])) }
     {
         Ok(Interpreter {
-            performer: Performer::new(alloc, dpi, doubts)?,
+            performer: Performer::new(alloc, profile, dpi, doubts)?,
             macros: Macros::new(alloc),
             running: ArrayVec::new(),
         })
@@ -69,10 +76,11 @@ impl<'a> Interpreter<'a> {
         dpi: Dpi,
         sink: &mut S,
     ) -> Result<(), JobFault>
-        requires begin { IsAt dpi at_begin self.old }
+        requires begin { IsAt dpi (at_begin self.old.performer.environment.profile) self.old }
         requires idle { self.old.running.items ≡ [] }
-        ensures { HandsOver S.takes dpi (performance dpi end (L.commands commands.now)) result sink.old sink.new
-            × IsAsking (performance dpi end (L.commands commands.now)) result self.new.performer }
+        ensures { HandsOver S.takes dpi (performance self.old.performer.environment.profile dpi end (L.commands commands.now))
+            result sink.old sink.new
+            × IsAsking (performance self.old.performer.environment.profile dpi end (L.commands commands.now)) result self.new.performer }
     {
         let mut place = 0;
         while let Some(command) = commands.command_at(place) {

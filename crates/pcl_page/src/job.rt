@@ -5,22 +5,24 @@ ghost use Rattle.pcl_page.specs.Performing.{performance};
 ghost use Rattle.pcl_page.specs.Delivering.{HandsOver, HandsOverAsked};
 ghost use Rattle.std.specs.Prelude.{◌≡◌, ℕ, List};
 ghost use Rattle.pcl_base.specs.declared.dpi.Dpi.{Dpi};
+ghost use Rattle.pcl_base.specs.declared.profile.Profile.{Profile};
+ghost use Rattle.pcl_base.specs.declared.profile.Profile.TheVariants.{Stated};
 ghost use Rattle.pcl_base.specs.declared.refusal.Refusal.{Refusal};
 ghost use Rattle.pcl_page.specs.Situation.{Sheet};
 ghost use Rattle.pcl_page.specs.Asks.{Asks as AsksOfJob};
-ghost use Rattle.pcl_page.specs.Jobs.{HasPages, HasAsks};
-ghost use Rattle.pcl_page.specs.Delivering.{IsRefusal, Delivers, DeliversAsked, IsPagesOf};
+ghost use Rattle.pcl_page.specs.Jobs.{HasPagesBy, HasAsksBy};
+ghost use Rattle.pcl_page.specs.Delivering.{IsRefusalBy, Delivers, DeliversBy, DeliversAsked, IsPagesOf};
 
 use crate::asks::Asks;
 use crate::doubts::{Doubt, Doubts};
 use crate::interpreter::Interpreter;
 use crate::{Page, PageSink};
-use pcl_base::{Dpi, JobFault};
+use pcl_base::{Dpi, JobFault, Profile};
 use pcl_escape::{Command, CommandList, one_outcome, read_commands};
 use std::alloc::{AllocError, Global};
 use std::marker::Model;
 
-/// Performs the commands of a job of `end` bytes and hands its pages to the sink, in order, each once.
+/// Performs the commands of a job of `end` bytes, by the stated profile, and hands its pages to the sink, in order, each once.
 /// One bitmap is painted, handed over and cleared. A refusal names the first refused command; the sink
 /// has then taken the pages that were ejected before it. Where memory runs out it has taken the first
 /// of its pages.
@@ -31,45 +33,47 @@ pub fn run<'a, S: PageSink>(
     dpi: Dpi,
     sink: &mut S,
 ) -> Result<(), JobFault>
-    ensures { HandsOver S.takes dpi (performance dpi end (views commands.now)) result sink.old sink.new }
+    ensures { HandsOver S.takes dpi (performance Stated dpi end (views commands.now)) result sink.old sink.new }
 {
-    run_asked(alloc, commands, end, dpi, sink)?;
+    run_asked(alloc, commands, end, Profile::Stated, dpi, sink)?;
     Ok(())
 }
 
-/// The same as [`run`]; where nothing is refused it gives what the commands ask of the printer besides dots.
+/// The same as [`run`], by a profile; where nothing is refused it gives what the commands ask of the printer besides dots.
 pub fn run_asked<'a, S: PageSink>(
     alloc: Global,
     commands: &[Command<'a>],
     end: usize,
+    profile: Profile,
     dpi: Dpi,
     sink: &mut S,
 ) -> Result<Asks<'a>, JobFault>
-    ensures { HandsOverAsked S.takes dpi (performance dpi end (views commands.now)) result sink.old sink.new }
+    ensures { HandsOverAsked S.takes dpi (performance profile dpi end (views commands.now)) result sink.old sink.new }
 {
     let mut doubts = Doubts::new(false);
-    run_list(alloc, &commands, end, dpi, &mut doubts, sink)
+    run_list(alloc, &commands, end, profile, dpi, &mut doubts, sink)
 }
 
-/// The same for any list of commands, with what printers may read otherwise.
+/// The same for any list of commands, by a profile, with what printers may read otherwise.
 fn run_list<'a, L: CommandList<'a>, S: PageSink>(
     alloc: Global,
     commands: &L,
     end: usize,
+    profile: Profile,
     dpi: Dpi,
     doubts: &mut Doubts,
     sink: &mut S,
 ) -> Result<Asks<'a>, JobFault>
-    ensures { HandsOverAsked S.takes dpi (performance dpi end (L.commands commands.now)) result sink.old sink.new }
+    ensures { HandsOverAsked S.takes dpi (performance profile dpi end (L.commands commands.now)) result sink.old sink.new }
 {
-    let mut interpreter: Interpreter<'a> = Interpreter::new(alloc, dpi, doubts.again())?;
+    let mut interpreter: Interpreter<'a> = Interpreter::new(alloc, profile, dpi, doubts.again())?;
     interpreter.perform_all(commands, end, dpi, sink)?;
     let performer = interpreter.performer;
     *doubts = performer.doubts;
     Ok(performer.asks)
 }
 
-/// Reads a job, performs it, and hands its pages to the sink, in order, each once. A refusal is the job's:
+/// Reads a job, performs it by the stated profile, and hands its pages to the sink, in order, each once. A refusal is the job's:
 /// its first fault, or that of the first command that is refused.
 pub fn perform<S: PageSink>(
     alloc: Global,
@@ -79,22 +83,36 @@ pub fn perform<S: PageSink>(
 ) -> Result<(), JobFault>
     ensures { Delivers S.takes dpi job.now result sink.old sink.new }
 {
-    perform_asked(alloc, job, dpi, sink)?;
+    perform_by(alloc, job, Profile::Stated, dpi, sink)
+}
+
+/// The same as [`perform`], by a profile.
+pub fn perform_by<S: PageSink>(
+    alloc: Global,
+    job: &[u8],
+    profile: Profile,
+    dpi: Dpi,
+    sink: &mut S,
+) -> Result<(), JobFault>
+    ensures { DeliversBy S.takes profile dpi job.now result sink.old sink.new }
+{
+    perform_asked(alloc, job, profile, dpi, sink)?;
     Ok(())
 }
 
-/// The same as [`perform`]; where the job is accepted it gives what the job asks of the printer besides dots: what each page
+/// The same as [`perform_by`]; where the job is accepted it gives what the job asks of the printer besides dots: what each page
 /// is asked with, the universal exits with their lines, and where something counts on what stays in the printer, the job's bytes.
 pub fn perform_asked<'a, S: PageSink>(
     alloc: Global,
     job: &'a [u8],
+    profile: Profile,
     dpi: Dpi,
     sink: &mut S,
 ) -> Result<Asks<'a>, JobFault>
-    ensures { DeliversAsked S.takes dpi job.now result sink.old sink.new }
+    ensures { DeliversAsked S.takes profile dpi job.now result sink.old sink.new }
 {
     let mut doubts = Doubts::new(false);
-    perform_with(alloc, job, dpi, &mut doubts, sink)
+    perform_with(alloc, job, profile, dpi, &mut doubts, sink)
 }
 
 /// The same as [`perform_asked`], with the first thing in the job that printers may read otherwise, if there is one. Nothing is promised
@@ -102,14 +120,15 @@ pub fn perform_asked<'a, S: PageSink>(
 pub fn perform_doubted<'a, S: PageSink>(
     alloc: Global,
     job: &'a [u8],
+    profile: Profile,
     dpi: Dpi,
     doubt: &mut Option<Doubt>,
     sink: &mut S,
 ) -> Result<Asks<'a>, JobFault>
-    ensures { DeliversAsked S.takes dpi job.now result sink.old sink.new }
+    ensures { DeliversAsked S.takes profile dpi job.now result sink.old sink.new }
 {
     let mut doubts = Doubts::new(true);
-    let asks = perform_with(alloc, job, dpi, &mut doubts, sink)?;
+    let asks = perform_with(alloc, job, profile, dpi, &mut doubts, sink)?;
     *doubt = doubts.first;
     Ok(asks)
 }
@@ -118,18 +137,19 @@ pub fn perform_doubted<'a, S: PageSink>(
 fn perform_with<'a, S: PageSink>(
     alloc: Global,
     job: &'a [u8],
+    profile: Profile,
     dpi: Dpi,
     doubts: &mut Doubts,
     sink: &mut S,
 ) -> Result<Asks<'a>, JobFault>
-    ensures { DeliversAsked S.takes dpi job.now result sink.old sink.new }
+    ensures { DeliversAsked S.takes profile dpi job.now result sink.old sink.new }
 {
     let commands = read_commands(alloc, job)?;
-    let asks = run_list(alloc, &commands, job.len(), dpi, doubts, sink)?;
+    let asks = run_list(alloc, &commands, job.len(), profile, dpi, doubts, sink)?;
     Ok(asks.of_job(job))
 }
 
-/// The pages of a job, in order.
+/// The pages of a job by the stated profile, in order.
 pub fn read_pages(alloc: Global, job: &[u8], dpi: Dpi) -> Result<Vec<Page>, JobFault>
     ensures { IsPagesOf dpi job.now result }
 {
@@ -140,16 +160,17 @@ pub fn read_pages(alloc: Global, job: &[u8], dpi: Dpi) -> Result<Vec<Page>, JobF
     Ok(collected.pages)
 }
 
-/// A job has one list of pages at most, asks one thing of the printer, has one refusal at most, and is never both accepted and
+/// By a profile a job has one list of pages at most, asks one thing of the printer, has one refusal at most, and is never both accepted and
 /// refused. A law: the call does nothing.
 pub fn one_meaning()
-    ensures pages { (dpi : Dpi) (job : List ℕ) (pages others : List Sheet) → HasPages dpi job pages → HasPages dpi job others
-        → pages ≡ others }
-    ensures asks { (dpi : Dpi) (job : List ℕ) (asks others : AsksOfJob) → HasAsks dpi job asks → HasAsks dpi job others → asks ≡ others }
-    ensures refusal { (dpi : Dpi) (job : List ℕ) (refusal other : Refusal) → IsRefusal dpi job refusal → IsRefusal dpi job other
-        → refusal ≡ other }
-    ensures apart { (dpi : Dpi) (job : List ℕ) (pages : List Sheet) (refusal : Refusal) → HasPages dpi job pages
-        → IsRefusal dpi job refusal → ⊥ }
+    ensures pages { (profile : Profile) (dpi : Dpi) (job : List ℕ) (pages others : List Sheet) → HasPagesBy profile dpi job pages
+        → HasPagesBy profile dpi job others → pages ≡ others }
+    ensures asks { (profile : Profile) (dpi : Dpi) (job : List ℕ) (asks others : AsksOfJob) → HasAsksBy profile dpi job asks
+        → HasAsksBy profile dpi job others → asks ≡ others }
+    ensures refusal { (profile : Profile) (dpi : Dpi) (job : List ℕ) (refusal other : Refusal) → IsRefusalBy profile dpi job refusal
+        → IsRefusalBy profile dpi job other → refusal ≡ other }
+    ensures apart { (profile : Profile) (dpi : Dpi) (job : List ℕ) (pages : List Sheet) (refusal : Refusal)
+        → HasPagesBy profile dpi job pages → IsRefusalBy profile dpi job refusal → ⊥ }
 {
     one_outcome();
 }

@@ -2,17 +2,18 @@
 
 ghost use Rattle.std.specs.Prelude.{◌⊎◌, ℕ, List};
 ghost use Rattle.pcl_base.specs.declared.dpi.Dpi.{Dpi};
+ghost use Rattle.pcl_base.specs.declared.profile.Profile.{Profile};
 ghost use Rattle.pcl_base.specs.declared.refusal.Refusal.{Refusal};
 ghost use Rattle.pcl_page.specs.Situation.{Sheet};
-ghost use Rattle.pcl_page.specs.Jobs.{HasPages};
-ghost use Rattle.pcl_page.specs.Delivering.{IsRefusal};
+ghost use Rattle.pcl_page.specs.Jobs.{HasPagesBy};
+ghost use Rattle.pcl_page.specs.Delivering.{IsRefusalBy};
 
 use pcl_escape::some_outcome;
 
-/// A job is accepted and has a list of pages, or it is refused, whatever its bytes are. A law: the call does nothing.
+/// By a profile a job is accepted and has a list of pages, or it is refused, whatever its bytes are. A law: the call does nothing.
 pub fn some_meaning()
-    ensures { (dpi : Dpi) (job : List ℕ)
-        → ((pages : List Sheet) × HasPages dpi job pages) ⊎ ((refusal : Refusal) × IsRefusal dpi job refusal) }
+    ensures { (profile : Profile) (dpi : Dpi) (job : List ℕ)
+        → ((pages : List Sheet) × HasPagesBy profile dpi job pages) ⊎ ((refusal : Refusal) × IsRefusalBy profile dpi job refusal) }
 {
     some_outcome();
 }

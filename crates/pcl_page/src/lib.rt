@@ -17,7 +17,9 @@ mod text;
 pub use accepting::{first_accepted, is_accepted, page_count};
 pub use asks::{AskedPage, Asks, Exit, PageStart};
 pub use doubts::{Doubt, Readers};
-pub use job::{one_meaning, perform, perform_asked, perform_doubted, read_pages, run, run_asked};
+pub use job::{
+    one_meaning, perform, perform_asked, perform_by, perform_doubted, read_pages, run, run_asked,
+};
 pub use laws::some_meaning;
 pub use pcl_bitmap::{Page, PageSink};
 pub use pcl_env::Asked;

@@ -9,8 +9,8 @@ use crate::doubts::{Doubts, is_home};
 use crate::raster::{Raster, ends_raster, is_ignored_in_raster};
 use crate::{Page, PageSink};
 use pcl_base::{
-    Asking, COMMAND_LIMIT, CallFault, Dpi, JobFault, Kind, Name, Operation, PAGE_LIMIT, Refusal,
-    Size, Value,
+    Asking, COMMAND_LIMIT, CallFault, Dpi, JobFault, Kind, Name, Operation, PAGE_LIMIT, Profile,
+    Refusal, Size, Value,
 };
 use pcl_bitmap::{Bitmap, Ink};
 use pcl_env::{Asked, Effect, Env, Saved};
@@ -48,13 +48,14 @@ pub struct Performer<'a> {
 }
 
 impl<'a> Performer<'a> {
-    ghost use Rattle.std.specs.Prelude.{◌≡◌, ◌<◌, ◌==◌, ◌&&◌, is_some, ◌≤◌, ◌+◌, ◌*◌, ◌^◌, if◌then◌else◌, Some, IfOk, OnOk, OnErr};
+    ghost use Rattle.std.specs.Prelude.{◌≡◌, ◌<◌, ◌==◌, ◌&&◌, not, is_some, ◌≤◌, ◌+◌, ◌*◌, ◌^◌, if◌then◌else◌, Some, IfOk, OnOk, OnErr};
     ghost use Rattle.pcl_base.specs.declared.kind.Kind.TheVariants.{UnsupportedValue};
     ghost use Rattle.pcl_base.specs.Value.{whole_of};
     ghost use Rattle.pcl_page.specs.Marks.{dot_at};
     ghost use Rattle.pcl_page.specs.Raster.{raster_from, rows_in, is_ignored_in_raster};
     ghost use Rattle.pcl_base.specs.declared.dpi.Dpi.{Dpi};
     ghost use Rattle.pcl_escape.specs.Said.{Said, view};
+    ghost use Rattle.pcl_env.specs.Offset.{lie_together};
     ghost use Rattle.pcl_env.specs.Outcome.{outcome};
     ghost use Rattle.pcl_page.specs.Situation.{Situation, at_begin, is_marked, drawn, draw_refusal, asked_for, ink_of, filled_with, rectangle_mark, skipped_in, exited, put_back, with_lasting};
     ghost use Rattle.pcl_page.specs.Macros.{macro_ended};
@@ -66,11 +67,16 @@ impl<'a> Performer<'a> {
     ghost use Rattle.pcl_bitmap.specs.declared.page.Page.{Page};
     ghost use Rattle.pcl_page.specs.inner.Reflecting.{IsIn, IsPrepared, HasRaster, Takes, IsFollowed, IsEjected, IsDrawn, Draws, IsSent, IsTurned, IsTried, EndDone};
 
-    /// The start of a job: a white page, and the defaults.
-    pub fn new(alloc: Global, dpi: Dpi, doubts: Doubts) -> Result<Performer<'a>, AllocError>
-        ensures { IfOk result (λ performer. IsIn dpi at_begin performer) }
+    /// The start of a job that is read by this profile: a white page, and the defaults.
+    pub fn new(
+        alloc: Global,
+        profile: Profile,
+        dpi: Dpi,
+        doubts: Doubts,
+    ) -> Result<Performer<'a>, AllocError>
+        ensures { IfOk result (λ performer. IsIn dpi (at_begin profile) performer) }
     {
-        let environment = Env::new();
+        let environment = Env::new(profile);
         let page = Page {
             size: Size::Letter,
             copies: 1,
@@ -139,13 +145,33 @@ impl<'a> Performer<'a> {
         self.raster = None;
     }
 
-    /// Does what the end of a macro call does: it ends a raster, and puts back what was set before the call.
+    /// Does what the end of a macro call does: it ends a raster, and puts back what was set before the call. A marked page that this moves
+    /// has dots at two offsets.
     pub fn end_call(&mut self, saved: Saved, dpi: Dpi)
         ensures situation { (s : Situation) → IsIn dpi s self.old → IsIn dpi (macro_ended dpi (Some saved) s) self.new }
         ensures counts { self.new.performed ≡ self.old.performed }
     {
+        let asked = self.environment.asked();
         self.prepare(Operation::EndRaster, dpi);
         self.environment.restore(saved);
+        self.note_moved(asked);
+    }
+
+    /// Notes that a marked page was moved, where it was asked with this before.
+    fn note_moved(&mut self, asked: Asked)
+        ensures situation { (dpi : Dpi) (s : Situation) → IsIn dpi s self.old
+            → IsIn dpi (with_lasting (is_marked s && not (lie_together asked s.settings.asked)) s) self.new }
+        ensures rest { self.new.performed ≡ self.old.performed }
+    {
+        let is_moved = self.is_moved(asked);
+        self.last_if(is_moved);
+    }
+
+    /// Whether the page is marked, and lies elsewhere than where this puts it.
+    fn is_moved(&self, asked: Asked) -> bool
+        ensures { result ≡ (self.now.is_marked && not (lie_together asked self.now.environment.asked)) }
+    {
+        self.is_marked && !asked.lies_with(self.environment.asked())
     }
 
     /// Sets what a command sets, and ejects the page where it says so: the page has the size and the
@@ -177,6 +203,7 @@ impl<'a> Performer<'a> {
             &self.environment,
             self.is_marked,
             was_home,
+            dpi,
         );
         if ejects(effect, self.is_marked) {
             if self.ejected >= PAGE_LIMIT {
@@ -266,7 +293,11 @@ impl<'a> Performer<'a> {
             Asking::SheetSide => self.asks.ask_side(i64::from(value.whole())),
             Asking::Sides => self.last_if(self.is_marked),
             Asking::MediaType => self.last_if(self.is_marked),
-            Asking::OutputBin | Asking::PaperSource | Asking::PageLength => {}
+            Asking::OutputBin
+            | Asking::PaperSource
+            | Asking::PageLength
+            | Asking::LeftOffset
+            | Asking::TopOffset => {}
         }
     }
 

@@ -1,15 +1,17 @@
 -- The flat list of a job: its commands as they are performed, those of macros among them, and where a macro begins and ends.
-use Rattle.std.specs.Prelude.{◌≡◌, ℕ, zero, suc, ◌+◌, ◌-◌, ◌&&◌, Bool, true, false, is_some, if◌then◌else◌, List, [], ◌∷◌, length, take, drop, Option, Some, None, Result, Ok, Err}
+use Rattle.std.specs.Prelude.{◌≡◌, ℕ, zero, suc, ◌+◌, ◌-◌, ◌&&◌, Bool, true, false, not, is_some, if◌then◌else◌, List, [], ◌∷◌, length, take, drop, Option, Some, None, Result, Ok, Err}
 use Rattle.pcl_base.specs.declared.dpi.Dpi.{Dpi}
 use Rattle.pcl_base.specs.declared.kind.Kind.{Kind}
 use Rattle.pcl_base.specs.declared.kind.Kind.TheVariants.{MacroDepth}
 use Rattle.pcl_base.specs.declared.operation.Operation.{Operation}
 use Rattle.pcl_base.specs.declared.operation.Operation.TheVariants.{ControlMacros}
+use Rattle.pcl_base.specs.declared.profile.Profile.TheVariants.{Stated}
 use Rattle.pcl_base.specs.declared.refusal.Refusal.{Refusal}
 use Rattle.pcl_base.specs.declared.value.Value.{Value}
 use Rattle.pcl_base.specs.Limits.{macro_limit}
 use Rattle.pcl_base.specs.Operation.{operation_of}
 use Rattle.pcl_base.specs.Refusal.{refusal}
+use Rattle.pcl_env.specs.Offset.{lie_together}
 use Rattle.pcl_env.specs.Settings.{kept, restored}
 use Rattle.pcl_escape.specs.Said.{Said}
 use Rattle.pcl_macros.specs.History.{MacroBody}
@@ -17,7 +19,7 @@ use Rattle.pcl_page.specs.declared.macros.Action.{Action}
 use Rattle.pcl_page.specs.declared.macros.Action.TheVariants.{Execute, Call}
 use Rattle.pcl_page.specs.declared.macros.Keeping.{Keeping}
 use Rattle.pcl_page.specs.declared.macros.Keeping.TheVariants.{Kept}
-use Rattle.pcl_page.specs.Situation.{Situation, at_begin, end_raster}
+use Rattle.pcl_page.specs.Situation.{Situation, at_begin, is_marked, end_raster, with_lasting}
 use Rattle.pcl_page.specs.Macros.{action_of, keeping_of, after_command, macro_now}
 use Rattle.pcl_page.specs.Performing.{Performance, then_on, after_end, performance}
 
@@ -36,18 +38,21 @@ abbrev pub or_as_before : Situation → Result Situation Kind → Situation
 or_as_before s (Ok later) = later
 or_as_before s (Err kind) = s
 
--- a call's end ends the raster; and everything is set as it was when the macro began, but the page size, the cursor and its stack
+-- a call's end ends the raster; and everything is set as it was when the macro began, but the page size, the cursor and its stack; a page that
+-- is marked and moved by that has dots at two offsets
 abbrev pub returned : Dpi → Situation → Situation → Situation
-returned dpi entered s = record (end_raster dpi s) { settings = restored (kept entered.settings) (end_raster dpi s).settings }
+returned dpi entered s =
+    with_lasting (is_marked s && not (lie_together s.settings.asked entered.settings.asked))
+        (record (end_raster dpi s) { settings = restored (kept entered.settings) (end_raster dpi s).settings })
 
 -- the newest of some situations, and the one this many items before it
 abbrev pub newest : List Situation → Situation
-newest [] = at_begin
+newest [] = at_begin Stated
 newest (s ∷ past) = s
 
 abbrev pub ago : ℕ → List Situation → Situation
 ago zero past = newest past
-ago (suc items) [] = at_begin
+ago (suc items) [] = at_begin Stated
 ago (suc items) (s ∷ past) = ago items past
 
 -- the situation after one item more, by those after the items before it, the newest first
@@ -59,7 +64,7 @@ after_item dpi (return items) past = returned dpi (ago items past) (newest past)
 
 -- the situations after a list, after the list without its newest item, and so on to the empty one
 abbrev pub situations : Dpi → List Item → List Situation
-situations dpi [] = at_begin ∷ []
+situations dpi [] = at_begin Stated ∷ []
 situations dpi (item ∷ older) = after_item dpi item (situations dpi older) ∷ situations dpi older
 
 abbrev pub now : Dpi → List Item → Situation
@@ -166,8 +171,8 @@ flat_list dpi commands = in_turn (add dpi (unfolded macro_limit dpi commands)) 0
 abbrev pub performed_by : Dpi → Unfolding → Performance
 performed_by dpi u = record { situation = now dpi u.items; refusal = u.refusal }
 
--- performing commands, and then the input's end, leads to the situation after their flat list, and is refused where that doesn't
+-- performing commands by the stated profile, and then the input's end, leads to the situation after their flat list, and is refused where that doesn't
 -- go on
 abbrev pub PerformingIsUnfolding : Type 0
 PerformingIsUnfolding = (dpi : Dpi) (end : ℕ) (commands : List Said)
-    → performance dpi end commands ≡ then_on (performed_by dpi (flat_list dpi commands)) (after_end dpi end)
+    → performance Stated dpi end commands ≡ then_on (performed_by dpi (flat_list dpi commands)) (after_end dpi end)
