@@ -1,6 +1,6 @@
 -- Whole jobs of page texts are accepted, and mean the pages of the texts.
 use Rattle.std.proofs.Common.{◌≡◌, ℕ, ◌+◌, ◌*◌, ◌<◌, ◌≤◌, List, [], ◌∷◌, ◌++◌, length, map, Option, None, refl, sym, ap, subst, ◌∙◌, append_assoc, append-nil, length-append, arith, lit≤, false}
-use Rattle.pcl_meaning.proofs.Names.{flat_map, nat_tests, Dpi, Size, Refusal, macro_limit, command_limit, page_width, page_height, page_row_bytes, height_small, commands_of, IsReading, Settings, defaults, Page, Temporary, control, pages_fit, Mark, is_black, Sheet, Situation, at_begin, at_end, Shows, Performance, done, unless, then_on, runs, after_all, end_refusal, after_end, pages_of, asks_among, HasPages, HasAsks, performance_of, Token, command_count, token_bytes, start_bytes, end_bytes, frame_bytes, IsPageText, bitmap_rows, IsWrittenPage, AreAlike, AllAlike, PrintEach, most_commands, of_job, said_for, page_said, first_page, next_page, PageStart, dot_of_rows, job_of, MeansRows}
+use Rattle.pcl_meaning.proofs.Names.{flat_map, nat_tests, Dpi, Profile, Stated, Size, Refusal, macro_limit, command_limit, page_width, page_height, page_row_bytes, height_small, commands_of, IsReading, Settings, defaults, Page, Temporary, control, pages_fit, Mark, is_black, Sheet, Situation, at_begin, at_end, Shows, Performance, done, unless, then_on, runs, after_all, end_refusal, after_end, pages_of, asks_among, HasPagesBy, HasAsksBy, performance_of, Token, command_count, token_bytes, start_bytes, end_bytes, frame_bytes, IsPageText, bitmap_rows, IsWrittenPage, AreAlike, AllAlike, PrintEach, most_commands, of_job, said_for, page_said, first_page, next_page, PageStart, dot_of_rows, job_of, MeansRows}
 use Rattle.pcl_env.specs.Outcome.{outcome}
 use Rattle.pcl_macros.specs.declared.table.MacroControl.TheVariants as macros
 use Rattle.pcl_macros.specs.History.{control as macro_control}
@@ -35,43 +35,43 @@ text_counted dpi size copies tokens = omega (arith, body_counted tokens, length-
 -- ---- between two resets
 
 -- after the second reset, which deletes the temporary fonts and macros too
-abbrev closed : List Sheet → ℕ → Situation
-closed pages n =
-    record (between defaults pages n) {
+abbrev closed : Profile → List Sheet → ℕ → Situation
+closed profile pages n =
+    record (between (defaults profile) pages n) {
       fonts = control Temporary 0 0 ∷ reset_fonts;
       macros = macro_control macros.Temporary 0 ∷ reset_macros;
       asks = said_for pages;
     }
 
 -- the end of the input changes nothing after a reset
-ended_there : (dpi : Dpi) (end : ℕ) {pages : List Sheet} {n : ℕ} → length pages ≤ 256
-    → after_end dpi end (closed pages n) ≡ done (at_end dpi (closed pages n))
-ended_there dpi end {pages} {n} few = rw (pages_fit (at_end dpi (closed pages n)) few) refl
+ended_there : (profile : Profile) (dpi : Dpi) (end : ℕ) {pages : List Sheet} {n : ℕ} → length pages ≤ 256
+    → after_end dpi end (closed profile pages n) ≡ done (at_end dpi (closed profile pages n))
+ended_there profile dpi end {pages} {n} few = rw (pages_fit (at_end dpi (closed profile pages n)) few) refl
 
 -- the job is accepted with these pages, asks for what its texts say, and is read as this many commands
-pub record IsAccepted (dpi : Dpi) (job : List ℕ) (pages : List Sheet) (count : ℕ) : Type 0 where
-  pub meaning : HasPages dpi job pages
-  pub asks : HasAsks dpi job (said_for pages)
+pub record IsAccepted (profile : Profile) (dpi : Dpi) (job : List ℕ) (pages : List Sheet) (count : ℕ) : Type 0 where
+  pub meaning : HasPagesBy profile dpi job pages
+  pub asks : HasAsksBy profile dpi job (said_for pages)
   pub counted : length meaning.commands ≡ count
 
 -- bytes that are read as deeds that eject these pages
-pub job_accepted : {dpi : Dpi} {text : List ℕ} {deeds : List Deed} (t : Settings) {pages : List Sheet} (n : ℕ)
-    → ReadsAs text deeds → AreLeading dpi deeds (between defaults [] 1) (between t pages n) → length pages ≤ 256 → length deeds ≤ 99999998
-    → IsAccepted dpi (frame_bytes ++ text ++ frame_bytes) pages (length deeds + 2)
+pub job_accepted : {profile : Profile} {dpi : Dpi} {text : List ℕ} {deeds : List Deed} (t : Settings) {pages : List Sheet} (n : ℕ)
+    → ReadsAs text deeds → AreLeading dpi deeds (between (defaults profile) [] 1) (between t pages n) → length pages ≤ 256
+    → length deeds ≤ 99999998 → IsAccepted profile dpi (frame_bytes ++ text ++ frame_bytes) pages (length deeds + 2)
 unfolding after outcome
-job_accepted {dpi} {text} {deeds} t {pages} n read leads fits few =
+job_accepted {profile} {dpi} {text} {deeds} t {pages} n read leads fits few =
     let all = reset ∷ (deeds ++ reset ∷ []) in
     let job = frame_bytes ++ text ++ frame_bytes in
     let r = reads_joined frame_read (reads_joined read frame_read) in
     let commands = commands_of 0 r.pieces in
-    let first = between defaults [] 1 in
-    let last = closed pages (n + 1) in
+    let first = between (defaults profile) [] 1 in
+    let last = closed t.profile pages (n + 1) in
     let closes : AreLeading dpi (reset ∷ []) (between t pages n) last = lead refl (pages_fit last fits) stay in
-    let whole : AreLeading dpi all at_begin last = lead refl (pages_fit first (lit≤ tt)) (leading_append leads closes) in
-    let count : at_begin.performed + length all ≤ 100000000 = omega (arith, length-append deeds (reset ∷ [])) in
-    let c = commands_done dpi (runs macro_limit dpi commands) 0 commands all at_begin (r.said 0) whole count refl in
-    let performed : performance_of dpi job commands ≡ done (at_end dpi last) =
-    ap (λ (p : Performance). then_on p (after_end dpi (length job))) c.0 ∙ ended_there dpi (length job) fits in
+    let whole : AreLeading dpi all (at_begin profile) last = lead refl (pages_fit first (lit≤ tt)) (leading_append leads closes) in
+    let count : (at_begin profile).performed + length all ≤ 100000000 = omega (arith, length-append deeds (reset ∷ [])) in
+    let c = commands_done dpi (runs macro_limit dpi commands) 0 commands all (at_begin profile) (r.said 0) whole count refl in
+    let performed : performance_of profile dpi job commands ≡ done (at_end dpi last) =
+    ap (λ (p : Performance). then_on p (after_end dpi (length job))) c.0 ∙ ended_there t.profile dpi (length job) fits in
     let accepted = ap (λ (p : Performance). p.refusal) performed in
     let reading : IsReading job commands = record { pieces = r.pieces; each = r.each []; spelled = r.spelled; said = refl } in
     record {
@@ -91,7 +91,7 @@ pub text_means_page : (dpi : Dpi) (size : Size) (copies : ℕ) (rows : List (Lis
     (printed : IsPageText dpi size copies rows text) → command_count printed.tokens + 12 ≤ command_limit
     → MeansRows dpi size copies rows (job_of text)
 text_means_page dpi size copies rows text printed few =
-    let t = text_taken printed {n = 1} begins_between (lit≤ tt) in
+    let t = text_taken printed {n = 1} (begins_between Stated) (lit≤ tt) in
     let job = job_accepted t.settings t.count (text_read printed) t.leads (lit≤ tt)
     (omega (arith, few, text_counted dpi size copies printed.tokens)) in
     record { sheet = _; meaning = job.meaning; size_is = refl; copies_are = refl; dots = λ x y wide high. t.black x y wide }
@@ -159,9 +159,9 @@ end_fits dpi s n = grind (arith, nat_tests)
 unless_fits : (dpi : Dpi) (end : ℕ) (why : Option Refusal) (s : Situation) → Fits (unless why s (after_end dpi end))
 unless_fits dpi end why s = grind (arith, end_fits dpi s)
 
-pub job_fits : {dpi : Dpi} {job : List ℕ} {pages : List Sheet} → HasPages dpi job pages → length pages ≤ 256
-job_fits {dpi} {job} h =
-    let first = after_all dpi h.commands 0 h.commands at_begin in
+pub job_fits : {profile : Profile} {dpi : Dpi} {job : List ℕ} {pages : List Sheet} → HasPagesBy profile dpi job pages → length pages ≤ 256
+job_fits {profile} {dpi} {job} h =
+    let first = after_all dpi h.commands 0 h.commands (at_begin profile) in
     rw h.ejected (unless_fits dpi (length job) first.refusal first.situation h.accepted)
 
 -- ---- a job that is written again
@@ -192,25 +192,25 @@ said_alike dpi (sheet ∷ meant) (other ∷ again) a =
 said_alike dpi meant again a = absurd a
 
 -- the written job is accepted, its pages are alike, it asks for what its texts say, and it has few commands
-pub record IsAgain (dpi : Dpi) (pages : List Sheet) (job : List ℕ) : Type 0 where
+pub record IsAgain (profile : Profile) (dpi : Dpi) (pages : List Sheet) (job : List ℕ) : Type 0 where
   pub again : List Sheet
-  pub meaning : HasPages dpi job again
+  pub meaning : HasPagesBy profile dpi job again
   pub alike : AllAlike dpi pages again
-  pub asks : HasAsks dpi job (said_for pages)
+  pub asks : HasAsksBy profile dpi job (said_for pages)
   pub few : length meaning.commands ≤ most_commands dpi pages
 
-pub written_again : {dpi : Dpi} {job : List ℕ} (texts : List ℕ) {pages : List Sheet} → HasPages dpi job pages
-    → PrintEach IsWrittenPage dpi pages texts → IsAgain dpi pages (frame_bytes ++ texts ++ frame_bytes)
-written_again {dpi} texts {pages} h p =
+pub written_again : {profile : Profile} {dpi : Dpi} {job : List ℕ} (texts : List ℕ) {pages : List Sheet} → HasPagesBy profile dpi job pages
+    → PrintEach IsWrittenPage dpi pages texts → IsAgain profile dpi pages (frame_bytes ++ texts ++ frame_bytes)
+written_again {profile} {dpi} texts {pages} h p =
     let fits = job_fits h in
-    elim (texts_taken pages p begins_between (omega (arith, fits))) [
+    elim (texts_taken pages p (begins_between profile) (omega (arith, fits))) [
       | taken deeds again settings count read leads alike same few ↦
           let job = job_accepted settings count read leads (omega (arith, same, fits)) (omega (arith, fits, few, few_commands dpi pages)) in
           record {
             again = again;
             meaning = job.meaning;
             alike = alike;
-            asks = subst (HasAsks dpi (frame_bytes ++ texts ++ frame_bytes)) (said_alike dpi pages again alike) job.asks;
+            asks = subst (HasAsksBy profile dpi (frame_bytes ++ texts ++ frame_bytes)) (said_alike dpi pages again alike) job.asks;
             few = omega (arith, job.counted, few);
           }
     ]

@@ -1,6 +1,8 @@
 -- Job texts that print pages, the least of them, and a job written again.
 use Rattle.std.specs.Prelude.{◌≡◌, ℕ, ◌+◌, ◌*◌, ◌≤◌, List, [], ◌∷◌, ◌++◌, length, map}
 use Rattle.pcl_base.specs.declared.dpi.Dpi.{Dpi}
+use Rattle.pcl_base.specs.declared.profile.Profile.{Profile}
+use Rattle.pcl_base.specs.declared.profile.Profile.TheVariants.{Stated}
 use Rattle.pcl_base.specs.Size.{page_height}
 use Rattle.pcl_bitmap.specs.declared.page.Page.{Page}
 use Rattle.pcl_env.specs.declared.asked.Asked.{Asked}
@@ -10,7 +12,7 @@ use Rattle.pcl_page.specs.declared.asks.PageStart.{PageStart}
 use Rattle.pcl_page.specs.Asks.{Asks, no_asks, first_page, next_page}
 use Rattle.pcl_page.specs.Situation.{Sheet}
 use Rattle.pcl_page.specs.Performing.{Shows}
-use Rattle.pcl_page.specs.Jobs.{HasPages}
+use Rattle.pcl_page.specs.Jobs.{HasPagesBy}
 use Rattle.pcl_page.specs.Alike.{AllAlike}
 use Rattle.pcl_output.specs.Tokens.{frame_bytes}
 use Rattle.pcl_output.specs.PageText.{PrintsPage}
@@ -68,15 +70,19 @@ pages_said (sheet ∷ sheets) = page_said first_page sheet ∷ map (page_said ne
 abbrev pub said_for : List Sheet → Asks
 said_for pages = record no_asks { pages = pages_said pages }
 
--- a job text whose page texts print the pages of a job. It is accepted by the same rules, in few commands, and its pages are the
--- same.
-pub record IsJobOf (dpi : Dpi) (job output : List ℕ) : Type 0 where
+-- a job text whose page texts print the pages of a job that is read by this profile. It is accepted by the same rules, in few commands, and
+-- its pages are the same.
+pub record IsJobOfBy (profile : Profile) (dpi : Dpi) (job output : List ℕ) : Type 0 where
   pub pages : List Sheet
-  pub meaning : HasPages dpi job pages
+  pub meaning : HasPagesBy profile dpi job pages
   pub texts : List ℕ
   pub print : PrintEach IsWrittenPage dpi pages texts
   pub spelled : output ≡ frame_bytes ++ texts ++ frame_bytes
   pub again : List Sheet
-  pub accepted : HasPages dpi output again
+  pub accepted : HasPagesBy profile dpi output again
   pub alike : AllAlike dpi pages again
   pub few : length accepted.commands ≤ most_commands dpi pages
+
+-- the same by the stated profile
+abbrev pub IsJobOf : Dpi → List ℕ → List ℕ → Type 0
+IsJobOf dpi job output = IsJobOfBy Stated dpi job output

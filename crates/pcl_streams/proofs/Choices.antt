@@ -1,6 +1,6 @@
 -- Which page the sink keeps.
 use Rattle.std.proofs.Common.{◌≡◌, ℕ, suc, zero, ◌-◌, ◌≤◌, List, [], ◌∷◌, length, Option, Some, None, Result, Ok, Err, inl, inr, refl, ap, ◌∙◌, arith, eqb, false}
-use Rattle.pcl_streams.proofs.Names.{sub-one, nat_tests, slice_get, Keeps-refl, SomeIff, ok_or, Dpi, Picture, Page, Sheet, Shows, Hands, Chosen, HasPages, Fault, Refused, Memory, WriteFault, NoSuchPage, image_of, IsImageWritten, HasPage, IsPageDots, IsPreview, chosen_after}
+use Rattle.pcl_streams.proofs.Names.{sub-one, nat_tests, slice_get, Keeps-refl, SomeIff, ok_or, Dpi, Profile, Stated, Picture, Page, Sheet, Shows, Hands, Chosen, HasPagesBy, Fault, Refused, Memory, WriteFault, NoSuchPage, image_of, IsImageWritten, HasPage, IsPageDots, IsPreview, chosen_after}
 
 abbrev pub takes : Chosen → Page → Chosen → Type 0
 takes old page new = new ≡ chosen_after old.skip old page.bitmap
@@ -55,8 +55,9 @@ keeps dpi sheets None new s k h = rw (stays dpi sheets s h) k
 keeps dpi sheets (Some place) new s k h = keeps_chosen dpi sheets place new s k h
 
 -- pages before page number n are skipped, all for 0
-dots_of : {dpi : Dpi} {job : List ℕ} (number : ℕ) {pages : List Sheet} (skip : Option ℕ) (kept : Option Picture) → HasPages dpi job pages
-    → SomeIff skip (1 ≤ number) (number - 1) → KeepsBy dpi pages skip kept → IsPageDots dpi job number (ok_or kept NoSuchPage)
+dots_of : {profile : Profile} {dpi : Dpi} {job : List ℕ} (number : ℕ) {pages : List Sheet} (skip : Option ℕ) (kept : Option Picture)
+    → HasPagesBy profile dpi job pages
+    → SomeIff skip (1 ≤ number) (number - 1) → KeepsBy dpi pages skip kept → IsPageDots profile dpi job number (ok_or kept NoSuchPage)
 dots_of number {pages} None None m n k = record { pages = pages; meaning = m; outside = inl (omega arith) }
 dots_of number None (Some picture) m n k = absurd (let same : Some picture ≡ None = k in cc)
 dots_of number {pages} (Some place) None m n k = record { pages = pages; meaning = m; outside = inr (omega arith) }
@@ -73,13 +74,13 @@ dots_of number {pages} (Some place) (Some picture) m n k =
       dots = k.same;
     }
 
-pub dots_kept : (dpi : Dpi) (job : List ℕ) (number : ℕ) {pages : List Sheet} (skip : Option ℕ) {old : Chosen} (new : Chosen)
-    {result : Result Picture Fault} → HasPages dpi job pages → SomeIff skip (1 ≤ number) (number - 1) → old.skip ≡ skip
-    → old.kept ≡ None → Hands takes dpi pages old new → result ≡ ok_or new.kept NoSuchPage → IsPageDots dpi job number result
+pub dots_kept : {profile : Profile} (dpi : Dpi) (job : List ℕ) (number : ℕ) {pages : List Sheet} (skip : Option ℕ) {old : Chosen} (new : Chosen)
+    {result : Result Picture Fault} → HasPagesBy profile dpi job pages → SomeIff skip (1 ≤ number) (number - 1) → old.skip ≡ skip
+    → old.kept ≡ None → Hands takes dpi pages old new → result ≡ ok_or new.kept NoSuchPage → IsPageDots profile dpi job number result
 dots_kept dpi job number {pages} skip new m n s k h e = rw e (dots_of number skip new.kept m n (keeps dpi pages skip new s k h))
 
 -- the page can't be shown
-pub unseen : (dpi : Dpi) (job : List ℕ) (number : ℕ) (held : Option (List ℕ)) (fault : Fault) → IsPageDots dpi job number (Err fault)
+pub unseen : (dpi : Dpi) (job : List ℕ) (number : ℕ) (held : Option (List ℕ)) (fault : Fault) → IsPageDots Stated dpi job number (Err fault)
     → IsPreview dpi job number held held (Err fault)
 unseen dpi job number held (Refused refusal) n = (n, Keeps-refl held)
 unseen dpi job number held NoSuchPage n = (n, Keeps-refl held)
@@ -87,7 +88,7 @@ unseen dpi job number held Memory n = Keeps-refl held
 unseen dpi job number held fault n = absurd n
 
 pub previewed : {dpi : Dpi} {job : List ℕ} {number : ℕ} (old new : Option (List ℕ)) (picture : Picture) (result : Result (Unit {0}) Fault)
-    → HasPage dpi job number picture → IsImageWritten old new picture result → IsPreview dpi job number old new result
+    → HasPage Stated dpi job number picture → IsImageWritten old new picture result → IsPreview dpi job number old new result
 previewed old new picture (Ok done) p w = (image_of picture, (picture, p, refl), w)
 previewed old new picture (Err WriteFault) p w = (image_of picture, (picture, p, refl), w)
 previewed old new picture (Err Memory) p w = w

@@ -1,6 +1,6 @@
 -- What a sink holds that made images of the pages of a job.
 use Rattle.std.proofs.Common.{◌≡◌, ℕ, suc, zero, List, [], ◌∷◌, ◌++◌, length, Bool, true, false, Option, Result, Ok, Err, refl, sym, ap, subst, ◌∙◌, arith, append_assoc, append-nil, eqb, ◌↔◌}
-use Rattle.pcl_streams.proofs.Names.{sub-one, take-nil, drop-nil, nat_tests, Keeps-refl, Dpi, Page, Sheet, HasPages, AllShow, Hands, Fault, Refused, Memory, WriteFault, NoSuchPage, PageChoice, All, Range, IsWritten, chosen, AreThere, images_of, AreImagesOf, LacksPage, ArePageImages, IsPagesPreview, Showing, later, next_image, shown_after, IsMet, IsMetBy}
+use Rattle.pcl_streams.proofs.Names.{sub-one, take-nil, drop-nil, nat_tests, Keeps-refl, Dpi, Profile, Page, Sheet, HasPagesBy, AllShow, Hands, Fault, Refused, Memory, WriteFault, NoSuchPage, PageChoice, All, Range, IsWritten, chosen, AreThere, images_of, AreImagesOf, LacksPage, ArePageImages, IsPagesPreview, Showing, later, next_image, shown_after, IsMet, IsMetBy}
 
 abbrev pub shows_next : Showing → Page → Showing → Type 0
 shows_next old page new = new ≡ shown_after old page
@@ -56,10 +56,10 @@ has_shown dpi (sheet ∷ sheets) old new h =
 
 -- ---- previews
 
-pub all_made : {dpi : Dpi} {job : List ℕ} {sheets : List Sheet} (old new : Showing) {choice : PageChoice} {images : List ℕ}
-    → HasPages dpi job sheets → Hands shows_next dpi sheets old new → old.choice ≡ choice → old.images ≡ [] → new.images ≡ images
-    → IsMet new.choice → AreImagesOf dpi job choice images
-all_made {dpi} {sheets} old new meaning h choice_is none images_are met =
+pub all_made : {profile : Profile} {dpi : Dpi} {job : List ℕ} {sheets : List Sheet} (old new : Showing) {choice : PageChoice} {images : List ℕ}
+    → HasPagesBy profile dpi job sheets → Hands shows_next dpi sheets old new → old.choice ≡ choice → old.images ≡ [] → new.images ≡ images
+    → IsMet new.choice → AreImagesOf profile dpi job choice images
+all_made {dpi = dpi} {sheets = sheets} old new meaning h choice_is none images_are met =
     let shown = has_shown dpi sheets old new h in
     record {
       sheets = sheets;
@@ -71,10 +71,10 @@ all_made {dpi} {sheets} old new meaning h choice_is none images_are met =
           ∙ ap (λ (choice : PageChoice). images_of (chosen choice shown.pages)) choice_is;
     }
 
-pub one_lacks : {dpi : Dpi} {job : List ℕ} {sheets : List Sheet} (old new : Showing) {choice : PageChoice}
-    → HasPages dpi job sheets → Hands shows_next dpi sheets old new → old.choice ≡ choice → (IsMet new.choice → ⊥)
-    → LacksPage dpi job choice
-one_lacks {dpi} {sheets} old new meaning h choice_is unmet =
+pub one_lacks : {profile : Profile} {dpi : Dpi} {job : List ℕ} {sheets : List Sheet} (old new : Showing) {choice : PageChoice}
+    → HasPagesBy profile dpi job sheets → Hands shows_next dpi sheets old new → old.choice ≡ choice → (IsMet new.choice → ⊥)
+    → LacksPage profile dpi job choice
+one_lacks {dpi = dpi} {sheets = sheets} old new meaning h choice_is unmet =
     (sheets, meaning, λ there. unmet ((has_shown dpi sheets old new h).met.0 (rw choice_is there)))
 
 -- what an answer says of what is still asked for
@@ -84,16 +84,16 @@ met_by met same is by = rw (← same) (rw is at by)
 pub unmet_by : {choice other : PageChoice} (met : Bool) → choice ≡ other → met ≡ false → IsMetBy choice met → IsMet other → ⊥
 unmet_by met same is by = rw (← same) (rw is at by)
 
-pub none_shown : (dpi : Dpi) (job : List ℕ) (choice : PageChoice) (held : Option (List ℕ)) (fault : Fault)
-    → ArePageImages dpi job choice (Err fault) → IsPagesPreview dpi job choice held held (Err fault)
-none_shown dpi job choice held (Refused refusal) n = (n, Keeps-refl held)
-none_shown dpi job choice held NoSuchPage n = (n, Keeps-refl held)
-none_shown dpi job choice held Memory n = Keeps-refl held
-none_shown dpi job choice held fault n = absurd n
+pub none_shown : (profile : Profile) (dpi : Dpi) (job : List ℕ) (choice : PageChoice) (held : Option (List ℕ)) (fault : Fault)
+    → ArePageImages profile dpi job choice (Err fault) → IsPagesPreview profile dpi job choice held held (Err fault)
+none_shown profile dpi job choice held (Refused refusal) n = (n, Keeps-refl held)
+none_shown profile dpi job choice held NoSuchPage n = (n, Keeps-refl held)
+none_shown profile dpi job choice held Memory n = Keeps-refl held
+none_shown profile dpi job choice held fault n = absurd n
 
-pub all_shown : {dpi : Dpi} {job : List ℕ} {choice : PageChoice} (old new : Option (List ℕ)) (images : List ℕ)
-    (result : Result (Unit {0}) Fault) → AreImagesOf dpi job choice images → IsWritten old new images result
-    → IsPagesPreview dpi job choice old new result
+pub all_shown : {profile : Profile} {dpi : Dpi} {job : List ℕ} {choice : PageChoice} (old new : Option (List ℕ)) (images : List ℕ)
+    (result : Result (Unit {0}) Fault) → AreImagesOf profile dpi job choice images → IsWritten old new images result
+    → IsPagesPreview profile dpi job choice old new result
 all_shown old new images (Ok done) made written = (images, made, written)
 all_shown old new images (Err WriteFault) made written = (images, made, written)
 all_shown old new images result made written = absurd written

@@ -3,10 +3,11 @@ use Rattle.std.specs.Prelude.{◌≡◌, ℕ, ◌+◌, ◌≤◌, List, [], ◌�
 use Rattle.std.specs.Global.{Vec}
 use Rattle.std.specs.Io.KnownBytes.{Appends, Keeps}
 use Rattle.pcl_base.specs.declared.dpi.Dpi.{Dpi}
+use Rattle.pcl_base.specs.declared.profile.Profile.{Profile}
 use Rattle.pcl_bitmap.specs.declared.page.Page.{Page}
 use Rattle.pcl_page.specs.Situation.{Sheet}
-use Rattle.pcl_page.specs.Jobs.{HasPages}
-use Rattle.pcl_page.specs.Delivering.{AllShow, IsRefusal}
+use Rattle.pcl_page.specs.Jobs.{HasPagesBy}
+use Rattle.pcl_page.specs.Delivering.{AllShow, IsRefusalBy}
 use Rattle.pcl_streams.specs.declared.fault.Fault.{Fault}
 use Rattle.pcl_streams.specs.declared.fault.Fault.TheVariants.{Refused, Memory, ReadFault, TooLong, WriteFault, NoSuchPage}
 use Rattle.pcl_streams.specs.declared.page_images.PageChoice.{PageChoice}
@@ -34,32 +35,32 @@ abbrev pub images_of : List Page → List ℕ
 images_of [] = []
 images_of (page ∷ later) = image_of page.bitmap ++ images_of later
 
--- the bytes are the images of the pages of an accepted job that are asked for
-pub record AreImagesOf (dpi : Dpi) (job : List ℕ) (choice : PageChoice) (bytes : List ℕ) : Type 0 where
+-- the bytes are the images of the pages of a job that a profile accepts that are asked for
+pub record AreImagesOf (profile : Profile) (dpi : Dpi) (job : List ℕ) (choice : PageChoice) (bytes : List ℕ) : Type 0 where
   pub sheets : List Sheet
-  pub meaning : HasPages dpi job sheets
+  pub meaning : HasPagesBy profile dpi job sheets
   pub there : AreThere choice (length sheets)
   pub pages : List Page
   pub show : AllShow dpi pages sheets
   pub images : bytes ≡ images_of (chosen choice pages)
 
 -- a page that is asked for is missing in an accepted job
-abbrev pub LacksPage : Dpi → List ℕ → PageChoice → Type 0
-LacksPage dpi job choice = (sheets : List Sheet) × HasPages dpi job sheets × (AreThere choice (length sheets) → ⊥)
+abbrev pub LacksPage : Profile → Dpi → List ℕ → PageChoice → Type 0
+LacksPage profile dpi job choice = (sheets : List Sheet) × HasPagesBy profile dpi job sheets × (AreThere choice (length sheets) → ⊥)
 
-abbrev pub ArePageImages : Dpi → List ℕ → PageChoice → Result (Vec ℕ) Fault → Type 0
-ArePageImages dpi job choice (Ok images) = AreImagesOf dpi job choice images.items
-ArePageImages dpi job choice (Err (Refused refusal)) = IsRefusal dpi job refusal
-ArePageImages dpi job choice (Err NoSuchPage) = LacksPage dpi job choice
-ArePageImages dpi job choice (Err Memory) = Unit {0}
-ArePageImages dpi job choice (Err fault) = ⊥
+abbrev pub ArePageImages : Profile → Dpi → List ℕ → PageChoice → Result (Vec ℕ) Fault → Type 0
+ArePageImages profile dpi job choice (Ok images) = AreImagesOf profile dpi job choice images.items
+ArePageImages profile dpi job choice (Err (Refused refusal)) = IsRefusalBy profile dpi job refusal
+ArePageImages profile dpi job choice (Err NoSuchPage) = LacksPage profile dpi job choice
+ArePageImages profile dpi job choice (Err Memory) = Unit {0}
+ArePageImages profile dpi job choice (Err fault) = ⊥
 
 -- the images are written; a prefix of them where a write fails, and nothing after any other fault
-abbrev pub IsPagesPreview : Dpi → List ℕ → PageChoice → Option (List ℕ) → Option (List ℕ) → Result (Unit {0}) Fault → Type 0
-IsPagesPreview dpi job choice old new (Ok unit) = (bytes : List ℕ) × AreImagesOf dpi job choice bytes × Appends old new bytes
-IsPagesPreview dpi job choice old new (Err WriteFault) =
-    (bytes : List ℕ) × AreImagesOf dpi job choice bytes × AppendsFront old new bytes
-IsPagesPreview dpi job choice old new (Err (Refused refusal)) = IsRefusal dpi job refusal × Keeps old new
-IsPagesPreview dpi job choice old new (Err NoSuchPage) = LacksPage dpi job choice × Keeps old new
-IsPagesPreview dpi job choice old new (Err Memory) = Keeps old new
-IsPagesPreview dpi job choice old new (Err fault) = ⊥
+abbrev pub IsPagesPreview : Profile → Dpi → List ℕ → PageChoice → Option (List ℕ) → Option (List ℕ) → Result (Unit {0}) Fault → Type 0
+IsPagesPreview profile dpi job choice old new (Ok unit) = (bytes : List ℕ) × AreImagesOf profile dpi job choice bytes × Appends old new bytes
+IsPagesPreview profile dpi job choice old new (Err WriteFault) =
+    (bytes : List ℕ) × AreImagesOf profile dpi job choice bytes × AppendsFront old new bytes
+IsPagesPreview profile dpi job choice old new (Err (Refused refusal)) = IsRefusalBy profile dpi job refusal × Keeps old new
+IsPagesPreview profile dpi job choice old new (Err NoSuchPage) = LacksPage profile dpi job choice × Keeps old new
+IsPagesPreview profile dpi job choice old new (Err Memory) = Keeps old new
+IsPagesPreview profile dpi job choice old new (Err fault) = ⊥

@@ -7,8 +7,8 @@ ghost use Rattle.pcl_streams.specs.inner.Showing.{asks_next, later, IsMetBy};
 use crate::Fault;
 use crate::image::append_image;
 use crate::writing::write_all;
-use pcl_base::Dpi;
-use pcl_page::{Page, PageSink, perform};
+use pcl_base::{Dpi, Profile};
+use pcl_page::{Page, PageSink, perform_by};
 use std::alloc::{AllocError, Global};
 use std::io::Write;
 use std::marker::Model;
@@ -72,18 +72,19 @@ impl PageChoice {
     }
 }
 
-/// Writes the pages that are asked for as PBM images, one after the other, and flushes. NoSuchPage comes only for an accepted
+/// Writes the pages of a job that are asked for, by a profile, as PBM images, one after the other, and flushes. NoSuchPage comes only for an accepted
 /// job without one of them. After a write fault a prefix of the images was written, after any other fault nothing.
 pub fn preview_pages<W: Write>(
     alloc: Global,
     job: &[u8],
     choice: PageChoice,
+    profile: Profile,
     dpi: Dpi,
     out: &mut W,
 ) -> Result<(), Fault>
-    ensures { IsPagesPreview dpi job.now choice (W.contents out.old) (W.contents out.new) result }
+    ensures { IsPagesPreview profile dpi job.now choice (W.contents out.old) (W.contents out.new) result }
 {
-    let images = chosen_images(alloc, job, choice, dpi)?;
+    let images = chosen_images(alloc, job, choice, profile, dpi)?;
     write_all(out, &images)
 }
 
@@ -92,15 +93,16 @@ pub fn chosen_images(
     alloc: Global,
     job: &[u8],
     choice: PageChoice,
+    profile: Profile,
     dpi: Dpi,
 ) -> Result<Vec<u8>, Fault>
-    ensures { ArePageImages dpi job.now choice result }
+    ensures { ArePageImages profile dpi job.now choice result }
 {
     let mut shown = Shown {
         choice,
         images: Vec::new(alloc),
     };
-    perform(alloc, job, dpi, &mut shown)?;
+    perform_by(alloc, job, profile, dpi, &mut shown)?;
     if shown.choice.is_met() {
         Ok(shown.images)
     } else {

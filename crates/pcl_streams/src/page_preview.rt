@@ -4,13 +4,13 @@ ghost use Rattle.pcl_streams.specs.Preview.{IsPageDots, IsPreview};
 
 use crate::Fault;
 use crate::image::write_image;
-use pcl_base::Dpi;
+use pcl_base::{Dpi, Profile};
 use pcl_bitmap::Bitmap;
-use pcl_page::{Page, PageSink, perform};
+use pcl_page::{Page, PageSink, perform_by};
 use std::alloc::{AllocError, Global};
 use std::io::Write;
 
-/// Writes page number `page` of a job, counted from 1, as a PBM image, and flushes. NoSuchPage comes only
+/// Writes page number `page` of a job, counted from 1, by the stated profile, as a PBM image, and flushes. NoSuchPage comes only
 /// for an accepted job without that page. After a write fault a prefix of the image was written, after any
 /// other fault nothing.
 pub fn preview<W: Write>(
@@ -22,20 +22,26 @@ pub fn preview<W: Write>(
 ) -> Result<(), Fault>
     ensures { IsPreview dpi job.now page (W.contents out.old) (W.contents out.new) result }
 {
-    let bitmap = page_dots(alloc, job, page, dpi)?;
+    let bitmap = page_dots(alloc, job, page, Profile::Stated, dpi)?;
     write_image(alloc, &bitmap, out)
 }
 
-/// The dots of page number `page` of a job, counted from 1. NoSuchPage comes only for an accepted job without that
+/// The dots of page number `page` of a job, counted from 1, by a profile. NoSuchPage comes only for an accepted job without that
 /// page.
-pub fn page_dots(alloc: Global, job: &[u8], page: usize, dpi: Dpi) -> Result<Bitmap, Fault>
-    ensures { IsPageDots dpi job.now page result }
+pub fn page_dots(
+    alloc: Global,
+    job: &[u8],
+    page: usize,
+    profile: Profile,
+    dpi: Dpi,
+) -> Result<Bitmap, Fault>
+    ensures { IsPageDots profile dpi job.now page result }
 {
     let mut chosen = Chosen {
         skip: page.checked_sub(1),
         kept: None,
     };
-    perform(alloc, job, dpi, &mut chosen)?;
+    perform_by(alloc, job, profile, dpi, &mut chosen)?;
     chosen.kept.ok_or(Fault::NoSuchPage)
 }
 

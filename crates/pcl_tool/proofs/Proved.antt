@@ -3,6 +3,7 @@ use Rattle.pcl_cert.specs.declared.check.Verdict.TheVariants as verdicts
 use Rattle.std.proofs.Common.{◌≡◌, ℕ, ◌+◌, ◌^◌, ◌<◌, List, [], ◌∷◌, ◌++◌, Option, Some, None, Ok, Err, length, refl, sym, ap, subst, ◌∙◌, append_assoc, arith}
 use Rattle.pcl_tool.proofs.Names.{AllByRecursion, append-nil, length-append, Dpi, JobFault, Page, Sheet, Shows, Hands, IsRefusal, HasPages, frame_bytes, IsPlanOf, StepsAndTable, table_of_plan, IsWrittenPage, Format, One, Two, PageProof, IsProof, certificate_bytes, proof_in, HasLeastLists, AreLeastOf, table_proved, table_certified, PrintEach, job_fits, AreProved, IsAnswered, Fault, Output, fault_of, RefusedOrMemory, HasTaken, SoFar, IsOutput, IsProvedIn, Proves, TakesText}
 use Rattle.pcl_base.specs.declared.fault.JobFault.TheVariants.{Refused, Memory}
+use Rattle.pcl_base.specs.declared.profile.Profile.TheVariants.{Stated}
 use Rattle.pcl_tool.specs.inner.WrittenJobs.{IsBegun}
 use Rattle.pcl_meaning.proofs.WrittenJobs.{job_of_texts}
 use Rattle.pcl_tool.proofs.LeastTexts.{written_job}
@@ -106,14 +107,14 @@ pub written_output : {dpi : Dpi} {job : List ℕ} (format : Option Format) (outp
 unfolding job_of_texts
 written_output {dpi} {job} None output {pages} old new meaning same opened none h closed whole =
     let g = gathered pages h in
-    written_job (job_of_texts dpi job old.bytes new.bytes output.job.items g.texts pages meaning opened g.print g.bytes closed)
+    written_job (job_of_texts Stated dpi job old.bytes new.bytes output.job.items g.texts pages meaning opened g.print g.bytes closed)
 written_output {dpi} {job} (Some format) output {pages} old new meaning same opened none h closed whole =
     let g = gathered pages h in
     let p : ProofsGathered dpi format pages g.texts old.certificate new.certificate =
     subst (λ (f : Option Format). AreProvedIn dpi f pages g.texts old.certificate new.certificate) same g.proved in
     let few : length p.proofs < 2 ^ 32 = omega (arith, p.proved.0, job_fits meaning) in
     record {
-      job_is = written_job (job_of_texts dpi job old.bytes new.bytes output.job.items g.texts pages meaning opened g.print g.bytes closed);
+      job_is = written_job (job_of_texts Stated dpi job old.bytes new.bytes output.job.items g.texts pages meaning opened g.print g.bytes closed);
       certified = record {
         proofs = p.proofs;
         can_be_said = (few, p.can_be_said);

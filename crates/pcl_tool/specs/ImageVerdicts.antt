@@ -6,6 +6,7 @@ use Rattle.pcl_streams.specs.declared.fault.Fault.{Fault}
 use Rattle.pcl_tool.specs.declared.job_verdict.CheckAnswer.{CheckAnswer}
 use Rattle.pcl_tool.specs.declared.job_verdict.CheckAnswer.TheVariants.{OtherImages, Job}
 use Rattle.pcl_streams.specs.declared.page_images.PageChoice.TheVariants.{All}
+use Rattle.pcl_base.specs.declared.profile.Profile.TheVariants.{Stated}
 use Rattle.pcl_streams.specs.PageImages.{AreImagesOf}
 use Rattle.pcl_streams.specs.JobFaults.{RefusedOrMemory}
 use Rattle.pcl_tool.specs.JobVerdicts.{IsJobVerdict}
@@ -14,9 +15,9 @@ use Rattle.pcl_tool.specs.JobVerdicts.{IsJobVerdict}
 -- its own pages: Proved where no job text with the pages of these images is shorter.
 abbrev pub IsImagesAnswer : Dpi → List ℕ → List ℕ → List ℕ → CheckAnswer → Type 0
 IsImagesAnswer dpi images output certificate OtherImages =
-    (printed : List ℕ) × AreImagesOf dpi output All printed × (printed ≢ images)
+    (printed : List ℕ) × AreImagesOf Stated dpi output All printed × (printed ≢ images)
 IsImagesAnswer dpi images output certificate (Job verdict) =
-    AreImagesOf dpi output All images × IsJobVerdict dpi output output certificate verdict
+    AreImagesOf Stated dpi output All images × IsJobVerdict dpi output output certificate verdict
 
 -- an output that is refused is refused as by its performing; no fault comes but this and out of memory
 abbrev pub IsCheckedByImages : Dpi → List ℕ → List ℕ → List ℕ → Result CheckAnswer Fault → Type 0

@@ -4,7 +4,7 @@ ghost use Rattle.pcl_tool.specs.ImageVerdicts.{IsCheckedByImages};
 
 use crate::CheckAnswer;
 use crate::checking::check_job_watched;
-use pcl_base::Dpi;
+use pcl_base::{Dpi, Profile};
 use pcl_streams::{Fault, PageChoice, Watcher, chosen_images};
 use std::alloc::Global;
 
@@ -22,7 +22,7 @@ pub fn check_images<P: Watcher>(
 ) -> Result<CheckAnswer, Fault>
     ensures { IsCheckedByImages dpi images.now output.now certificate.now result }
 {
-    let printed = chosen_images(alloc, output, PageChoice::All, dpi)?;
+    let printed = chosen_images(alloc, output, PageChoice::All, Profile::Stated, dpi)?;
     if printed.as_slice() != images {
         return Ok(CheckAnswer::OtherImages);
     }

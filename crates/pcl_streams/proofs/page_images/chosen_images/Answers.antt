@@ -4,14 +4,14 @@ use Rattle.pcl_streams.proofs.page_images.chosen_images.Goals as goal
 
 pub returns-then-is_met : goal.returns-then-is_met
 returns-then-is_met c =
-    let h = c.in_ok-perform.ensures in
+    let h = c.in_ok-perform_by.ensures in
     let choice = ap (λ (s : Showing). s.choice) c.shown.view_is in
     let images = sym (ap (λ (s : Showing). s.images) c.shown.view_is) in
-    all_made _ c.perform.new.sink (has_pages h) h.handed.1 refl c.new.ensures.items images
+    all_made _ c.perform_by.new.sink (has_pages h) h.handed.1 refl c.new.ensures.items images
     (met_by c.is_met.result choice c.if-is_met.true c.is_met.ensures)
 
 pub returns-else-is_met : goal.returns-else-is_met
 returns-else-is_met c =
-    let h = c.in_ok-perform.ensures in
+    let h = c.in_ok-perform_by.ensures in
     let choice = ap (λ (s : Showing). s.choice) c.shown.view_is in
-    one_lacks _ c.perform.new.sink (has_pages h) h.handed.1 refl (unmet_by c.is_met.result choice c.if-is_met.false c.is_met.ensures)
+    one_lacks _ c.perform_by.new.sink (has_pages h) h.handed.1 refl (unmet_by c.is_met.result choice c.if-is_met.false c.is_met.ensures)
