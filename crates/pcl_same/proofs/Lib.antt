@@ -9,3 +9,4 @@ pub mod FirstAsked
 pub mod OneAnswer
 pub mod OneAskedAnswer
 pub mod DifferingDots
+pub mod ByDrivers

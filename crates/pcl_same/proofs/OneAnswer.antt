@@ -1,6 +1,6 @@
 -- Two jobs have one answer.
-use Rattle.std.proofs.Common.{◌≡◌, ◌≢◌, ℕ, zero, suc, ◌<◌, List, [], ◌∷◌, ◌++◌, length, Bool, Result, Ok, Err, refl, arith}
-use Rattle.pcl_same.proofs.Names.{Dpi, Refusal, AreAlike, AllAlike, HasPages, IsRefusal, Sheet, Comparison, Same, Difference, Size, Copies, Dot, First, Second, SameFault, Memory, Compare, IsCompared, IsFirstDot, DifferBy, DifferFirst}
+use Rattle.std.proofs.Common.{inl, inr, ◌≡◌, ◌≢◌, ℕ, zero, suc, ◌<◌, List, [], ◌∷◌, ◌++◌, length, Bool, Result, Ok, Err, refl, arith}
+use Rattle.pcl_same.proofs.Names.{Profile, Stated, Drivers, Dpi, Refusal, AreAlike, AllAlike, HasPagesBy, IsRefusalBy, Sheet, Comparison, Same, Difference, Size, Copies, Dot, First, Second, SameFault, Memory, Compare, AreReadBy, IsAnswered, IsComparedBy, IsFirstDot, DifferBy, DifferFirst}
 use Rattle.pcl_same.specs.declared.comparison.Comparison.TheVariants.{Page}
 use Rattle.pcl_same.specs.declared.fault.SameFault.TheVariants.{Refused}
 
@@ -90,23 +90,26 @@ module _ (dpi : Dpi) where
 
 -- ---- the jobs
 
--- a job has one meaning
-pub record HasOneMeaning : Type 0 where
-  pub pages : (dpi : Dpi) (job : List ℕ) (pages others : List Sheet) → HasPages dpi job pages → HasPages dpi job others → pages ≡ others
-  pub refusal : (dpi : Dpi) (job : List ℕ) (refusal other : Refusal) → IsRefusal dpi job refusal → IsRefusal dpi job other → refusal ≡ other
-  pub apart : (dpi : Dpi) (job : List ℕ) (pages : List Sheet) (refusal : Refusal) → HasPages dpi job pages → IsRefusal dpi job refusal → ⊥
+-- by a profile a job has one meaning
+pub record HasOneMeaning (profile : Profile) : Type 0 where
+  pub pages : (dpi : Dpi) (job : List ℕ) (pages others : List Sheet) → HasPagesBy profile dpi job pages → HasPagesBy profile dpi job others
+      → pages ≡ others
+  pub refusal : (dpi : Dpi) (job : List ℕ) (refusal other : Refusal) → IsRefusalBy profile dpi job refusal
+      → IsRefusalBy profile dpi job other → refusal ≡ other
+  pub apart : (dpi : Dpi) (job : List ℕ) (pages : List Sheet) (refusal : Refusal) → HasPagesBy profile dpi job pages
+      → IsRefusalBy profile dpi job refusal → ⊥
 
-module _ (one : HasOneMeaning) (dpi : Dpi) (first second : List ℕ) where
+module _ {profile : Profile} (one : HasOneMeaning profile) (dpi : Dpi) (first second : List ℕ) where
   -- both jobs are accepted
   abbrev BothAccepted : Type 0
-  BothAccepted = (pages : List Sheet) × HasPages dpi first pages × (others : List Sheet) × HasPages dpi second others
+  BothAccepted = (pages : List Sheet) × HasPagesBy profile dpi first pages × (others : List Sheet) × HasPagesBy profile dpi second others
 
   -- the second is refused
   abbrev SecondRefused : Refusal → Type 0
-  SecondRefused refusal = (pages : List Sheet) × HasPages dpi first pages × IsRefusal dpi second refusal
+  SecondRefused refusal = (pages : List Sheet) × HasPagesBy profile dpi first pages × IsRefusalBy profile dpi second refusal
 
   module _ {C : Type 0} (Is : Result C SameFault → Type 0) (both : (c : C) → Is (Ok c) → BothAccepted)
-      (refused : (r : Refusal) → Is (Err (Refused First r)) → IsRefusal dpi first r)
+      (refused : (r : Refusal) → Is (Err (Refused First r)) → IsRefusalBy profile dpi first r)
       (later : (r : Refusal) → Is (Err (Refused Second r)) → SecondRefused r)
       (same : (a b : C) → Is (Ok a) → Is (Ok b) → a ≡ b) where
     -- two answers are one, where two comparisons are
@@ -125,9 +128,38 @@ module _ (one : HasOneMeaning) (dpi : Dpi) (first second : List ℕ) where
         absurd (one.apart dpi first (later r p).0 s (later r p).1 (refused s q))
     one_result (Err (Refused Second r)) (Err (Refused Second s)) p q m n = cc (one.refusal dpi second r s (later r p).2 (later s q).2)
 
-pub same_answer : HasOneMeaning → (dpi : Dpi) (first second : List ℕ) (a b : Result Comparison SameFault)
-    → IsCompared dpi first second a → IsCompared dpi first second b → a ≢ Err Memory → b ≢ Err Memory → a ≡ b
-same_answer one dpi first second =
-    one_result one dpi first second (IsCompared dpi first second) (λ c p. (p.pages, p.meaning, p.others, p.other_meaning)) (λ r p. p)
-    (λ r p. p) (λ a b p q. one_comparison dpi p.pages p.others a b p.compare (rw (one.pages dpi first p.pages q.pages p.meaning q.meaning)
+pub same_answer_by : {profile : Profile} → HasOneMeaning profile → (dpi : Dpi) (first second : List ℕ) (a b : Result Comparison SameFault)
+    → IsComparedBy profile dpi first second a → IsComparedBy profile dpi first second b → a ≢ Err Memory → b ≢ Err Memory → a ≡ b
+same_answer_by {profile} one dpi first second =
+    one_result one dpi first second (IsComparedBy profile dpi first second) (λ c p. (p.pages, p.meaning, p.others, p.other_meaning))
+    (λ r p. p) (λ r p. p) (λ a b p q. one_comparison dpi p.pages p.others a b p.compare
+    (rw (one.pages dpi first p.pages q.pages p.meaning q.meaning)
     (rw (one.pages dpi second p.others q.others p.other_meaning q.other_meaning) q.compare)))
+
+-- ---- the profile
+
+-- two jobs are read by one profile
+module _ (one : HasOneMeaning Stated) (dpi : Dpi) (first second : List ℕ) where
+  apart_there : AreReadBy Stated dpi first second → AreReadBy Drivers dpi first second → ⊥
+  apart_there both (inl refused) = one.apart dpi first both.0.0 refused.0 both.0.1 refused.1
+  apart_there both (inr refused) = one.apart dpi second both.1.0 refused.0 both.1.1 refused.1
+
+  module _ {C : Type 0} (IsBy : Profile → Result C SameFault → Type 0)
+      (alone : (profile : Profile) (a b : Result C SameFault) → IsBy profile a → IsBy profile b → a ≢ Err Memory → b ≢ Err Memory → a ≡ b)
+    where
+      by_one : (profile other : Profile) (a b : Result C SameFault) → AreReadBy profile dpi first second → AreReadBy other dpi first second
+          → IsBy profile a → IsBy other b → a ≢ Err Memory → b ≢ Err Memory → a ≡ b
+      by_one Stated Stated a b r s p q m n = alone Stated a b p q m n
+      by_one Drivers Drivers a b r s p q m n = alone Drivers a b p q m n
+      by_one Stated Drivers a b r s p q m n = absurd (apart_there r s)
+      by_one Drivers Stated a b r s p q m n = absurd (apart_there s r)
+
+      pub one_told : (a b : Result C SameFault) → IsAnswered IsBy dpi first second a → IsAnswered IsBy dpi first second b
+          → a ≢ Err Memory → b ≢ Err Memory → a ≡ b
+      one_told (Err Memory) b p q m n = absurd (m refl)
+      one_told a (Err Memory) p q m n = absurd (n refl)
+      one_told (Ok a) (Ok b) p q m n = by_one p.0 q.0 (Ok a) (Ok b) p.1 q.1 p.2 q.2 m n
+      one_told (Ok a) (Err (Refused other s)) p q m n = by_one p.0 Drivers (Ok a) (Err (Refused other s)) p.1 q.0 p.2 q.1 m n
+      one_told (Err (Refused which r)) (Ok b) p q m n = by_one Drivers q.0 (Err (Refused which r)) (Ok b) p.0 q.1 p.1 q.2 m n
+      one_told (Err (Refused which r)) (Err (Refused other s)) p q m n =
+          by_one Drivers Drivers (Err (Refused which r)) (Err (Refused other s)) p.0 q.0 p.1 q.1 m n

@@ -1,6 +1,6 @@
 -- Two jobs have one answer, what they ask of the printer with it.
 use Rattle.std.proofs.Common.{◌≡◌, ◌≢◌, ℕ, List, [], ◌∷◌, ◌++◌, length, Result, Err, refl, sym, ap, ◌∙◌, arith}
-use Rattle.pcl_same.proofs.Names.{append_cancel_left, Dpi, AskedPage, Asks, HasAsks, AskedComparison, AskedDifference, AsksDifference, ExitCount, Exit, Lasting, ExitDifference, Setting, SettingDifference, SameFault, Memory, Compare, of_pages, CompareAsks, IsAskedComparison, IsComparedAsked, DifferAt, setting_of, order_of, IsFirstSetting, IsAskedBy, ExitsDifferBy, AsksDifferBy}
+use Rattle.pcl_same.proofs.Names.{Profile, append_cancel_left, Dpi, AskedPage, Asks, HasAsksBy, AskedComparison, AskedDifference, AsksDifference, ExitCount, Exit, Lasting, ExitDifference, Setting, SettingDifference, SameFault, Memory, Compare, of_pages, CompareAsks, IsAskedComparisonBy, IsComparedAskedBy, DifferAt, setting_of, order_of, IsFirstSetting, IsAskedBy, ExitsDifferBy, AsksDifferBy}
 use Rattle.pcl_page.specs.Asks.{Exit as UniversalExit}
 use Rattle.pcl_same.specs.declared.comparison.AskedComparison.TheVariants as asked
 use Rattle.pcl_same.specs.declared.comparison.AsksDifference.TheVariants.{Page}
@@ -98,12 +98,13 @@ module _ (asks others : Asks) where
 
 -- ---- the answer
 
--- a job asks for one thing
-abbrev pub OneAsks : Type 0
-OneAsks = (dpi : Dpi) (job : List ℕ) (asks others : Asks) → HasAsks dpi job asks → HasAsks dpi job others → asks ≡ others
+-- by a profile a job asks for one thing
+abbrev pub OneAsks : Profile → Type 0
+OneAsks profile = (dpi : Dpi) (job : List ℕ) (asks others : Asks) → HasAsksBy profile dpi job asks → HasAsksBy profile dpi job others
+    → asks ≡ others
 
-same_asked : HasOneMeaning → OneAsks → {dpi : Dpi} {first second : List ℕ} (a b : AskedComparison)
-    → IsAskedComparison dpi first second a → IsAskedComparison dpi first second b → a ≡ b
+same_asked : {profile : Profile} → HasOneMeaning profile → OneAsks profile → {dpi : Dpi} {first second : List ℕ} (a b : AskedComparison)
+    → IsAskedComparisonBy profile dpi first second a → IsAskedComparisonBy profile dpi first second b → a ≡ b
 same_asked one one_asks {dpi} {first} {second} a b p q =
     let same = one.pages dpi second p.others q.others p.other_meaning q.other_meaning in
     let compare : Compare dpi p.pages p.others (of_pages b) =
@@ -113,8 +114,9 @@ same_asked one one_asks {dpi} {first} {second} a b p q =
     one_asked p.asks p.other_asks a b (one_comparison dpi p.pages p.others (of_pages a) (of_pages b) p.compare compare) p.compare_asks
     compare_asks
 
-pub same_asked_answer : HasOneMeaning → OneAsks → (dpi : Dpi) (first second : List ℕ) (a b : Result AskedComparison SameFault)
-    → IsComparedAsked dpi first second a → IsComparedAsked dpi first second b → a ≢ Err Memory → b ≢ Err Memory → a ≡ b
-same_asked_answer one one_asks dpi first second =
-    one_result one dpi first second (IsComparedAsked dpi first second) (λ c p. (p.pages, p.meaning, p.others, p.other_meaning))
+pub same_asked_answer_by : {profile : Profile} → HasOneMeaning profile → OneAsks profile → (dpi : Dpi) (first second : List ℕ)
+    (a b : Result AskedComparison SameFault) → IsComparedAskedBy profile dpi first second a → IsComparedAskedBy profile dpi first second b
+    → a ≢ Err Memory → b ≢ Err Memory → a ≡ b
+same_asked_answer_by {profile} one one_asks dpi first second =
+    one_result one dpi first second (IsComparedAskedBy profile dpi first second) (λ c p. (p.pages, p.meaning, p.others, p.other_meaning))
     (λ r p. p) (λ r p. p) (same_asked one one_asks)

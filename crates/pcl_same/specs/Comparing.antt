@@ -1,12 +1,15 @@
 -- What is found of two jobs.
-use Rattle.std.specs.Prelude.{◌≡◌, ◌≢◌, ℕ, List, length, Result, Ok, Err}
+use Rattle.std.specs.Prelude.{◌≡◌, ◌≢◌, ◌⊎◌, ℕ, List, length, Result, Ok, Err}
 use Rattle.pcl_base.specs.declared.dpi.Dpi.{Dpi}
 use Rattle.pcl_base.specs.declared.fault.JobFault.{JobFault}
 use Rattle.pcl_base.specs.declared.fault.JobFault.TheVariants as job
+use Rattle.pcl_base.specs.declared.profile.Profile.{Profile}
+use Rattle.pcl_base.specs.declared.profile.Profile.TheVariants.{Stated, Drivers}
 use Rattle.pcl_page.specs.Asks.{Asks}
 use Rattle.pcl_page.specs.Situation.{Sheet}
-use Rattle.pcl_page.specs.Jobs.{HasPages, HasAsks}
-use Rattle.pcl_page.specs.Delivering.{IsRefusal}
+use Rattle.pcl_page.specs.Jobs.{HasPagesBy, HasAsksBy}
+use Rattle.pcl_page.specs.Delivering.{IsRefusalBy}
+use Rattle.pcl_page.specs.Accepting.{IsAccepted, IsRefused}
 use Rattle.pcl_page.specs.Alike.{AllAlike}
 use Rattle.pcl_same.specs.declared.comparison.AskedComparison.{AskedComparison}
 use Rattle.pcl_same.specs.declared.comparison.AskedComparison.TheVariants as asked
@@ -28,21 +31,43 @@ Compare dpi pages others (PageCount count other_count) =
 Compare dpi pages others (Page number difference) =
     (length pages ≡ length others) × DifferFirst dpi pages others number difference
 
--- both jobs are accepted, and their pages compare so
-pub record IsComparison (dpi : Dpi) (first second : List ℕ) (comparison : Comparison) : Type 0 where
+-- ---- by which profile
+
+-- two jobs are read by the stated profile where that accepts both, else by the drivers'
+abbrev pub AreReadBy : Profile → Dpi → (first second : List ℕ) → Type 0
+AreReadBy Stated dpi first second = IsAccepted Stated dpi first × IsAccepted Stated dpi second
+AreReadBy Drivers dpi first second = IsRefused Stated dpi first ⊎ IsRefused Stated dpi second
+
+-- what is answered by a profile, of the one by which two jobs are read
+abbrev pub IsAnswered : {C : Type 0} → (Profile → Result C SameFault → Type 0) → Dpi → (first second : List ℕ) → Result C SameFault → Type 0
+IsAnswered IsBy dpi first second (Ok comparison) = (profile : Profile) × AreReadBy profile dpi first second × IsBy profile (Ok comparison)
+IsAnswered IsBy dpi first second (Err (Refused which refusal)) =
+    AreReadBy Drivers dpi first second × IsBy Drivers (Err (Refused which refusal))
+IsAnswered IsBy dpi first second (Err Memory) = Unit {0}
+
+-- ---- pages
+
+-- a profile accepts both jobs, and their pages compare so
+pub record IsComparisonBy (profile : Profile) (dpi : Dpi) (first second : List ℕ) (comparison : Comparison) : Type 0 where
   pub pages : List Sheet
-  pub meaning : HasPages dpi first pages
+  pub meaning : HasPagesBy profile dpi first pages
   pub others : List Sheet
-  pub other_meaning : HasPages dpi second others
+  pub other_meaning : HasPagesBy profile dpi second others
   pub compare : Compare dpi pages others comparison
 
 -- a job that is refused, the first before the second; no fault comes but this and out of memory
+abbrev pub IsComparedBy : Profile → Dpi → List ℕ → List ℕ → Result Comparison SameFault → Type 0
+IsComparedBy profile dpi first second (Ok comparison) = IsComparisonBy profile dpi first second comparison
+IsComparedBy profile dpi first second (Err (Refused First refusal)) = IsRefusalBy profile dpi first refusal
+IsComparedBy profile dpi first second (Err (Refused Second refusal)) =
+    (pages : List Sheet) × HasPagesBy profile dpi first pages × IsRefusalBy profile dpi second refusal
+IsComparedBy profile dpi first second (Err Memory) = Unit {0}
+
 abbrev pub IsCompared : Dpi → List ℕ → List ℕ → Result Comparison SameFault → Type 0
-IsCompared dpi first second (Ok comparison) = IsComparison dpi first second comparison
-IsCompared dpi first second (Err (Refused First refusal)) = IsRefusal dpi first refusal
-IsCompared dpi first second (Err (Refused Second refusal)) =
-    (pages : List Sheet) × HasPages dpi first pages × IsRefusal dpi second refusal
-IsCompared dpi first second (Err Memory) = Unit {0}
+IsCompared dpi first second answer = IsAnswered (λ profile it. IsComparedBy profile dpi first second it) dpi first second answer
+
+abbrev pub IsComparison : Dpi → List ℕ → List ℕ → Comparison → Type 0
+IsComparison dpi first second comparison = IsCompared dpi first second (Ok comparison)
 
 -- ---- with what is asked
 
@@ -59,26 +84,29 @@ CompareAsks asks others asked.Same = asks ≡ others
 CompareAsks asks others (asked.Pages difference) = Unit {0}
 CompareAsks asks others (asked.Asks difference) = AsksDifferBy asks others difference
 
--- both jobs are accepted; their pages compare so, and where these are the same, so does what they ask of the printer
-pub record IsAskedComparison (dpi : Dpi) (first second : List ℕ) (comparison : AskedComparison) : Type 0 where
+-- a profile accepts both jobs; their pages compare so, and where these are the same, so does what they ask of the printer
+pub record IsAskedComparisonBy (profile : Profile) (dpi : Dpi) (first second : List ℕ) (comparison : AskedComparison) : Type 0 where
   pub pages : List Sheet
-  pub meaning : HasPages dpi first pages
+  pub meaning : HasPagesBy profile dpi first pages
   pub asks : Asks
-  pub asked : HasAsks dpi first asks
+  pub asked : HasAsksBy profile dpi first asks
   pub others : List Sheet
-  pub other_meaning : HasPages dpi second others
+  pub other_meaning : HasPagesBy profile dpi second others
   pub other_asks : Asks
-  pub other_asked : HasAsks dpi second other_asks
+  pub other_asked : HasAsksBy profile dpi second other_asks
   pub compare : Compare dpi pages others (of_pages comparison)
   pub compare_asks : CompareAsks asks other_asks comparison
 
 -- refusals as above
+abbrev pub IsComparedAskedBy : Profile → Dpi → List ℕ → List ℕ → Result AskedComparison SameFault → Type 0
+IsComparedAskedBy profile dpi first second (Ok comparison) = IsAskedComparisonBy profile dpi first second comparison
+IsComparedAskedBy profile dpi first second (Err fault) = IsComparedBy profile dpi first second (Err fault)
+
 abbrev pub IsComparedAsked : Dpi → List ℕ → List ℕ → Result AskedComparison SameFault → Type 0
-IsComparedAsked dpi first second (Ok comparison) = IsAskedComparison dpi first second comparison
-IsComparedAsked dpi first second (Err (Refused First refusal)) = IsRefusal dpi first refusal
-IsComparedAsked dpi first second (Err (Refused Second refusal)) =
-    (pages : List Sheet) × HasPages dpi first pages × IsRefusal dpi second refusal
-IsComparedAsked dpi first second (Err Memory) = Unit {0}
+IsComparedAsked dpi first second answer = IsAnswered (λ profile it. IsComparedAskedBy profile dpi first second it) dpi first second answer
+
+abbrev pub IsAskedComparison : Dpi → List ℕ → List ℕ → AskedComparison → Type 0
+IsAskedComparison dpi first second comparison = IsComparedAsked dpi first second (Ok comparison)
 
 -- ---- faults
 

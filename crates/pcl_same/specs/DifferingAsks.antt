@@ -10,7 +10,7 @@ use Rattle.pcl_same.specs.declared.comparison.AsksDifference.TheVariants.{Page, 
 use Rattle.pcl_same.specs.declared.comparison.ExitDifference.{ExitDifference}
 use Rattle.pcl_same.specs.declared.comparison.ExitDifference.TheVariants.{Place, Lines}
 use Rattle.pcl_same.specs.declared.comparison.Setting.{Setting}
-use Rattle.pcl_same.specs.declared.comparison.Setting.TheVariants.{Copies, PageSize, PageLength, Sides, OutputBin, MediaType, PaperSource, SheetSide}
+use Rattle.pcl_same.specs.declared.comparison.Setting.TheVariants.{Copies, PageSize, PageLength, Sides, OutputBin, MediaType, PaperSource, LeftOffset, TopOffset, SheetSide}
 use Rattle.pcl_same.specs.declared.comparison.SettingDifference.{SettingDifference}
 
 -- what has this number in two lists, counted from 1, differs so, and what is before it is the same
@@ -36,6 +36,8 @@ setting_of Sides page = page.said.sides
 setting_of OutputBin page = page.said.output_bin
 setting_of MediaType page = page.said.media_type
 setting_of PaperSource page = page.said.paper_source
+setting_of LeftOffset page = page.said.left_offset
+setting_of TopOffset page = page.said.top_offset
 setting_of SheetSide page = page.start.sheet_side
 
 -- the order in which settings are compared
@@ -47,7 +49,9 @@ order_of Sides = 3
 order_of OutputBin = 4
 order_of MediaType = 5
 order_of PaperSource = 6
-order_of SheetSide = 7
+order_of LeftOffset = 7
+order_of TopOffset = 8
+order_of SheetSide = 9
 
 abbrev pub HaveSameSettings : AskedPage → AskedPage → Type 0
 HaveSameSettings one other = (setting : Setting) → setting_of setting one ≡ setting_of setting other

@@ -61,6 +61,8 @@ fn setting_difference(one: &AskedPage, other: &AskedPage) -> Option<SettingDiffe
         .or(differing(Setting::OutputBin, said.output_bin, others.output_bin))
         .or(differing(Setting::MediaType, said.media_type, others.media_type))
         .or(differing(Setting::PaperSource, said.paper_source, others.paper_source))
+        .or(differing(Setting::LeftOffset, said.left_offset, others.left_offset))
+        .or(differing(Setting::TopOffset, said.top_offset, others.top_offset))
         .or(differing(
             Setting::SheetSide,
             one.start.sheet_side,

@@ -9,28 +9,29 @@ ghost use Rattle.pcl_same.specs.inner.Pages.{IsFound, IsConcluded, comparison_of
 use crate::asking::asks_difference;
 use crate::keeping::{KeptJob, KeptPage};
 use crate::{AskedComparison, Difference, PagesDifference};
-use pcl_base::{Dpi, JobFault};
+use pcl_base::{Dpi, JobFault, Profile};
 use pcl_page::{Asks, Page, PageSink, one_meaning, perform_asked};
 use std::alloc::{AllocError, Global};
 use std::marker::Model;
 
-/// How a job compares with one that is kept, at the resolution at which that was performed: in its pages, as by
+/// How a job compares with one that is kept, by the profile and at the resolution by which that was performed: in its pages, as by
 /// `same`, and where these are the same, in what it asks of the printer. A refusal is that of the job. One page at a
 /// time is held as dots.
 pub fn compare_kept(
     alloc: Global,
     kept: &KeptJob<'_>,
     job: &[u8],
+    profile: Profile,
     dpi: Dpi,
 ) -> Result<AskedComparison, JobFault>
-    ensures { (first : List ℕ) → IsKept dpi first kept.now → IsComparedBeside dpi first job.now result }
+    ensures { (first : List ℕ) → IsKept profile dpi first kept.now → IsComparedBeside profile dpi first job.now result }
 {
     one_meaning();
     let mut comparer = Comparer {
         kept: &kept.pages,
         found: Vec::new(alloc),
     };
-    let asks = perform_asked(alloc, job, dpi, &mut comparer)?;
+    let asks = perform_asked(alloc, job, profile, dpi, &mut comparer)?;
     let pages = pages_difference(kept.pages.len(), &comparer.found);
     Ok(conclude(pages, &kept.asks, &asks))
 }

@@ -136,6 +136,10 @@ pub enum Setting {
     MediaType,
     /// Where the paper comes from, `&lH`.
     PaperSource,
+    /// How far the page is moved to the right on its sheet, `&lU`, in ten-thousandths of a decipoint.
+    LeftOffset,
+    /// How far it is moved down, `&lZ`, in the same.
+    TopOffset,
     /// The front or the back of a sheet, `&aG`.
     SheetSide,
 }

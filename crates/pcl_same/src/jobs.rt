@@ -1,16 +1,18 @@
 //! Two jobs, compared.
 
-ghost use Rattle.pcl_same.specs.Comparing.{IsCompared, IsComparedAsked};
+ghost use Rattle.std.specs.Prelude.{IfOk};
+ghost use Rattle.pcl_same.specs.Comparing.{AreReadBy, IsCompared, IsComparedAsked, IsComparedAskedBy};
 
 use crate::comparing::compare_kept;
 use crate::keeping::keep_job;
 use crate::{AskedComparison, Comparison, Job, SameFault};
-use pcl_base::Dpi;
-use std::alloc::Global;
+use pcl_base::{Dpi, Profile};
+use pcl_page::is_accepted;
+use std::alloc::{AllocError, Global};
 
 /// Whether two jobs print the same pages at a resolution, and where not: a different number of pages is reported
-/// first, else the first page that differs, and how. A refusal is the first job's, else the second's. While it runs
-/// one page is held as dots, and the first job's pages as row data.
+/// first, else the first page that differs, and how. They are read by the stated profile where that accepts both, else by the drivers'.
+/// A refusal is the first job's, else the second's. While it runs one page is held as dots, and the first job's pages as row data.
 pub fn same(alloc: Global, first: &[u8], second: &[u8], dpi: Dpi) -> Result<Comparison, SameFault>
     ensures { IsCompared dpi first.now second.now result }
 {
@@ -22,7 +24,8 @@ pub fn same(alloc: Global, first: &[u8], second: &[u8], dpi: Dpi) -> Result<Comp
 
 /// Whether two jobs print the same pages at a resolution and ask the same of the printer besides dots, and where not: how the pages
 /// differ is reported first, as by `same`, else the first page that is asked with another value of a setting, else a different
-/// number of universal exits, else the first of these that differs, and how. Refusals and what is held are those of `same`.
+/// number of universal exits, else the first of these that differs, and how. By which profile they are read, refusals, and what is held
+/// are those of `same`.
 pub fn same_asked(
     alloc: Global,
     first: &[u8],
@@ -31,12 +34,42 @@ pub fn same_asked(
 ) -> Result<AskedComparison, SameFault>
     ensures { IsComparedAsked dpi first.now second.now result }
 {
-    let kept = match keep_job(alloc, first, dpi) {
+    match same_by(alloc, first, second, Profile::Stated, dpi) {
+        Err(SameFault::Refused { .. }) => same_by(alloc, first, second, Profile::Drivers, dpi),
+        answer => answer,
+    }
+}
+
+/// The same by a profile.
+fn same_by(
+    alloc: Global,
+    first: &[u8],
+    second: &[u8],
+    profile: Profile,
+    dpi: Dpi,
+) -> Result<AskedComparison, SameFault>
+    ensures { IsComparedAskedBy profile dpi first.now second.now result }
+{
+    let kept = match keep_job(alloc, first, profile, dpi) {
         Ok(kept) => kept,
         Err(fault) => return Err(SameFault::of(Job::First, fault)),
     };
-    match compare_kept(alloc, &kept, second, dpi) {
+    match compare_kept(alloc, &kept, second, profile, dpi) {
         Ok(comparison) => Ok(comparison),
         Err(fault) => Err(SameFault::of(Job::Second, fault)),
+    }
+}
+
+/// By which profile two jobs are read: the stated one where that accepts both, else the drivers'.
+pub fn read_by(alloc: Global, first: &[u8], second: &[u8], dpi: Dpi) -> Result<Profile, AllocError>
+    ensures { IfOk result (λ profile. AreReadBy profile dpi first.now second.now) }
+{
+    if !is_accepted(alloc, first, Profile::Stated, dpi)? {
+        return Ok(Profile::Drivers);
+    }
+    if is_accepted(alloc, second, Profile::Stated, dpi)? {
+        Ok(Profile::Stated)
+    } else {
+        Ok(Profile::Drivers)
     }
 }

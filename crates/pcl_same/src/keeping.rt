@@ -3,7 +3,7 @@
 ghost use Rattle.pcl_same.specs.Keeping.{KeepsJob};
 
 use crate::kept_bitmap::KeptBitmap;
-use pcl_base::{Dpi, JobFault};
+use pcl_base::{Dpi, JobFault, Profile};
 use pcl_page::{Asks, Page, PageSink, perform_asked};
 use std::alloc::{AllocError, Global};
 use std::marker::Model;
@@ -50,14 +50,19 @@ impl KeptPage {
     }
 }
 
-/// Performs a job, and keeps its pages and what it asks of the printer. One page at a time is held as dots.
-pub fn keep_job<'a>(alloc: Global, job: &'a [u8], dpi: Dpi) -> Result<KeptJob<'a>, JobFault>
-    ensures { KeepsJob dpi job.now result }
+/// Performs a job by a profile, and keeps its pages and what it asks of the printer. One page at a time is held as dots.
+pub fn keep_job<'a>(
+    alloc: Global,
+    job: &'a [u8],
+    profile: Profile,
+    dpi: Dpi,
+) -> Result<KeptJob<'a>, JobFault>
+    ensures { KeepsJob profile dpi job.now result }
 {
     let mut keeper = Keeper {
         pages: Vec::new(alloc),
     };
-    let asks = perform_asked(alloc, job, dpi, &mut keeper)?;
+    let asks = perform_asked(alloc, job, profile, dpi, &mut keeper)?;
     let pages = keeper.pages;
     Ok(KeptJob { pages, asks })
 }

@@ -24,6 +24,6 @@ pub use comparison::{
 };
 pub use fault::{Job, SameFault};
 pub use images::differing_dots;
-pub use jobs::{same, same_asked};
+pub use jobs::{read_by, same, same_asked};
 pub use keeping::{KeptJob, keep_job};
 pub use laws::{one_answer, one_asked_answer};

@@ -1,9 +1,23 @@
-use Rattle.pcl_same.proofs.OneAskedAnswer.{same_asked_answer}
+use Rattle.std.proofs.Common.{List, ℕ}
+use Rattle.pcl_same.proofs.Names.{Profile, Stated, Dpi, IsComparedAskedBy}
+use Rattle.pcl_same.proofs.OneAnswer.{HasOneMeaning, one_told}
+use Rattle.pcl_same.proofs.OneAskedAnswer.{same_asked_answer_by}
 use Rattle.pcl_same.proofs.laws.one_asked_answer.Goals as goal
 
-pub returns : goal.returns
-returns c = same_asked_answer (record {
-  pages = c.one_meaning.ensures.pages;
-  refusal = c.one_meaning.ensures.refusal;
-  apart = c.one_meaning.ensures.apart;
-}) c.one_meaning.ensures.asks
+pub returns-clause-by : goal.returns-clause-by
+returns-clause-by c = λ profile.
+    same_asked_answer_by (record {
+      pages = c.one_meaning.ensures.pages profile;
+      refusal = c.one_meaning.ensures.refusal profile;
+      apart = c.one_meaning.ensures.apart profile;
+    }) (c.one_meaning.ensures.asks profile)
+
+pub returns-clause-answer : goal.returns-clause-answer
+returns-clause-answer c = λ dpi first second.
+    let one : (profile : Profile) → HasOneMeaning profile = λ profile. record {
+      pages = c.one_meaning.ensures.pages profile;
+      refusal = c.one_meaning.ensures.refusal profile;
+      apart = c.one_meaning.ensures.apart profile;
+    } in
+    one_told (one Stated) dpi first second (λ profile it. IsComparedAskedBy profile dpi first second it)
+    (λ profile. same_asked_answer_by (one profile) (c.one_meaning.ensures.asks profile) dpi first second)
