@@ -24,6 +24,8 @@ record AsksLittle (page : AskedPage) : Type 0 where
   bin : page.said.output_bin ≡ None
   media : page.said.media_type ≡ None
   source : page.said.paper_source ≡ None
+  left : page.said.left_offset ≡ None
+  top : page.said.top_offset ≡ None
   side : page.start.sheet_side ≡ None
   later : page.start.is_first ≡ false
 
@@ -32,8 +34,8 @@ abbrev said_later : List Sheet → ℕ → AskedPage
 said_later sheets k = get_or (map (page_said next_page) sheets) k plain_page
 
 little_later : (sheets : List Sheet) (k : ℕ) → AsksLittle (said_later sheets k)
-little_later [] k = record { sides = refl; bin = refl; media = refl; source = refl; side = refl; later = refl }
-little_later (sheet ∷ sheets) zero = record { sides = refl; bin = refl; media = refl; source = refl; side = refl; later = refl }
+little_later [] k = record { sides = refl; bin = refl; media = refl; source = refl; left = refl; top = refl; side = refl; later = refl }
+little_later (sheet ∷ sheets) zero = record { sides = refl; bin = refl; media = refl; source = refl; left = refl; top = refl; side = refl; later = refl }
 little_later (sheet ∷ sheets) (suc k) = little_later sheets k
 
 usual_later : (sheets : List Sheet) (k : ℕ) → k < length sheets → is_usual (said_later sheets k).said ≡ true
@@ -45,7 +47,7 @@ no_start : (first : Sheet) (sheets : List Sheet) (k : ℕ) → page_start (said_
 no_start first sheets k =
     let l = little_later sheets k in
     let number : (suc k == 0) ≡ false = grind (arith, nat_tests) in
-    rw (l.later, l.sides, l.bin, l.media, l.source, l.side, number) refl
+    rw (l.later, l.sides, l.bin, l.media, l.source, l.left, l.top, l.side, number) refl
 
 later_texts : (first : Sheet) (sheets : List Sheet) (texts : List (List ℕ)) (k : ℕ) → k + length texts ≡ length sheets
     → asked_pages (said_for (first ∷ sheets)) (suc k) texts ≡ joined texts

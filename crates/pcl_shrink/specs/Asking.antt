@@ -4,6 +4,7 @@ use Rattle.std.specs.Option.{option_map}
 use Rattle.std.specs.Fmt.{signed_decimal}
 use Rattle.std.specs.Ordering.{int_eq}
 use Rattle.pcl_env.specs.declared.asked.Asked.{Asked}
+use Rattle.pcl_env.specs.Offset.{offset_text}
 use Rattle.pcl_env.specs.Settings.{nothing_asked}
 use Rattle.pcl_page.specs.declared.asks.AskedPage.{AskedPage}
 use Rattle.pcl_page.specs.Asks.{Asks, Exit, next_page}
@@ -33,13 +34,22 @@ value_text start letter old None = []
 value_text start letter None (Some value) = start ++ signed_decimal value ++ letter
 value_text start letter (Some before) (Some value) = if int_eq before value then [] else start ++ signed_decimal value ++ letter
 
--- what asks for sides, bins, media and sources where others are asked for already
+-- a command with an offset, where that is another than before
+abbrev pub offset_command : List ℕ → Option ℤ → Option ℤ → List ℕ
+offset_command letter old None = []
+offset_command letter None (Some offset) = 27 ∷ codes "&l" ++ offset_text offset ++ letter
+offset_command letter (Some before) (Some offset) =
+    if int_eq before offset then [] else 27 ∷ codes "&l" ++ offset_text offset ++ letter
+
+-- what asks for sides, bins, media, sources and offsets where others are asked for already
 abbrev pub asked_text : Asked → Asked → List ℕ
 asked_text old new =
     value_text (27 ∷ codes "&l") (codes "S") old.sides new.sides
     ++ value_text (27 ∷ codes "&l") (codes "G") old.output_bin new.output_bin
     ++ value_text (27 ∷ codes "&l") (codes "M") old.media_type new.media_type
     ++ value_text (27 ∷ codes "&l") (codes "H") old.paper_source new.paper_source
+    ++ offset_command (codes "U") old.left_offset new.left_offset
+    ++ offset_command (codes "Z") old.top_offset new.top_offset
 
 -- the side of the sheet that the next page is asked for
 abbrev pub side_text : Option ℤ → List ℕ

@@ -4,12 +4,13 @@ use Rattle.std.specs.Global.{Vec}
 use Rattle.pcl_base.specs.declared.dpi.Dpi.{Dpi}
 use Rattle.pcl_base.specs.declared.fault.JobFault.{JobFault}
 use Rattle.pcl_base.specs.declared.fault.JobFault.TheVariants.{Refused, Memory}
+use Rattle.pcl_base.specs.declared.profile.Profile.{Profile}
 use Rattle.pcl_bitmap.specs.declared.page.Page.{Page}
 use Rattle.pcl_page.specs.Situation.{Sheet}
 use Rattle.pcl_page.specs.Performing.{Shows}
 use Rattle.pcl_page.specs.Asks.{asks_of}
-use Rattle.pcl_page.specs.Jobs.{HasPages, HasAsks}
-use Rattle.pcl_page.specs.Delivering.{IsRefusal}
+use Rattle.pcl_page.specs.Jobs.{HasPagesBy, HasAsksBy}
+use Rattle.pcl_page.specs.Delivering.{IsRefusalBy}
 use Rattle.pcl_writer.specs.Appending.{IsWrittenPage}
 use Rattle.pcl_shrink.specs.declared.rasters.Text.{Text}
 use Rattle.pcl_shrink.specs.declared.texts.Found.{Found}
@@ -32,16 +33,16 @@ abbrev pub TakesText : List (List ℕ) → Page → List (List ℕ) → Type 0
 TakesText old page new = (text : List ℕ) × (new ≡ old ++ text ∷ []) × IsWrittenPage page text
 
 -- the job is accepted, and these are its pages' texts
-abbrev pub AreTextsOf : Dpi → List ℕ → List (List ℕ) → Type 0
-AreTextsOf dpi job texts = (pages : List Sheet) × HasPages dpi job pages × AreLeastTexts dpi pages texts
+abbrev pub AreTextsOf : Profile → Dpi → List ℕ → List (List ℕ) → Type 0
+AreTextsOf profile dpi job texts = (pages : List Sheet) × HasPagesBy profile dpi job pages × AreLeastTexts dpi pages texts
 
-abbrev pub HasTextsAlone : Dpi → List ℕ → Result (Vec Text) JobFault → Type 0
-HasTextsAlone dpi job (Ok texts) = AreTextsOf dpi job (least_of texts.items)
-HasTextsAlone dpi job (Err (Refused refusal)) = IsRefusal dpi job refusal
-HasTextsAlone dpi job (Err Memory) = Unit {0}
+abbrev pub HasTextsAlone : Profile → Dpi → List ℕ → Result (Vec Text) JobFault → Type 0
+HasTextsAlone profile dpi job (Ok texts) = AreTextsOf profile dpi job (least_of texts.items)
+HasTextsAlone profile dpi job (Err (Refused refusal)) = IsRefusalBy profile dpi job refusal
+HasTextsAlone profile dpi job (Err Memory) = Unit {0}
 
 -- these, and what the job asks for
-abbrev pub HasTexts : Dpi → List ℕ → Result (Vec Text × Found) JobFault → Type 0
-HasTexts dpi job (Ok found) = AreTextsOf dpi job (least_of found.0.items) × HasAsks dpi job (asks_of found.1.asks)
-HasTexts dpi job (Err (Refused refusal)) = IsRefusal dpi job refusal
-HasTexts dpi job (Err Memory) = Unit {0}
+abbrev pub HasTexts : Profile → Dpi → List ℕ → Result (Vec Text × Found) JobFault → Type 0
+HasTexts profile dpi job (Ok found) = AreTextsOf profile dpi job (least_of found.0.items) × HasAsksBy profile dpi job (asks_of found.1.asks)
+HasTexts profile dpi job (Err (Refused refusal)) = IsRefusalBy profile dpi job refusal
+HasTexts profile dpi job (Err Memory) = Unit {0}

@@ -1,9 +1,10 @@
 //! What a job asks of the printer, written again.
 
-ghost use Rattle.std.specs.Prelude.{◌≡◌, ◌++◌, ◌-◌, [], drop, OnOk, IfOk, if◌then◌else◌};
+ghost use Rattle.std.specs.Prelude.{◌≡◌, ◌++◌, ◌∷◌, ◌-◌, [], codes, drop, OnOk, IfOk, if◌then◌else◌};
 ghost use Rattle.pcl_output.specs.Tokens.{frame_bytes};
 ghost use Rattle.std.specs.Option.{option_map};
 ghost use Rattle.std.specs.Fmt.{signed_decimal};
+ghost use Rattle.pcl_env.specs.Offset.{offset_text};
 ghost use Rattle.pcl_env.specs.Settings.{nothing_asked};
 ghost use Rattle.pcl_page.specs.Asks.{asks_of, exit_of};
 ghost use Rattle.pcl_shrink.specs.Asking.{
@@ -11,6 +12,7 @@ ghost use Rattle.pcl_shrink.specs.Asking.{
   exits_after,
   is_exit_after,
   value_text,
+  offset_command,
   asked_text,
   parameter_text,
   lines_of,
@@ -25,7 +27,7 @@ ghost use Rattle.pcl_shrink.specs.Asking.{
 };
 
 use itoa::Buffer;
-use pcl_env::Asked;
+use pcl_env::{Asked, append_offset};
 use pcl_page::{AskedPage, Asks, Exit, PageStart};
 use std::alloc::AllocError;
 
@@ -128,14 +130,16 @@ fn append_reset(is_wanted: bool, out: &mut Vec<u8>) -> Result<(), AllocError>
     Ok(())
 }
 
-/// Appends what asks for sides, bins, media and sources, as far as they aren't asked for already.
+/// Appends what asks for sides, bins, media, sources and offsets, as far as they aren't asked for already.
 fn append_asked(old: Asked, new: Asked, out: &mut Vec<u8>) -> Result<(), AllocError>
     ensures { OnOk result (out.new.items ≡ out.old.items ++ asked_text old new) }
 {
     append_value(b"\x1b&l", old.sides, new.sides, b"S", out)?;
     append_value(b"\x1b&l", old.output_bin, new.output_bin, b"G", out)?;
     append_value(b"\x1b&l", old.media_type, new.media_type, b"M", out)?;
-    append_value(b"\x1b&l", old.paper_source, new.paper_source, b"H", out)
+    append_value(b"\x1b&l", old.paper_source, new.paper_source, b"H", out)?;
+    append_new_offset(old.left_offset, new.left_offset, b"U", out)?;
+    append_new_offset(old.top_offset, new.top_offset, b"Z", out)
 }
 
 /// Appends a command with a value, where that is another than before.
@@ -158,6 +162,36 @@ fn append_value(
             append_command(start, value, letter, out)
         }
     }
+}
+
+/// Appends a command with an offset, where that is another than before.
+fn append_new_offset(
+    old: Option<i64>,
+    new: Option<i64>,
+    letter: &[u8],
+    out: &mut Vec<u8>,
+) -> Result<(), AllocError>
+    ensures { OnOk result (out.new.items ≡ out.old.items ++ offset_command letter.now old new) }
+{
+    match (old, new) {
+        (_, None) => Ok(()),
+        (None, Some(offset)) => append_offset_command(offset, letter, out),
+        (Some(before), Some(offset)) => {
+            if before == offset {
+                return Ok(());
+            }
+            append_offset_command(offset, letter, out)
+        }
+    }
+}
+
+/// Appends a command with an offset.
+fn append_offset_command(offset: i64, letter: &[u8], out: &mut Vec<u8>) -> Result<(), AllocError>
+    ensures { OnOk result (out.new.items ≡ out.old.items ++ (27 ∷ codes "&l" ++ offset_text offset ++ letter.now)) }
+{
+    out.extend_from_slice(b"\x1b&l")?;
+    append_offset(offset, out)?;
+    out.extend_from_slice(letter)
 }
 
 /// Appends a command with a value.

@@ -4,9 +4,9 @@ ghost use Rattle.pcl_shrink.specs.Outcome.{IsOutcome};
 
 use crate::asking::{append_end, append_page_start, append_page_text};
 use crate::shifts::{Shift, shift_at};
-use pcl_base::{Dpi, JobFault};
+use pcl_base::{Dpi, JobFault, Profile};
 use pcl_lettering::{END_RASTER, Lettering, PageWriter};
-use pcl_page::{Asks, Page, PageSink, perform};
+use pcl_page::{Asks, Page, PageSink, perform_by};
 use std::alloc::{AllocError, Global};
 use std::marker::Model;
 
@@ -16,16 +16,17 @@ use std::marker::Model;
 pub fn letter_job(
     alloc: Global,
     job: &[u8],
+    profile: Profile,
     dpi: Dpi,
     shifts: &[Shift],
     asks: &Asks<'_>,
     texts: &[Vec<u8>],
     lettering: &Lettering,
 ) -> Result<Option<Vec<u8>>, JobFault>
-    ensures { IsOutcome dpi job.now result }
+    ensures { IsOutcome profile dpi job.now result }
 {
     let writer = LetterWriter::new(alloc, shifts, asks, texts, lettering, job.len())?;
-    let writer = after_pages(alloc, job, dpi, writer)?;
+    let writer = after_pages(alloc, job, profile, dpi, writer)?;
     Ok(writer.finish()?)
 }
 
@@ -33,13 +34,14 @@ pub fn letter_job(
 fn after_pages<S: PageSink + Drop>(
     alloc: Global,
     job: &[u8],
+    profile: Profile,
     dpi: Dpi,
     sink: S,
 ) -> Result<S, JobFault>
-    ensures { IsOutcome dpi job.now result }
+    ensures { IsOutcome profile dpi job.now result }
 {
     let mut sink = sink;
-    perform(alloc, job, dpi, &mut sink)?;
+    perform_by(alloc, job, profile, dpi, &mut sink)?;
     Ok(sink)
 }
 

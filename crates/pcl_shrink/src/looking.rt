@@ -5,8 +5,8 @@ ghost use Rattle.pcl_same.specs.Keeping.{IsKept};
 ghost use Rattle.pcl_shrink.specs.Looking.{SaysIfSame, SaysIfSameAt};
 ghost use Rattle.pcl_shrink.specs.inner.Kept.{AreKept};
 
-use crate::keeping::{KeptJobs, Resolutions};
-use pcl_base::{Dpi, JobFault};
+use crate::keeping::{KeptJobs, Reading};
+use pcl_base::{Dpi, JobFault, Profile};
 use pcl_same::{KeptJob, compare_kept, one_asked_answer};
 use std::alloc::{AllocError, Global};
 
@@ -16,16 +16,16 @@ pub fn is_same(
     alloc: Global,
     kept: &KeptJobs<'_>,
     candidate: &[u8],
-    at: Resolutions,
+    at: Reading,
 ) -> Result<bool, AllocError>
-    ensures { (job : List ℕ) → AreKept at.first at.also job kept.now
-        → IfOk result (λ same. SaysIfSameAt at.first at.also job candidate.now same) }
+    ensures { (job : List ℕ) → AreKept at.profile at.first at.also job kept.now
+        → IfOk result (λ same. SaysIfSameAt at.profile at.first at.also job candidate.now same) }
 {
-    if !is_same_at(alloc, &kept.first, candidate, at.first)? {
+    if !is_same_at(alloc, &kept.first, candidate, at.profile, at.first)? {
         return Ok(false);
     }
     match (&kept.also, at.also) {
-        (Some(also), Some(dpi)) => is_same_at(alloc, also, candidate, dpi),
+        (Some(also), Some(dpi)) => is_same_at(alloc, also, candidate, at.profile, dpi),
         _ => Ok(true),
     }
 }
@@ -35,12 +35,13 @@ fn is_same_at(
     alloc: Global,
     kept: &KeptJob<'_>,
     candidate: &[u8],
+    profile: Profile,
     dpi: Dpi,
 ) -> Result<bool, AllocError>
-    ensures { (job : List ℕ) → IsKept dpi job kept.now → IfOk result (λ same. SaysIfSame dpi job candidate.now same) }
+    ensures { (job : List ℕ) → IsKept profile dpi job kept.now → IfOk result (λ same. SaysIfSame profile dpi job candidate.now same) }
 {
     one_asked_answer();
-    match compare_kept(alloc, kept, candidate, dpi) {
+    match compare_kept(alloc, kept, candidate, profile, dpi) {
         Ok(comparison) => Ok(comparison.is_same()),
         Err(JobFault::Refused(_)) => Ok(false),
         Err(JobFault::Memory) => Err(AllocError),

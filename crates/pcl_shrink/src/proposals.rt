@@ -10,7 +10,7 @@ use crate::raster_jobs::{asked_len, plain_job};
 use crate::rasters::{Text, shortest_texts};
 use crate::shifts::Shift;
 use crate::texts::{Found, page_texts};
-use pcl_base::{Dpi, JobFault};
+use pcl_base::{Dpi, JobFault, Profile};
 use pcl_lettering::Lettering;
 use pcl_page::{Asks, Doubt};
 use pcl_shapes::Collection;
@@ -31,14 +31,20 @@ pub struct Proposed {
 
 /// Proposes a job with the pages of a job, which asks for what that asks for: its pages as their shortest rasters, or, where that is
 /// shorter, with letters. Where the dots of its pages lie at 600 dots per inch is given if that counts. A refusal is the job's.
-pub fn propose(alloc: Global, job: &[u8], dpi: Dpi, shifts: &[Shift]) -> Result<Proposed, JobFault>
-    ensures { HasProposed dpi job.now result }
+pub fn propose(
+    alloc: Global,
+    job: &[u8],
+    profile: Profile,
+    dpi: Dpi,
+    shifts: &[Shift],
+) -> Result<Proposed, JobFault>
+    ensures { HasProposed profile dpi job.now result }
 {
-    let (texts, found) = page_texts(alloc, job, dpi, shifts)?;
+    let (texts, found) = page_texts(alloc, job, profile, dpi, shifts)?;
     let pages = texts.len();
     let limit = asked_len(alloc, &found.asks, &texts)?;
     let doubt = found.doubt;
-    let proposal = proposal_of(alloc, job, dpi, shifts, texts, found)?;
+    let proposal = proposal_of(alloc, job, profile, dpi, shifts, texts, found)?;
     Ok(Proposed {
         proposal,
         limit,
@@ -53,12 +59,13 @@ pub fn propose(alloc: Global, job: &[u8], dpi: Dpi, shifts: &[Shift]) -> Result<
 fn proposal_of(
     alloc: Global,
     job: &[u8],
+    profile: Profile,
     dpi: Dpi,
     shifts: &[Shift],
     texts: Vec<Text>,
     found: Found<'_>,
 ) -> Result<Option<Proposal>, JobFault>
-    ensures { RefusesWith dpi job.now result }
+    ensures { RefusesWith profile dpi job.now result }
 {
     let Found { shapes, asks, .. } = found;
     if asks.lasts || shifts.contains(&Shift::Other) {
@@ -66,7 +73,7 @@ fn proposal_of(
     }
     let by = raster_kind(&texts);
     let plain = shortest_texts(alloc, texts, shifts)?;
-    match propose_letters(alloc, job, dpi, shifts, &asks, &plain, shapes)? {
+    match propose_letters(alloc, job, profile, dpi, shifts, &asks, &plain, shapes)? {
         Some(job) => Ok(Some(Proposal {
             job,
             by: Candidate::Glyphs,
@@ -93,19 +100,20 @@ fn raster_kind(texts: &[Text]) -> Candidate {
 fn propose_letters(
     alloc: Global,
     job: &[u8],
+    profile: Profile,
     dpi: Dpi,
     shifts: &[Shift],
     asks: &Asks<'_>,
     plain: &[Vec<u8>],
     shapes: Collection,
 ) -> Result<Option<Vec<u8>>, JobFault>
-    ensures { RefusesWith dpi job.now result }
+    ensures { RefusesWith profile dpi job.now result }
 {
     if shifts.contains(&Shift::HalfLower) && says_length(asks) {
         return Ok(None);
     }
     let lettering = Lettering::new(alloc, shapes)?;
-    lettered(alloc, job, dpi, shifts, asks, plain, &lettering)
+    lettered(alloc, job, profile, dpi, shifts, asks, plain, &lettering)
 }
 
 /// Whether the length of a page is said: in lines, of which pages that lie half a dot lower set the spacing.
@@ -119,17 +127,18 @@ fn says_length(asks: &Asks<'_>) -> bool {
 fn lettered(
     alloc: Global,
     job: &[u8],
+    profile: Profile,
     dpi: Dpi,
     shifts: &[Shift],
     asks: &Asks<'_>,
     plain: &[Vec<u8>],
     lettering: &Lettering,
 ) -> Result<Option<Vec<u8>>, JobFault>
-    ensures { RefusesWith dpi job.now result }
+    ensures { RefusesWith profile dpi job.now result }
 {
     if lettering.is_empty() {
         Ok(None)
     } else {
-        letter_job(alloc, job, dpi, shifts, asks, plain, lettering)
+        letter_job(alloc, job, profile, dpi, shifts, asks, plain, lettering)
     }
 }

@@ -2,7 +2,7 @@
 
 ghost use Rattle.pcl_shrink.specs.Outcome.{IsOutcome};
 
-use pcl_base::{Dpi, JobFault};
+use pcl_base::{Dpi, JobFault, Profile};
 use pcl_bitmap::{Bitmap, trimmed_len};
 use pcl_page::{Doubt, Page, PageSink, perform_doubted};
 use pcl_patterns::Form;
@@ -40,15 +40,15 @@ impl Fine {
     }
 }
 
-/// What is known of a job that is accepted at 600 dots per inch. A refusal is the job's.
-pub fn look_finely(alloc: Global, job: &[u8]) -> Result<Fine, JobFault>
-    ensures { IsOutcome Dpi.Dpi600 job.now result }
+/// What is known of a job that a profile accepts at 600 dots per inch. A refusal is the job's.
+pub fn look_finely(alloc: Global, job: &[u8], profile: Profile) -> Result<Fine, JobFault>
+    ensures { IsOutcome profile Dpi.Dpi600 job.now result }
 {
     let mut finder = ShiftFinder {
         shifts: Vec::new(alloc),
     };
     let mut doubt = None;
-    perform_doubted(alloc, job, Dpi::Dpi600, &mut doubt, &mut finder)?;
+    perform_doubted(alloc, job, profile, Dpi::Dpi600, &mut doubt, &mut finder)?;
     Ok(Fine {
         shifts: finder.shifts,
         doubt,

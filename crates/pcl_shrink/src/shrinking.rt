@@ -2,33 +2,53 @@
 
 ghost use Rattle.std.specs.Prelude.{◌≡◌, length, Some, None, IfOk};
 ghost use Rattle.pcl_base.specs.declared.dpi.Dpi.TheVariants.{Dpi600};
+ghost use Rattle.pcl_base.specs.declared.profile.Profile.TheVariants.{Drivers};
 ghost use Rattle.pcl_page.specs.Accepting.{IsAccepted};
-ghost use Rattle.pcl_page.specs.declared.doubts.Readers.TheVariants.{Profile};
-ghost use Rattle.pcl_shrink.specs.Shrinking.{IsShrunk, IsShrunkAt, IsShrunkEverywhere};
+ghost use Rattle.pcl_page.specs.declared.doubts.Readers.TheVariants as reader;
+ghost use Rattle.pcl_shrink.specs.Shrinking.{IsShrunk, IsShrunkAt, IsShrunkEverywhere, IsShrunkEverywhereBy};
 ghost use Rattle.pcl_shrink.specs.inner.Best.{best_bytes, IsBest, IsShorter};
 ghost use Rattle.pcl_shrink.specs.inner.Kept.{AreKept, IsAcceptedAlso};
 ghost use Rattle.pcl_shrink.specs.inner.Proposals.{IsBestWithin, IsLimit, IsMeasured, IsWithin};
 
 use crate::candidate::Proposal;
-use crate::keeping::{KeptJobs, Resolutions, keep_jobs};
+use crate::keeping::{KeptJobs, Reading, keep_jobs};
 use crate::looking::is_same;
 use crate::proposals::{Proposed, propose};
 use crate::raster_jobs::asked_job;
 use crate::shifts::{Fine, look_finely};
 use crate::texts::texts_alone;
 use crate::{Candidate, Shrunk};
-use pcl_base::{Dpi, JobFault};
+use pcl_base::{Dpi, JobFault, Profile};
 use pcl_meaning::written_jobs_say_copies_and_sizes;
 use pcl_page::{Doubt, Readers, one_meaning};
 use std::alloc::{AllocError, Global};
 
 /// The smallest job that is found with the pages of a job, dot for dot, and which asks the printer for what that asks for. It is
 /// never longer than the job, nor than the least raster job of its pages where nothing is asked for. For printers it is the job as it
-/// came where these may read that otherwise. A refusal is the job's.
+/// came where these may read that otherwise. The job is read by the stated profile where that accepts it, else by the drivers'. A refusal
+/// is the job's.
 pub fn shrink(alloc: Global, job: &[u8], dpi: Dpi, readers: Readers) -> Result<Shrunk, JobFault>
     ensures { IsShrunk readers dpi job.now result }
 {
-    let at = Resolutions {
+    match shrink_by(alloc, job, Profile::Stated, dpi, readers) {
+        Ok(shrunk) => Ok(shrunk),
+        Err(JobFault::Refused(_)) => shrink_by(alloc, job, Profile::Drivers, dpi, readers),
+        Err(JobFault::Memory) => Err(JobFault::Memory),
+    }
+}
+
+/// The same by a profile.
+fn shrink_by(
+    alloc: Global,
+    job: &[u8],
+    profile: Profile,
+    dpi: Dpi,
+    readers: Readers,
+) -> Result<Shrunk, JobFault>
+    ensures { IsShrunkAt readers profile dpi None job.now result }
+{
+    let at = Reading {
+        profile,
         first: dpi,
         also: None,
     };
@@ -40,41 +60,64 @@ pub fn shrink(alloc: Global, job: &[u8], dpi: Dpi, readers: Readers) -> Result<S
 pub fn shrink_everywhere(alloc: Global, job: &[u8], readers: Readers) -> Result<Shrunk, JobFault>
     ensures { IsShrunkEverywhere readers job.now result }
 {
+    match everywhere_by(alloc, job, Profile::Stated, readers) {
+        Ok(shrunk) => Ok(shrunk),
+        Err(JobFault::Refused(_)) => everywhere_by(alloc, job, Profile::Drivers, readers),
+        Err(JobFault::Memory) => Err(JobFault::Memory),
+    }
+}
+
+/// The same by a profile.
+fn everywhere_by(
+    alloc: Global,
+    job: &[u8],
+    profile: Profile,
+    readers: Readers,
+) -> Result<Shrunk, JobFault>
+    ensures { IsShrunkEverywhereBy readers profile job.now result }
+{
     one_meaning();
-    match look_finely(alloc, job) {
-        Ok(fine) => shrink_fine(alloc, job, &fine, readers),
-        Err(JobFault::Refused(_)) => shrink(alloc, job, Dpi::Dpi300, readers),
+    match look_finely(alloc, job, profile) {
+        Ok(fine) => shrink_fine(alloc, job, profile, &fine, readers),
+        Err(JobFault::Refused(_)) => shrink_by(alloc, job, profile, Dpi::Dpi300, readers),
         Err(JobFault::Memory) => Err(JobFault::Memory),
     }
 }
 
 /// The same of a job that is accepted at 600 dots per inch, where this is known of it there.
-fn shrink_fine(alloc: Global, job: &[u8], fine: &Fine, readers: Readers) -> Result<Shrunk, JobFault>
-    ensures { IsAccepted Dpi600 job.now → IsShrunkEverywhere readers job.now result }
+fn shrink_fine(
+    alloc: Global,
+    job: &[u8],
+    profile: Profile,
+    fine: &Fine,
+    readers: Readers,
+) -> Result<Shrunk, JobFault>
+    ensures { IsAccepted profile Dpi600 job.now → IsShrunkEverywhereBy readers profile job.now result }
 {
     one_meaning();
-    let at = Resolutions {
+    let at = Reading {
+        profile,
         first: Dpi::Dpi300,
         also: Some(Dpi::Dpi600),
     };
     match shrink_at(alloc, job, at, fine, readers) {
         Ok(shrunk) => Ok(shrunk),
-        Err(JobFault::Refused(_)) => shrink(alloc, job, Dpi::Dpi600, readers),
+        Err(JobFault::Refused(_)) => shrink_by(alloc, job, profile, Dpi::Dpi600, readers),
         Err(JobFault::Memory) => Err(JobFault::Memory),
     }
 }
 
-/// The same at these resolutions, where this is known of the job at 600 dots per inch.
+/// The same by a reading of the job, where this is known of it at 600 dots per inch.
 fn shrink_at(
     alloc: Global,
     job: &[u8],
-    at: Resolutions,
+    at: Reading,
     fine: &Fine,
     readers: Readers,
 ) -> Result<Shrunk, JobFault>
-    ensures { IsAcceptedAlso at.also job.now → IsShrunkAt readers at.first at.also job.now result }
+    ensures { IsAcceptedAlso at.profile at.also job.now → IsShrunkAt readers at.profile at.first at.also job.now result }
 {
-    let proposed = propose(alloc, job, at.first, &fine.shifts)?;
+    let proposed = propose(alloc, job, at.profile, at.first, &fine.shifts)?;
     match heeded(readers, proposed.doubt.or(fine.doubt)) {
         Some(doubt) => Ok(as_it_came(alloc, job, &proposed, doubt)?),
         None => shrink_to(alloc, job, at, proposed),
@@ -83,7 +126,7 @@ fn shrink_at(
 
 /// What is heeded of what printers may read otherwise.
 fn heeded(readers: Readers, doubt: Option<Doubt>) -> Option<Doubt>
-    ensures { readers ≡ Profile → result ≡ None }
+    ensures { readers ≡ reader.Profile → result ≡ None }
 {
     match readers {
         Readers::Printers => doubt,
@@ -111,14 +154,9 @@ fn as_it_came(
 }
 
 /// The best of a job and of what is proposed for it, at these resolutions.
-fn shrink_to(
-    alloc: Global,
-    job: &[u8],
-    at: Resolutions,
-    proposed: Proposed,
-) -> Result<Shrunk, JobFault>
-    ensures shrunk { IsAcceptedAlso at.also job.now → IsMeasured at.first job.now proposed.limit proposed.pages
-        → IsShrunkAt Profile at.first at.also job.now result }
+fn shrink_to(alloc: Global, job: &[u8], at: Reading, proposed: Proposed) -> Result<Shrunk, JobFault>
+    ensures shrunk { IsAcceptedAlso at.profile at.also job.now → IsMeasured at.profile at.first job.now proposed.limit proposed.pages
+        → IsShrunkAt reader.Profile at.profile at.first at.also job.now result }
     ensures sure { IfOk result (λ shrunk. shrunk.doubt ≡ None) }
 {
     let Proposed {
@@ -137,11 +175,11 @@ fn shrink_to(
 fn best_of(
     alloc: Global,
     job: &[u8],
-    at: Resolutions,
+    at: Reading,
     proposal: Option<Proposal>,
     limit: usize,
 ) -> Result<Option<Proposal>, JobFault>
-    ensures { IsAcceptedAlso at.also job.now → IsLimit at.first job.now limit → IsBestWithin at.first at.also job.now result }
+    ensures { IsAcceptedAlso at.profile at.also job.now → IsLimit at.profile at.first job.now limit → IsBestWithin at.profile at.first at.also job.now result }
 {
     one_meaning();
     written_jobs_say_copies_and_sizes();
@@ -157,12 +195,12 @@ fn best_of(
 fn looked_at(
     alloc: Global,
     kept: &KeptJobs<'_>,
-    at: Resolutions,
+    at: Reading,
     job: &[u8],
     proposal: Option<Proposal>,
 ) -> Result<Option<Proposal>, AllocError>
-    ensures { AreKept at.first at.also job.now kept.now
-        → IfOk result (λ best. IsBest at.first at.also job.now (best_bytes job.now best)) }
+    ensures { AreKept at.profile at.first at.also job.now kept.now
+        → IfOk result (λ best. IsBest at.profile at.first at.also job.now (best_bytes job.now best)) }
 {
     one_meaning();
     match proposal {
@@ -176,19 +214,19 @@ fn looked_at(
 fn within(
     alloc: Global,
     kept: &KeptJobs<'_>,
-    at: Resolutions,
+    at: Reading,
     job: &[u8],
     best: Option<Proposal>,
     limit: usize,
 ) -> Result<Option<Proposal>, JobFault>
-    ensures { AreKept at.first at.also job.now kept.now → IsLimit at.first job.now limit → IsWithin at.first at.also job.now best result }
+    ensures { AreKept at.profile at.first at.also job.now kept.now → IsLimit at.profile at.first job.now limit → IsWithin at.profile at.first at.also job.now best result }
 {
     one_meaning();
     written_jobs_say_copies_and_sizes();
     if best_len(job, &best) <= limit {
         return Ok(best);
     }
-    let texts = texts_alone(alloc, job, at.first)?;
+    let texts = texts_alone(alloc, job, at.profile, at.first)?;
     let rasters = Proposal {
         job: asked_job(alloc, kept.first.asks(), &texts)?,
         by: Candidate::Raster,
@@ -201,13 +239,13 @@ fn within(
 fn shorter(
     alloc: Global,
     kept: &KeptJobs<'_>,
-    at: Resolutions,
+    at: Reading,
     job: &[u8],
     best: Option<Proposal>,
     proposal: Proposal,
 ) -> Result<Option<Proposal>, AllocError>
-    ensures { AreKept at.first at.also job.now kept.now
-        → IfOk result (λ shorter. IsShorter at.first at.also job.now (best_bytes job.now best) proposal.job.items
+    ensures { AreKept at.profile at.first at.also job.now kept.now
+        → IfOk result (λ shorter. IsShorter at.profile at.first at.also job.now (best_bytes job.now best) proposal.job.items
         (best_bytes job.now shorter)) }
 {
     if proposal.job.len() >= best_len(job, &best) {

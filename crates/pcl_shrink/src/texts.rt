@@ -4,7 +4,7 @@ ghost use Rattle.pcl_shrink.specs.Texts.{HasTexts, HasTextsAlone};
 
 use crate::rasters::{Text, page_text};
 use crate::shifts::{Shift, form_of, shift_at};
-use pcl_base::{Dpi, JobFault};
+use pcl_base::{Dpi, JobFault, Profile};
 use pcl_page::{Asks, Doubt, Page, PageSink, perform_doubted};
 use pcl_shapes::Collection;
 use std::alloc::{AllocError, Global};
@@ -26,10 +26,11 @@ pub struct Found<'a> {
 pub fn page_texts<'a>(
     alloc: Global,
     job: &'a [u8],
+    profile: Profile,
     dpi: Dpi,
     shifts: &[Shift],
 ) -> Result<(Vec<Text>, Found<'a>), JobFault>
-    ensures { HasTexts dpi job.now result }
+    ensures { HasTexts profile dpi job.now result }
 {
     let mut writer = TextWriter {
         texts: Vec::new(alloc),
@@ -37,7 +38,7 @@ pub fn page_texts<'a>(
         shifts,
     };
     let mut doubt = None;
-    let asks = perform_doubted(alloc, job, dpi, &mut doubt, &mut writer)?;
+    let asks = perform_doubted(alloc, job, profile, dpi, &mut doubt, &mut writer)?;
     let found = Found {
         shapes: writer.shapes,
         asks,
@@ -47,10 +48,15 @@ pub fn page_texts<'a>(
 }
 
 /// The texts of the pages of a job as rasters, alone. A refusal is the job's.
-pub fn texts_alone(alloc: Global, job: &[u8], dpi: Dpi) -> Result<Vec<Text>, JobFault>
-    ensures { HasTextsAlone dpi job.now result }
+pub fn texts_alone(
+    alloc: Global,
+    job: &[u8],
+    profile: Profile,
+    dpi: Dpi,
+) -> Result<Vec<Text>, JobFault>
+    ensures { HasTextsAlone profile dpi job.now result }
 {
-    match page_texts(alloc, job, dpi, &[]) {
+    match page_texts(alloc, job, profile, dpi, &[]) {
         Ok((texts, _)) => Ok(texts),
         Err(fault) => Err(fault),
     }

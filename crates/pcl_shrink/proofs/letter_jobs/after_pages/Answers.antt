@@ -3,4 +3,4 @@ use Rattle.pcl_shrink.proofs.letter_jobs.after_pages.Goals as goal
 
 pub returns : goal.returns
 returns g c =
-    let h = c.in_ok-perform.ensures in (accepted_pages h, has_pages h)
+    let h = c.in_ok-perform_by.ensures in (accepted_pages h, has_pages h)

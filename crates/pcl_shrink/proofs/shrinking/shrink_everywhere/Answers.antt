@@ -1,7 +1,6 @@
-use Rattle.pcl_shrink.proofs.Everywhere.{coarse_alone}
+use Rattle.pcl_shrink.proofs.Names.{Stated}
+use Rattle.pcl_shrink.proofs.Written.{counted_read}
 use Rattle.pcl_shrink.proofs.shrinking.shrink_everywhere.Goals as goal
 
-pub returns-in-Err-Refused : goal.returns-in-Err-Refused
-returns-in-Err-Refused c =
-    coarse_alone c.args.readers c.args.job.now c.in-Err-Refused.field-0-0 c.shrink.result
-    (rw c.in-Err-Refused.field-0-is at c.in-Err-Refused.ensures) c.shrink.ensures
+pub returns-in-Ok : goal.returns-in-Ok
+returns-in-Ok c = let s = c.in-Ok.ensures in (Stated, counted_read s.0 s.1 s.2, s)

@@ -6,9 +6,9 @@ pub returns-clause-shrunk : goal.returns-clause-shrunk
 returns-clause-shrunk c = λ accepted measured.
     let job = c.args.job.now in
     let smaller = c.in_ok-best.ensures accepted measured.limit_is in
-    let s = subst (IsSmallerJobAt c.args.at.first c.args.at.also job) (sym c.in_ok-best_or_input.ensures.job) smaller in
+    let s = subst (IsSmallerJobAt c.args.at.profile c.args.at.first c.args.at.also job) (sym c.in_ok-best_or_input.ensures.job) smaller in
     record {
       smaller = s;
       counted = c.in_ok-best_or_input.ensures.pages ∙ measured.counted
-          ∙ ap length (c.one_meaning.ensures.pages c.args.at.first job measured.limit_is.pages s.pages measured.limit_is.meaning s.meaning);
+          ∙ ap length ((c.one_meaning.ensures.pages c.args.at.profile) c.args.at.first job measured.limit_is.pages s.pages measured.limit_is.meaning s.meaning);
     }
