@@ -30,5 +30,5 @@ unlike_there asks first second comparison unlike is common = (common, inl (inl (
 pub refused_there : (asks : Bool) (first second : List ℕ) (which : Job) (refusal : Refusal)
     → IsCompared Dpi300 first second (Err (Refused which refusal)) → IsFirstCommon first second Dpi300
     → AreComparedAt FirstAccepted asks first second Dpi300
-refused_there asks first second First refusal is common = (common, inl (inr (inl (refusal, is))))
-refused_there asks first second Second refusal is common = (common, inl (inr (inr (refusal, is.2))))
+refused_there asks first second First refusal is common = (common, inl (inr (inl (refusal, is.1))))
+refused_there asks first second Second refusal is common = (common, inl (inr (inr (refusal, is.1.2))))

@@ -3,6 +3,7 @@ use Rattle.std.specs.Prelude.{◌⊎◌, ℕ, List, Option, Result, Ok, Err}
 use Rattle.std.specs.Global.{Vec}
 use Rattle.std.specs.Io.KnownBytes.{Appends, Keeps}
 use Rattle.pcl_base.specs.declared.dpi.Dpi.{Dpi}
+use Rattle.pcl_base.specs.declared.profile.Profile.TheVariants.{Stated}
 use Rattle.pcl_base.specs.declared.refusal.Refusal.{Refusal}
 use Rattle.pcl_page.specs.Delivering.{IsRefusal}
 use Rattle.pcl_streams.specs.declared.fault.Fault.{Fault}
@@ -54,14 +55,14 @@ IsCheckedBeside beside dpi input output certificate (Err fault) = RefusedOrMemor
 abbrev pub IsAnswer : {F : Type 0} → (F → FileAct → F → Type 0) → F → CheckedFiles → CheckAnswer → Type 0
 IsAnswer acts files asked given =
     (input output certificate : Vec ℕ) × (dpi : Dpi) × AreRead acts files asked input output certificate
-    × IsSeenAt asked.resolution (performed asked.beside input.items output.items) dpi
+    × IsSeenAt asked.resolution Stated (performed asked.beside input.items output.items) dpi
     × IsAnswerBeside asked.beside dpi input.items output.items certificate.items given
 
 -- the job that is performed is refused so, and the three files were read
 abbrev pub IsCheckRefused : {F : Type 0} → (F → FileAct → F → Type 0) → F → CheckedFiles → Refusal → Type 0
 IsCheckRefused acts files asked refusal =
     (input output certificate : Vec ℕ) × (dpi : Dpi) × AreRead acts files asked input output certificate
-    × IsSeenAt asked.resolution (performed asked.beside input.items output.items) dpi
+    × IsSeenAt asked.resolution Stated (performed asked.beside input.items output.items) dpi
     × IsRefusal dpi (performed asked.beside input.items output.items) refusal
 
 -- the line of an answer is written; nothing where a fault came before, and a prefix of the line where its write failed

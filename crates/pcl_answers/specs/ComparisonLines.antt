@@ -4,6 +4,7 @@ use Rattle.std.specs.Fmt.{signed_decimal}
 use Rattle.pcl_base.specs.Refusal.{refusal_text}
 use Rattle.pcl_base.specs.declared.size.Size.{Size}
 use Rattle.pcl_base.specs.declared.size.Size.TheVariants.{Executive, Letter, Legal, A4}
+use Rattle.pcl_env.specs.Offset.{offset_text}
 use Rattle.pcl_same.specs.declared.comparison.AskedComparison.{AskedComparison}
 use Rattle.pcl_same.specs.declared.comparison.AskedComparison.TheVariants.{Same, Pages, Asks}
 use Rattle.pcl_same.specs.declared.comparison.PagesDifference.{PagesDifference}
@@ -15,7 +16,7 @@ use Rattle.pcl_same.specs.declared.comparison.ExitDifference.TheVariants as exit
 use Rattle.pcl_same.specs.declared.comparison.AskedDifference.{AskedDifference}
 use Rattle.pcl_same.specs.declared.comparison.AskedDifference.TheVariants as asked
 use Rattle.pcl_same.specs.declared.comparison.Setting.{Setting}
-use Rattle.pcl_same.specs.declared.comparison.Setting.TheVariants.{Copies, PageSize, PageLength, Sides, OutputBin, MediaType, PaperSource, SheetSide}
+use Rattle.pcl_same.specs.declared.comparison.Setting.TheVariants.{Copies, PageSize, PageLength, Sides, OutputBin, MediaType, PaperSource, LeftOffset, TopOffset, SheetSide}
 use Rattle.pcl_same.specs.declared.comparison.SettingDifference.{SettingDifference}
 use Rattle.pcl_same.specs.declared.comparison.Difference.{Difference}
 use Rattle.pcl_same.specs.declared.comparison.Difference.TheVariants as difference
@@ -55,14 +56,24 @@ setting_label Sides = codes "sides "
 setting_label OutputBin = codes "bin "
 setting_label MediaType = codes "media "
 setting_label PaperSource = codes "source "
+setting_label LeftOffset = codes "left offset "
+setting_label TopOffset = codes "top offset "
 setting_label SheetSide = codes "side "
 
-abbrev pub value_text : Option ℤ → List ℕ
-value_text (Some value) = signed_decimal value
-value_text None = codes "none"
+-- an offset in decipoints with its decimals, all others as whole numbers
+abbrev pub number_text : Setting → ℤ → List ℕ
+number_text LeftOffset value = offset_text value
+number_text TopOffset value = offset_text value
+number_text other value = signed_decimal value
+
+abbrev pub value_text : Setting → Option ℤ → List ℕ
+value_text setting (Some value) = number_text setting value
+value_text setting None = codes "none"
 
 abbrev pub setting_text : SettingDifference → List ℕ
-setting_text difference = pair_text (setting_label difference.setting) (value_text difference.first) (value_text difference.second)
+setting_text difference =
+    pair_text (setting_label difference.setting) (value_text difference.setting difference.first)
+    (value_text difference.setting difference.second)
 
 abbrev pub asked_text : AskedDifference → List ℕ
 asked_text asked.Reset = codes "reset"

@@ -2,6 +2,7 @@
 use Rattle.std.specs.Prelude.{◌≡◌, ◌⊎◌, ℕ, List, Option, Some, None, Result, Ok, Err}
 use Rattle.std.specs.Borrow.{Bor}
 use Rattle.pcl_base.specs.declared.dpi.Dpi.{Dpi}
+use Rattle.pcl_base.specs.declared.profile.Profile.{Profile}
 use Rattle.pcl_bitmap.specs.Bitmap.{Picture}
 use Rattle.pcl_streams.specs.declared.fault.Fault.{Fault}
 use Rattle.pcl_streams.specs.declared.fault.Fault.TheVariants.{Refused, Memory, ReadFault, TooLong, CertificateTooLong, WriteFault, NoSuchPage}
@@ -10,7 +11,7 @@ use Rattle.pcl_streams.specs.Preview.{HasPage}
 use Rattle.pcl_same.specs.declared.comparison.Comparison.{Comparison}
 use Rattle.pcl_same.specs.declared.comparison.Comparison.TheVariants.{Page}
 use Rattle.pcl_same.specs.declared.comparison.Difference.TheVariants.{Dot}
-use Rattle.pcl_same.specs.Comparing.{IsComparison}
+use Rattle.pcl_same.specs.Comparing.{AreReadBy, IsComparison}
 use Rattle.pcl_same.specs.DifferingDots.{IsDifference}
 use Rattle.pcl_files.specs.Files.{FileAct, Begun, Unbegun, write_fault_of}
 use Rattle.pcl_files.specs.WholeFiles.{IsSettled}
@@ -27,10 +28,12 @@ DifferInDots dpi first second number = (x y : ℕ) × IsComparison dpi first sec
 
 -- an image that is black exactly where the pages of this number differ
 pub record IsDifferenceOf (dpi : Dpi) (first second : List ℕ) (number : ℕ) (image : Picture) : Type 0 where
+  pub profile : Profile
+  pub read : AreReadBy profile dpi first second
   pub one : Picture
-  pub one_is : HasPage dpi first number one
+  pub one_is : HasPage profile dpi first number one
   pub other : Picture
-  pub other_is : HasPage dpi second number other
+  pub other_is : HasPage profile dpi second number other
   pub image_is : IsDifference one other image
 
 -- that image, or memory ran out

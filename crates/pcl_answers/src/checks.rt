@@ -3,7 +3,7 @@
 ghost use Rattle.pcl_answers.specs.Checks.{IsCheckRun, IsCheckedBeside};
 
 use crate::verdicts::answer_line;
-use pcl_base::Dpi;
+use pcl_base::{Dpi, Profile};
 use pcl_files::{JobFiles, read_file, resolve};
 use pcl_request::{Beside, CheckedFiles};
 use pcl_streams::{Fault, Watcher, write_all};
@@ -29,6 +29,7 @@ pub fn check<F: JobFiles, W: Write, P: Watcher>(
     let dpi = resolve(
         alloc,
         asked.resolution,
+        Profile::Stated,
         asked.beside.performed(&input, &output),
     )?;
     let answer = answer(

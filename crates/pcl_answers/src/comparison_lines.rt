@@ -2,13 +2,14 @@
 
 ghost use Rattle.std.specs.Prelude.{◌≡◌, ◌++◌, IfOk, OnOk};
 ghost use Rattle.pcl_answers.specs.ComparisonLines.{size_text, pair_text, difference_text, pages_text, comparison_text, comparison_line_of};
-ghost use Rattle.pcl_answers.specs.ComparisonLines.{setting_label, setting_text, asked_text, value_text, exit_text, asks_text};
+ghost use Rattle.pcl_answers.specs.ComparisonLines.{setting_label, setting_text, asked_text, number_text, value_text, exit_text, asks_text};
 ghost use Rattle.pcl_answers.specs.ComparisonLines.{comparison_status_for, refused_job_text, compare_line_of, compare_status_for};
 
 use crate::comparisons::CompareFault;
 use crate::verdicts::append_page;
 use itoa::Buffer;
 use pcl_base::Size;
+use pcl_env::append_offset;
 use pcl_files::{fault_line, status_of};
 use pcl_same::{
     AskedComparison, AskedDifference, AsksDifference, Difference, ExitDifference, Job,
@@ -94,21 +95,36 @@ fn append_asked(difference: AskedDifference, line: &mut Vec<u8>) -> Result<(), A
 fn append_setting(difference: SettingDifference, line: &mut Vec<u8>) -> Result<(), AllocError>
     ensures { OnOk result (line.new.items ≡ line.old.items ++ setting_text difference) }
 {
-    append_pair(
-        setting_label(difference.setting),
-        value_of(difference.first, &mut Buffer::new()),
-        value_of(difference.second, &mut Buffer::new()),
-        line,
-    )
+    line.extend_from_slice(setting_label(difference.setting))?;
+    append_value(difference.setting, difference.first, line)?;
+    line.extend_from_slice(b" ")?;
+    append_value(difference.setting, difference.second, line)
 }
 
-/// The text of a value that is asked for.
-fn value_of(value: Option<i64>, digits: &mut Buffer) -> &[u8]
-    ensures { result.now ≡ value_text value }
+/// Appends the value of a setting, if it was said.
+fn append_value(setting: Setting, value: Option<i64>, line: &mut Vec<u8>) -> Result<(), AllocError>
+    ensures { OnOk result (line.new.items ≡ line.old.items ++ value_text setting value) }
 {
     match value {
-        Some(value) => digits.format(value).as_bytes(),
-        None => b"none",
+        Some(value) => append_number(setting, value, line),
+        None => line.extend_from_slice(b"none"),
+    }
+}
+
+/// Appends a value: an offset in decipoints with its decimals, all others as whole numbers.
+fn append_number(setting: Setting, value: i64, line: &mut Vec<u8>) -> Result<(), AllocError>
+    ensures { OnOk result (line.new.items ≡ line.old.items ++ number_text setting value) }
+{
+    match setting {
+        Setting::LeftOffset | Setting::TopOffset => append_offset(value, line),
+        Setting::Copies
+        | Setting::PageSize
+        | Setting::PageLength
+        | Setting::Sides
+        | Setting::OutputBin
+        | Setting::MediaType
+        | Setting::PaperSource
+        | Setting::SheetSide => line.extend_from_slice(Buffer::new().format(value).as_bytes()),
     }
 }
 
@@ -124,6 +140,8 @@ fn setting_label(setting: Setting) -> &'static [u8]
         Setting::OutputBin => b"bin ",
         Setting::MediaType => b"media ",
         Setting::PaperSource => b"source ",
+        Setting::LeftOffset => b"left offset ",
+        Setting::TopOffset => b"top offset ",
         Setting::SheetSide => b"side ",
     }
 }

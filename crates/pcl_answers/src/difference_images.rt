@@ -7,7 +7,7 @@ ghost use Rattle.pcl_answers.specs.DifferenceImages.{dotted_page, DifferInDots, 
 use pcl_base::Dpi;
 use pcl_bitmap::Bitmap;
 use pcl_files::{JobFiles, settle};
-use pcl_same::{Comparison, Difference, differing_dots};
+use pcl_same::{Comparison, Difference, differing_dots, read_by};
 use pcl_streams::{Fault, page_dots, write_image};
 use std::alloc::Global;
 
@@ -59,8 +59,9 @@ fn differing_page(
     requires { DifferInDots dpi first.now second.now page }
     ensures { IsDifferingPage dpi first.now second.now page result }
 {
-    let one = page_dots(alloc, first, page, dpi)?;
-    let other = page_dots(alloc, second, page, dpi)?;
+    let profile = read_by(alloc, first, second, dpi)?;
+    let one = page_dots(alloc, first, page, profile, dpi)?;
+    let other = page_dots(alloc, second, page, profile, dpi)?;
     Ok(differing_dots(alloc, &one, &other)?)
 }
 

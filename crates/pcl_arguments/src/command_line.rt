@@ -57,6 +57,11 @@ const PROFILE_ONLY: &str = "profile-only";
 const READ_OTHERWISE: &str =
     "Shrink jobs too that some printers read otherwise, which else go as they came";
 
+/// The option by which a job is read as `min` reads it, and its help.
+const STATED: &str = "stated";
+
+const READ_AS_STATED: &str = "Read the job as min does, without what drivers send besides";
+
 /// The subcommands, in the order of the help.
 const SUBCOMMANDS: [Subcommand; 8] = [
     Subcommand {
@@ -98,7 +103,12 @@ const SUBCOMMANDS: [Subcommand; 8] = [
         name: "explain",
         about: "Names everything in a job that is refused, and says what to set instead; given the name of a kind \
                 of refusal in place of a file, as NoFont, says what that means",
-        takes: &[Argument::Job, Argument::Output, Argument::Dpi],
+        takes: &[
+            Argument::Job,
+            Argument::Output,
+            Argument::Flag(STATED, READ_AS_STATED),
+            Argument::Dpi,
+        ],
     },
     Subcommand {
         name: "pages",
@@ -112,6 +122,7 @@ const SUBCOMMANDS: [Subcommand; 8] = [
                 "tsv",
                 "Write lines of columns that tabs part, which is what comes where nothing is asked for",
             ),
+            Argument::Flag(STATED, READ_AS_STATED),
             Argument::Dpi,
         ],
     },
@@ -178,6 +189,10 @@ const SUBCOMMANDS: [Subcommand; 8] = [
                 "page",
                 "N",
                 "The number of the page, from 1 to 256, or a range such as 2-5; all pages where it isn't given",
+            ),
+            Argument::Flag(
+                "drivers",
+                "Read what drivers send besides too, as shrink does: offsets of the page",
             ),
             Argument::Dpi,
         ],

@@ -3,7 +3,7 @@
 use crate::command_line::{VERSION, pclmin, subcommand_named};
 use clap::error::ErrorKind;
 use clap::{ArgMatches, Error};
-use pcl_base::{Dpi, PAGE_LIMIT};
+use pcl_base::{Dpi, PAGE_LIMIT, Profile};
 use pcl_cert::Format;
 use pcl_explain::kind_named;
 use pcl_page::Readers;
@@ -164,6 +164,11 @@ fn run_of<'w>(name: &str, command: &ArgMatches<'w>) -> Result<Run<'w>, WrongWord
         }),
         _ => Work::Task(Task::Preview {
             choice: page_choice(command)?,
+            profile: if command.get_flag("drivers") {
+                Profile::Drivers
+            } else {
+                Profile::Stated
+            },
         }),
     };
     Ok(Run {
@@ -173,6 +178,15 @@ fn run_of<'w>(name: &str, command: &ArgMatches<'w>) -> Result<Run<'w>, WrongWord
         resolution: seen_at(work, resolution),
         quiet: name == "min" && command.get_flag("quiet"),
     })
+}
+
+/// By which profile a job is read.
+fn profile_of(command: &ArgMatches<'_>) -> Profile {
+    if command.get_flag("stated") {
+        Profile::Stated
+    } else {
+        Profile::Drivers
+    }
 }
 
 /// For which readers a job is shrunk.
@@ -266,17 +280,21 @@ fn pages_task(pages: &ArgMatches<'_>) -> Task {
     } else {
         Layout::Table
     };
-    Task::DescribePages { layout }
+    Task::DescribePages {
+        layout,
+        profile: profile_of(pages),
+    }
 }
 
 /// What the words after `explain` ask for: a kind of refusal, where its name stands in place of a file.
 fn explain_task(explain: &ArgMatches<'_>) -> Task {
+    let profile = profile_of(explain);
     let Some(word) = explain.get_str("JOB") else {
-        return Task::Explain;
+        return Task::Explain { profile };
     };
     match kind_named(word) {
         Some(kind) => Task::ExplainKind { kind },
-        None => Task::Explain,
+        None => Task::Explain { profile },
     }
 }
 

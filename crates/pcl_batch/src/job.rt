@@ -77,9 +77,10 @@ fn write_bytes<'w, F: JobFiles, R: Rewriter>(
 ) -> Result<Entry<'w>, AllocError>
     ensures { IfOk result IsHonest }
 {
-    let dpi = resolve(alloc, batch.resolution, bytes)?;
+    let profile = batch.rewriting.profile();
+    let dpi = resolve(alloc, batch.resolution, profile, bytes)?;
     let input = FileSum::of(alloc, bytes)?;
-    let pages = match page_count(alloc, bytes, dpi) {
+    let pages = match page_count(alloc, bytes, profile, dpi) {
         Ok(pages) => Some(pages),
         // that is what is said of it when it is written again
         Err(JobFault::Refused(_)) => None,

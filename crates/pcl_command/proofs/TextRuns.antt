@@ -1,6 +1,6 @@
 -- What was read and written where a text on a job is.
 use Rattle.std.proofs.Common.{◌≡◌, ◌≤◌, ℕ, List, Option, Result, Ok, Err, length, subst, arith}
-use Rattle.pcl_command.proofs.Names.{Keeps-refl, Dpi, JobFault, Refusal, IsRefusal, fault_of, Fault, WriteFault, IsRead, input_limit, IsWritten, IsDescribed, IsRefusedEverywhere, IsShrunk, IsShrunkEverywhere, IsWrittenEverywhere, IsWrittenFor, Readers, Shrunk, IsTextRun}
+use Rattle.pcl_command.proofs.Names.{Keeps-refl, Dpi, Profile, Drivers, JobFault, Refusal, IsRefusalBy, fault_of, Fault, WriteFault, IsRead, input_limit, IsWritten, IsDescribed, IsRefusedEverywhere, IsShrunk, IsShrunkEverywhere, IsWrittenEverywhere, IsWrittenFor, Readers, Shrunk, IsTextRun}
 use Rattle.pcl_base.specs.declared.fault.JobFault.TheVariants as fault
 use Rattle.pcl_shrink.proofs.Written.{written_for, written_everywhere}
 
@@ -17,8 +17,8 @@ abbrev pub IsTextlessBy : (List ℕ → Refusal → Type 0) → List ℕ → Job
 IsTextlessBy Refuses job (fault.Refused refusal) = Refuses job refusal
 IsTextlessBy Refuses job fault.Memory = Unit {0}
 
-abbrev pub IsTextless : Dpi → List ℕ → JobFault → Type 0
-IsTextless dpi job why = IsTextlessBy (IsRefusal dpi) job why
+abbrev pub IsTextless : Profile → Dpi → List ℕ → JobFault → Type 0
+IsTextless profile dpi job why = IsTextlessBy (IsRefusalBy profile dpi) job why
 
 -- of a job that was read to its end, of which there is no text
 pub textless_by : (Tells : List ℕ → List ℕ → Type 0) (Refuses : List ℕ → Refusal → Type 0) {given left : Option (List ℕ)}
@@ -27,17 +27,19 @@ pub textless_by : (Tells : List ℕ → List ℕ → Type 0) (Refuses : List ℕ
 textless_by Tells Refuses held {job} (fault.Refused refusal) read short u = (job, read, u, Keeps-refl held)
 textless_by Tells Refuses held {job} fault.Memory read short u = ((job, read.given, omega (arith, short)), Keeps-refl held)
 
-pub textless_run : (Tells : List ℕ → List ℕ → Type 0) (dpi : Dpi) {given left : Option (List ℕ)} (held : Option (List ℕ)) {job : List ℕ}
-    (why : JobFault) → IsRead given left job → length job ≤ input_limit → IsTextless dpi job why
-    → IsTextRun Tells (IsRefusal dpi) given left held held (Err (fault_of why))
-textless_run Tells dpi = textless_by Tells (IsRefusal dpi)
+pub textless_run : (Tells : List ℕ → List ℕ → Type 0) (profile : Profile) (dpi : Dpi) {given left : Option (List ℕ)} (held : Option (List ℕ)) {job : List ℕ}
+    (why : JobFault) → IsRead given left job → length job ≤ input_limit → IsTextless profile dpi job why
+    → IsTextRun Tells (IsRefusalBy profile dpi) given left held held (Err (fault_of why))
+textless_run Tells profile dpi = textless_by Tells (IsRefusalBy profile dpi)
 
-pub undescribed : (dpi : Dpi) (job : List ℕ) (why : JobFault) → IsDescribed dpi job (Err why) → IsTextless dpi job why
-undescribed dpi job (fault.Refused refusal) d = d
-undescribed dpi job fault.Memory d = tt
+pub undescribed : (profile : Profile) (dpi : Dpi) (job : List ℕ) (why : JobFault) → IsDescribed profile dpi job (Err why)
+    → IsTextless profile dpi job why
+undescribed profile dpi job (fault.Refused refusal) d = d
+undescribed profile dpi job fault.Memory d = tt
 
-pub unshrunk : (readers : Readers) (dpi : Dpi) (job : List ℕ) (why : JobFault) → IsShrunk readers dpi job (Err why) → IsTextless dpi job why
-unshrunk readers dpi job (fault.Refused refusal) s = s
+pub unshrunk : (readers : Readers) (dpi : Dpi) (job : List ℕ) (why : JobFault) → IsShrunk readers dpi job (Err why)
+    → IsTextless Drivers dpi job why
+unshrunk readers dpi job (fault.Refused refusal) s = s.1
 unshrunk readers dpi job fault.Memory s = tt
 
 pub unshrunk_everywhere : (readers : Readers) (job : List ℕ) (why : JobFault) → IsShrunkEverywhere readers job (Err why)
@@ -48,9 +50,9 @@ unshrunk_everywhere readers job fault.Memory s = tt
 pub written_here : (readers : Readers) (dpi : Dpi) {lent job : List ℕ} (shrunk : Shrunk) → lent ≡ job
     → IsShrunk readers dpi lent (Ok shrunk) → IsWrittenFor readers dpi job shrunk.job.items
 written_here readers dpi {lent} {job} shrunk is s =
-    subst (λ (it : List ℕ). IsWrittenFor readers dpi it shrunk.job.items) is (written_for dpi lent shrunk readers shrunk.doubt s)
+    subst (λ (it : List ℕ). IsWrittenFor readers dpi it shrunk.job.items) is (written_for dpi lent shrunk readers s)
 
 pub written_there : (readers : Readers) {lent job : List ℕ} (shrunk : Shrunk) → lent ≡ job → IsShrunkEverywhere readers lent (Ok shrunk)
     → IsWrittenEverywhere readers job shrunk.job.items
 written_there readers {lent} {job} shrunk is s =
-    subst (λ (it : List ℕ). IsWrittenEverywhere readers it shrunk.job.items) is (written_everywhere s.0 s.1 lent shrunk readers shrunk.doubt s.2 s.3)
+    subst (λ (it : List ℕ). IsWrittenEverywhere readers it shrunk.job.items) is (written_everywhere lent shrunk readers s)

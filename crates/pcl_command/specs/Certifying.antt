@@ -1,6 +1,7 @@
 -- What a run reads and writes that writes a job with a certificate.
 use Rattle.std.specs.Prelude.{◌≡◌, ℕ, List, ◌⊎◌, Option, Some, Result, Err}
 use Rattle.pcl_base.specs.declared.dpi.Dpi.{Dpi}
+use Rattle.pcl_base.specs.declared.profile.Profile.TheVariants.{Stated}
 use Rattle.pcl_page.specs.Accepting.{IsFirstAccepted}
 use Rattle.pcl_cert.specs.declared.format.Format.{Format}
 use Rattle.pcl_streams.specs.declared.fault.Fault.{Fault}
@@ -26,7 +27,7 @@ HasCertifiedSeen format (Given dpi) given left old new aside_old aside_new done 
     IsFilteredCert dpi format given left old new aside_old aside_new done
 HasCertifiedSeen format FirstAccepted given left old new aside_old aside_new done =
     ((fault : Fault) × (done ≡ Err fault) × IsUnread given left old new fault × (aside_new ≡ aside_old))
-    ⊎ ((job : List ℕ) × (rest : Option (List ℕ)) × (dpi : Dpi) × IsRead given left job × IsFirstAccepted job dpi
+    ⊎ ((job : List ℕ) × (rest : Option (List ℕ)) × (dpi : Dpi) × IsRead given left job × IsFirstAccepted Stated job dpi
     × IsFilteredCert dpi format (Some job) rest old new aside_old aside_new done)
 
 -- The job goes to a file that is begun, and both files are settled. Or it can't be begun: then the certificate is dropped, and

@@ -3,8 +3,9 @@ use Rattle.std.specs.Prelude.{◌≡◌, ℕ, List, Option, Some, None, Result, 
 use Rattle.std.specs.Global.{Vec}
 use Rattle.pcl_base.specs.declared.dpi.Dpi.{Dpi}
 use Rattle.pcl_base.specs.declared.fault.JobFault.{JobFault}
+use Rattle.pcl_base.specs.declared.profile.Profile.TheVariants.{Drivers}
 use Rattle.pcl_base.specs.declared.refusal.Refusal.{Refusal}
-use Rattle.pcl_page.specs.Delivering.{IsRefusal}
+use Rattle.pcl_page.specs.Delivering.{IsRefusal, IsRefusalBy}
 use Rattle.pcl_cert.specs.declared.format.Format.TheVariants.{One}
 use Rattle.pcl_streams.specs.declared.fault.Fault.{Fault}
 use Rattle.pcl_streams.specs.JobFaults.{RefusedOrMemory, fault_of}
@@ -30,7 +31,8 @@ IsRewrittenTo Certify dpi job again None = ⊥
 -- a refusal is the one at the resolution; or at both
 abbrev pub RefusesAgain : Rewriting → Dpi → List ℕ → Refusal → Type 0
 RefusesAgain (ShrinkEverywhere readers) dpi job refusal = IsRefusedEverywhere job refusal
-RefusesAgain other dpi job refusal = IsRefusal dpi job refusal
+RefusesAgain (Shrink readers) dpi job refusal = IsRefusalBy Drivers dpi job refusal
+RefusesAgain Certify dpi job refusal = IsRefusal dpi job refusal
 
 -- where it isn't written again it is refused so, or memory ran out
 abbrev pub IsRewritten : Rewriting → Dpi → List ℕ → Result Again Failure → Type 0

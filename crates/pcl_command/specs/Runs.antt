@@ -3,9 +3,11 @@ use Rattle.std.specs.Prelude.{◌≡◌, ℕ, List, ◌⊎◌, true, false, Opti
 use Rattle.std.specs.Io.KnownBytes.{Appends, Keeps}
 use Rattle.pcl_base.specs.declared.dpi.Dpi.{Dpi}
 use Rattle.pcl_base.specs.declared.kind.Kind.{Kind}
+use Rattle.pcl_base.specs.declared.profile.Profile.{Profile}
+use Rattle.pcl_base.specs.declared.profile.Profile.TheVariants.{Drivers}
 use Rattle.pcl_base.specs.declared.refusal.Refusal.{Refusal}
 use Rattle.pcl_page.specs.Accepting.{IsAccepted, IsFirstAccepted}
-use Rattle.pcl_page.specs.Delivering.{IsRefusal}
+use Rattle.pcl_page.specs.Delivering.{IsRefusalBy}
 use Rattle.pcl_streams.specs.declared.fault.Fault.{Fault}
 use Rattle.pcl_streams.specs.declared.fault.Fault.TheVariants.{Refused, Memory, ReadFault, TooLong, WriteFault}
 use Rattle.pcl_streams.specs.declared.page_images.PageChoice.{PageChoice}
@@ -26,7 +28,7 @@ use Rattle.pcl_answers.specs.Comparisons.{IsCompareRun}
 use Rattle.pcl_answers.specs.declared.comparisons.CompareFault.{CompareFault}
 use Rattle.pcl_answers.specs.declared.endings.Ending.{Ending}
 use Rattle.pcl_answers.specs.declared.endings.Ending.TheVariants.{Done, Checked, Compared, Failed}
-use Rattle.pcl_request.specs.Requests.{task_page}
+use Rattle.pcl_request.specs.Requests.{task_page, task_profile}
 use Rattle.pcl_request.specs.declared.request.Task.{Task}
 use Rattle.pcl_request.specs.declared.request.Task.TheVariants.{Minimize, Preview, Explain, ExplainKind, DescribePages, Shrink}
 use Rattle.pcl_request.specs.declared.request.Work.{Work}
@@ -48,12 +50,12 @@ use Rattle.pcl_command.specs.Reads.{IsUnread}
 use Rattle.pcl_command.specs.World.{World}
 
 -- what a reader gave and a writer holds after the preview of pages of the job that it gives
-abbrev pub IsPreviewRun : Dpi → PageChoice → (given left old new : Option (List ℕ)) → Result (Unit {0}) Fault → Type 0
-IsPreviewRun dpi choice given left old new (Err Memory) = IsUnread given left old new Memory
-IsPreviewRun dpi choice given left old new (Err ReadFault) = IsUnread given left old new ReadFault
-IsPreviewRun dpi choice given left old new (Err TooLong) = IsUnread given left old new TooLong
-IsPreviewRun dpi choice given left old new shown =
-    (job : List ℕ) × IsRead given left job × IsPagesPreview dpi job choice old new shown
+abbrev pub IsPreviewRun : Profile → Dpi → PageChoice → (given left old new : Option (List ℕ)) → Result (Unit {0}) Fault → Type 0
+IsPreviewRun profile dpi choice given left old new (Err Memory) = IsUnread given left old new Memory
+IsPreviewRun profile dpi choice given left old new (Err ReadFault) = IsUnread given left old new ReadFault
+IsPreviewRun profile dpi choice given left old new (Err TooLong) = IsUnread given left old new TooLong
+IsPreviewRun profile dpi choice given left old new shown =
+    (job : List ℕ) × IsRead given left job × IsPagesPreview profile dpi job choice old new shown
 
 -- what a reader gave and a writer holds after a text was written, which says of the job that the reader gives what it is to say, or
 -- after that job was refused
@@ -72,8 +74,8 @@ abbrev pub NeverRefuses : List ℕ → Refusal → Type 0
 NeverRefuses job refusal = ⊥
 
 -- a text on the pages of a job comes of an accepted one
-abbrev pub TellsOfPages : Dpi → List ℕ → List ℕ → Type 0
-TellsOfPages dpi job text = IsAccepted dpi job
+abbrev pub TellsOfPages : Profile → Dpi → List ℕ → List ℕ → Type 0
+TellsOfPages profile dpi job text = IsAccepted profile dpi job
 
 -- a writer holds what is to be said of a kind of refusal, or a prefix of it where its write failed
 abbrev pub IsKindExplained : Kind → (old new : Option (List ℕ)) → Result (Unit {0}) Fault → Type 0
@@ -83,17 +85,19 @@ IsKindExplained kind old new done = (text : List ℕ) × ExplainsKind kind text 
 -- what was asked for is done, or failed so
 abbrev pub HasDoneTask : Task → Dpi → (given left old new : Option (List ℕ)) → Result (Unit {0}) Fault → Type 0
 HasDoneTask Minimize dpi given left old new done = IsFiltered dpi given left old new done
-HasDoneTask (Preview choice) dpi given left old new done = IsPreviewRun dpi choice given left old new done
-HasDoneTask Explain dpi given left old new done = IsTextRun (Explains dpi) NeverRefuses given left old new done
+HasDoneTask (Preview choice profile) dpi given left old new done = IsPreviewRun profile dpi choice given left old new done
+HasDoneTask (Explain profile) dpi given left old new done = IsTextRun (Explains profile dpi) NeverRefuses given left old new done
 HasDoneTask (ExplainKind kind) dpi given left old new done = (left ≡ given) × IsKindExplained kind old new done
-HasDoneTask (DescribePages layout) dpi given left old new done = IsTextRun (TellsOfPages dpi) (IsRefusal dpi) given left old new done
-HasDoneTask (Shrink report readers) dpi given left old new done = IsTextRun (IsWrittenFor readers dpi) (IsRefusal dpi) given left old new done
+HasDoneTask (DescribePages layout profile) dpi given left old new done =
+    IsTextRun (TellsOfPages profile dpi) (IsRefusalBy profile dpi) given left old new done
+HasDoneTask (Shrink report readers) dpi given left old new done =
+    IsTextRun (IsWrittenFor readers dpi) (IsRefusalBy Drivers dpi) given left old new done
 
 -- the job can't be read, or the task is done with the bytes of the job, at the first resolution at which that is accepted
 abbrev pub HasDoneFirst : Task → (given left old new : Option (List ℕ)) → Result (Unit {0}) Fault → Type 0
 HasDoneFirst task given left old new done =
     ((fault : Fault) × (done ≡ Err fault) × IsUnread given left old new fault)
-    ⊎ ((job : List ℕ) × (rest : Option (List ℕ)) × (dpi : Dpi) × IsRead given left job × IsFirstAccepted job dpi
+    ⊎ ((job : List ℕ) × (rest : Option (List ℕ)) × (dpi : Dpi) × IsRead given left job × IsFirstAccepted (task_profile task) job dpi
     × HasDoneTask task dpi (Some job) rest old new done)
 
 -- a job is shrunk for each resolution at which it is accepted

@@ -3,6 +3,7 @@
 ghost use Rattle.pcl_command.specs.Certifying.{HasCertified, HasCertifiedSeen, HasCertifiedTo};
 ghost use Rattle.pcl_command.specs.World.{world};
 
+use pcl_base::Profile;
 use pcl_cert::Format;
 use pcl_files::{Failure, JobFiles, outcome, settle_aside, settle_both};
 use pcl_page::first_accepted;
@@ -101,7 +102,7 @@ fn certify_seen<R: Read, W: Write, C: Write, P: Watcher>(
         }
         Resolution::FirstAccepted => {
             let job = read_all(alloc, reader, INPUT_LIMIT)?;
-            let dpi = first_accepted(alloc, &job)?;
+            let dpi = first_accepted(alloc, &job, Profile::Stated)?;
             let mut bytes: &[u8] = &job;
             filter_cert_watched(alloc, &mut bytes, dpi, format, out, aside, watcher)
         }

@@ -1,7 +1,7 @@
 //! What is said of a run besides what it writes.
 
 use itoa::Buffer;
-use pcl_base::{Dpi, JobFault};
+use pcl_base::{Dpi, JobFault, Profile};
 use pcl_files::Reporter;
 use pcl_page::page_count;
 use pcl_shrink::{Candidate, Doubt, Shrunk};
@@ -10,14 +10,15 @@ use std::alloc::{AllocError, Global};
 /// What is said of a job without pages.
 const NO_PAGE: &[u8] = b"pclmin: no page\n";
 
-/// Reports that a job has no page, if that is so.
+/// Reports that a job has no page by a profile, if that is so.
 pub fn report_no_page<P: Reporter>(
     alloc: Global,
     job: &[u8],
+    profile: Profile,
     dpi: Dpi,
     reporter: P,
 ) -> Result<(), AllocError> {
-    if count_pages(alloc, job, dpi)? == Some(0) {
+    if count_pages(alloc, job, profile, dpi)? == Some(0) {
         reporter.report(NO_PAGE);
     }
     Ok(())
@@ -57,8 +58,13 @@ fn shrunk_line(alloc: Global, len: usize, shrunk: &Shrunk) -> Result<Vec<u8>, Al
 }
 
 /// How many pages a job has; none where it is refused.
-fn count_pages(alloc: Global, job: &[u8], dpi: Dpi) -> Result<Option<usize>, AllocError> {
-    match page_count(alloc, job, dpi) {
+fn count_pages(
+    alloc: Global,
+    job: &[u8],
+    profile: Profile,
+    dpi: Dpi,
+) -> Result<Option<usize>, AllocError> {
+    match page_count(alloc, job, profile, dpi) {
         Ok(pages) => Ok(Some(pages)),
         Err(JobFault::Refused(_)) => Ok(None),
         Err(JobFault::Memory) => Err(AllocError),

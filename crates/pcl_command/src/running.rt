@@ -1,7 +1,8 @@
 //! A run: what is asked for is done, over any reader and writer.
 
 ghost use Rattle.std.specs.Prelude.{◌≡◌, if◌then◌else◌, None, Some};
-ghost use Rattle.pcl_page.specs.Delivering.{IsRefusal};
+ghost use Rattle.pcl_base.specs.declared.profile.Profile.TheVariants.{Drivers};
+ghost use Rattle.pcl_page.specs.Delivering.{IsRefusalBy};
 ghost use Rattle.pcl_explain.specs.Findings.{Explains};
 ghost use Rattle.pcl_shrink.specs.Shrinking.{IsWrittenFor, IsWrittenEverywhere, IsRefusedEverywhere};
 ghost use Rattle.pcl_command.specs.Runs.{HasCarriedOut, HasDone, HasDoneAccepted, HasDoneFirst, HasDoneSeen, HasDoneTask, HasEnded, HasWritten, HasWrittenTo, IsKindExplained, IsPreviewRun, IsTextRun, NeverRefuses, TellsOfPages};
@@ -11,7 +12,7 @@ use crate::certifying::certify;
 use crate::clashes::{clashes, refuse_clash};
 use crate::reporting::{report_no_page, report_shrunk};
 use pcl_answers::{Ending, check, compare, not_compared};
-use pcl_base::{Dpi, Kind};
+use pcl_base::{Dpi, Kind, Profile};
 use pcl_explain::{explanation, kind_explanation};
 use pcl_files::{Failure, JobFiles, Reporter, outcome, settle};
 use pcl_page::first_accepted;
@@ -202,7 +203,7 @@ fn do_accepted<R: Read, W: Write, P: Reporter>(
         }
         Task::Minimize
         | Task::Preview { .. }
-        | Task::Explain
+        | Task::Explain { .. }
         | Task::ExplainKind { .. }
         | Task::DescribePages { .. } => do_first(alloc, task, reader, out, watcher),
     }
@@ -219,7 +220,7 @@ fn do_first<R: Read, W: Write, P: Reporter>(
     ensures { HasDoneFirst task (R.remaining reader.old) (R.remaining reader.new) (W.contents out.old) (W.contents out.new) result }
 {
     let job = read_all(alloc, reader, INPUT_LIMIT)?;
-    let dpi = first_accepted(alloc, &job)?;
+    let dpi = first_accepted(alloc, &job, task.profile())?;
     let mut bytes: &[u8] = &job;
     do_task(alloc, task, dpi, &mut bytes, out, watcher)
 }
@@ -237,10 +238,12 @@ fn do_task<R: Read, W: Write, P: Reporter>(
 {
     match task {
         Task::Minimize => filter_watched(alloc, reader, dpi, out, watcher),
-        Task::Preview { choice } => show(alloc, choice, dpi, reader, out),
-        Task::Explain => explain(alloc, dpi, reader, out, watcher),
+        Task::Preview { choice, profile } => show(alloc, choice, profile, dpi, reader, out),
+        Task::Explain { profile } => explain(alloc, profile, dpi, reader, out, watcher),
         Task::ExplainKind { kind } => explain_kind(alloc, kind, out),
-        Task::DescribePages { layout } => describe(alloc, layout, dpi, reader, out, watcher),
+        Task::DescribePages { layout, profile } => {
+            describe(alloc, layout, profile, dpi, reader, out, watcher)
+        }
         Task::Shrink { report, readers } => {
             write_smaller(alloc, report, readers, dpi, reader, out, watcher)
         }
@@ -251,30 +254,32 @@ fn do_task<R: Read, W: Write, P: Reporter>(
 fn show<R: Read, W: Write>(
     alloc: Global,
     choice: PageChoice,
+    profile: Profile,
     dpi: Dpi,
     reader: &mut R,
     out: &mut W,
 ) -> Result<(), Fault>
-    ensures { IsPreviewRun dpi choice (R.remaining reader.old) (R.remaining reader.new) (W.contents out.old) (W.contents out.new) result }
+    ensures { IsPreviewRun profile dpi choice (R.remaining reader.old) (R.remaining reader.new) (W.contents out.old) (W.contents out.new) result }
 {
     let job = read_all(alloc, reader, INPUT_LIMIT)?;
-    preview_pages(alloc, &job, choice, dpi, out)
+    preview_pages(alloc, &job, choice, profile, dpi, out)
 }
 
 /// Writes what the rules refuse in the job that a reader gives, and what can be done. A job without pages is reported.
 fn explain<R: Read, W: Write, P: Reporter>(
     alloc: Global,
+    profile: Profile,
     dpi: Dpi,
     reader: &mut R,
     out: &mut W,
     reporter: P,
 ) -> Result<(), Fault>
-    ensures { IsTextRun (Explains dpi) NeverRefuses (R.remaining reader.old) (R.remaining reader.new)
+    ensures { IsTextRun (Explains profile dpi) NeverRefuses (R.remaining reader.old) (R.remaining reader.new)
         (W.contents out.old) (W.contents out.new) result }
 {
     let job = read_all(alloc, reader, INPUT_LIMIT)?;
-    let text = explanation(alloc, &job, dpi)?;
-    report_no_page(alloc, &job, dpi, reporter)?;
+    let text = explanation(alloc, &job, profile, dpi)?;
+    report_no_page(alloc, &job, profile, dpi, reporter)?;
     write_all(out, &text)
 }
 
@@ -290,17 +295,18 @@ fn explain_kind<W: Write>(alloc: Global, kind: Kind, out: &mut W) -> Result<(), 
 fn describe<R: Read, W: Write, P: Reporter>(
     alloc: Global,
     layout: Layout,
+    profile: Profile,
     dpi: Dpi,
     reader: &mut R,
     out: &mut W,
     reporter: P,
 ) -> Result<(), Fault>
-    ensures { IsTextRun (TellsOfPages dpi) (IsRefusal dpi) (R.remaining reader.old) (R.remaining reader.new)
+    ensures { IsTextRun (TellsOfPages profile dpi) (IsRefusalBy profile dpi) (R.remaining reader.old) (R.remaining reader.new)
         (W.contents out.old) (W.contents out.new) result }
 {
     let job = read_all(alloc, reader, INPUT_LIMIT)?;
-    let text = describe_pages(alloc, &job, dpi, layout)?;
-    report_no_page(alloc, &job, dpi, reporter)?;
+    let text = describe_pages(alloc, &job, profile, dpi, layout)?;
+    report_no_page(alloc, &job, profile, dpi, reporter)?;
     write_all(out, &text)
 }
 
@@ -315,7 +321,7 @@ fn write_smaller<R: Read, W: Write, P: Reporter>(
     out: &mut W,
     reporter: P,
 ) -> Result<(), Fault>
-    ensures { IsTextRun (IsWrittenFor readers dpi) (IsRefusal dpi) (R.remaining reader.old) (R.remaining reader.new)
+    ensures { IsTextRun (IsWrittenFor readers dpi) (IsRefusalBy Drivers dpi) (R.remaining reader.old) (R.remaining reader.new)
         (W.contents out.old) (W.contents out.new) result }
 {
     let job = read_all(alloc, reader, INPUT_LIMIT)?;

@@ -2,22 +2,23 @@
 use Rattle.std.specs.Prelude.{◌≡◌, ℕ, List, length, take, codes, Option, Some, None}
 use Rattle.pcl_base.specs.declared.dpi.Dpi.{Dpi}
 use Rattle.pcl_base.specs.declared.kind.Kind.{Kind}
+use Rattle.pcl_base.specs.declared.profile.Profile.{Profile}
 use Rattle.pcl_base.specs.declared.refusal.Refusal.{Refusal}
 use Rattle.pcl_base.specs.Refusal.{refusal_text}
 use Rattle.pcl_base.specs.Kind.{kind_name}
 use Rattle.pcl_page.specs.Accepting.{IsAccepted}
-use Rattle.pcl_page.specs.Delivering.{IsRefusal}
+use Rattle.pcl_page.specs.Delivering.{IsRefusalBy}
 use Rattle.pcl_explain.specs.declared.finding.Findings.{Findings}
 
--- the refusal of a job, or none where it is accepted
-abbrev pub IsFirstRefusal : Dpi → List ℕ → Option Refusal → Type 0
-IsFirstRefusal dpi job None = IsAccepted dpi job
-IsFirstRefusal dpi job (Some refusal) = IsRefusal dpi job refusal
+-- the refusal of a job by a profile, or none where it is accepted
+abbrev pub IsFirstRefusal : Profile → Dpi → List ℕ → Option Refusal → Type 0
+IsFirstRefusal profile dpi job None = IsAccepted profile dpi job
+IsFirstRefusal profile dpi job (Some refusal) = IsRefusalBy profile dpi job refusal
 
 -- nothing is found where the job is accepted; else first its refusal
-abbrev pub AreFindings : Dpi → List ℕ → Option Findings → Type 0
-AreFindings dpi job None = IsFirstRefusal dpi job None
-AreFindings dpi job (Some findings) = IsFirstRefusal dpi job (Some findings.first.refusal)
+abbrev pub AreFindings : Profile → Dpi → List ℕ → Option Findings → Type 0
+AreFindings profile dpi job None = IsFirstRefusal profile dpi job None
+AreFindings profile dpi job (Some findings) = IsFirstRefusal profile dpi job (Some findings.first.refusal)
 
 -- the text starts with these bytes
 abbrev pub StartsWith : List ℕ → List ℕ → Type 0
@@ -29,8 +30,8 @@ IsTextOn None text = text ≡ codes "nothing is refused\n"
 IsTextOn (Some findings) text = StartsWith (refusal_text findings.first.refusal) text
 
 -- what is said of a job
-abbrev pub Explains : Dpi → List ℕ → List ℕ → Type 0
-Explains dpi job text = (findings : Option Findings) × AreFindings dpi job findings × IsTextOn findings text
+abbrev pub Explains : Profile → Dpi → List ℕ → List ℕ → Type 0
+Explains profile dpi job text = (findings : Option Findings) × AreFindings profile dpi job findings × IsTextOn findings text
 
 -- what is said of a kind of refusal starts with its name
 abbrev pub ExplainsKind : Kind → List ℕ → Type 0

@@ -47,9 +47,9 @@ fn page_control(name: Name) -> Option<&'static str> {
         Name::Three(b'&', b'l', b'O') =>
             "orientation: portrait (0) alone is known; let the program or the driver turn the page",
         Name::Three(b'&', b'l', b'U') =>
-            "left offset: 0 alone is known; ghostscript's ljet3 and ljet4 send -180, so choose ljet2p",
+            "left offset: shrink, same, pages and batch know it on a page without marks; min, check and pbm know 0 alone",
         Name::Three(b'&', b'l', b'Z') =>
-            "top offset: 0 alone is known; ghostscript's ljet3 and ljet4 send 36, so choose ljet2p",
+            "top offset: shrink, same, pages and batch know it on a page without marks; min, check and pbm know 0 alone",
         Name::Three(b'&', b'l', b'T') =>
             "job separation: Brother's hl1250 and Apache FOP send it; choose ljet2p, or laserjet for 75 to 300 dots per inch",
         Name::Three(b'&', b'l', b'X') => "copies: 1 to 99 are known",

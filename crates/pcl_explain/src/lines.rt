@@ -8,15 +8,20 @@ use crate::languages::language_of;
 use crate::refusals::find_refusals;
 use crate::{Finding, Findings};
 use itoa::Buffer;
-use pcl_base::{Dpi, Kind, Sign, Value};
+use pcl_base::{Dpi, Kind, Profile, Sign, Value};
 use std::alloc::{AllocError, Global};
 
-/// A line for each thing that is refused in a job, or `nothing is refused`. One line is on the job's language where that is
+/// A line for each thing that a profile refuses in a job, or `nothing is refused`. One line is on the job's language where that is
 /// another than PCL 5.
-pub fn explanation(alloc: Global, job: &[u8], dpi: Dpi) -> Result<Vec<u8>, AllocError>
-    ensures { IfOk result (λ text. Explains dpi job.now text.items) }
+pub fn explanation(
+    alloc: Global,
+    job: &[u8],
+    profile: Profile,
+    dpi: Dpi,
+) -> Result<Vec<u8>, AllocError>
+    ensures { IfOk result (λ text. Explains profile dpi job.now text.items) }
 {
-    match find_refusals(alloc, job, dpi)? {
+    match find_refusals(alloc, job, profile, dpi)? {
         None => Vec::from_slice(alloc, b"nothing is refused\n"),
         Some(findings) => {
             let mut text = Vec::new(alloc);

@@ -6,9 +6,9 @@ ghost use Rattle.pcl_explain.specs.Findings.{AreFindings, IsFirstRefusal};
 use crate::sequences::blank_sequence;
 use crate::values::{leave_out_like_ones, refused_values};
 use crate::{Finding, Findings};
-use pcl_base::{Dpi, JobFault, Kind, Refusal};
+use pcl_base::{Dpi, JobFault, Kind, Profile, Refusal};
 use pcl_escape::{Command, read_job};
-use pcl_page::{Page, PageSink, page_count, run};
+use pcl_page::{Page, PageSink, page_count, run_asked};
 use std::alloc::{AllocError, Global};
 
 /// How many findings there are at most.
@@ -17,23 +17,38 @@ const FINDING_LIMIT: usize = 100;
 /// How often a job is performed at most after its first refusal.
 const PERFORMING_LIMIT: usize = 32;
 
-/// What the rules refuse in a job. That is the refusal of the job, and then that of the job without all commands like those that were
+/// By which rules a job is read.
+#[derive(Clone, Copy)]
+pub struct ReadAs {
+    /// Which commands it may have.
+    pub profile: Profile,
+    /// The resolution at which it is seen.
+    pub dpi: Dpi,
+}
+
+/// What the rules of a profile refuse in a job. That is the refusal of the job, and then that of the job without all commands like those that were
 /// refused before, up to 100 in all. Where a value is refused, the commands of its name with other values that are refused by themselves
 /// are found with it, so that the job is performed once for each name, and 32 times at most. None exactly where the job is accepted.
-pub fn find_refusals(alloc: Global, job: &[u8], dpi: Dpi) -> Result<Option<Findings>, AllocError>
-    ensures { IfOk result (λ findings. AreFindings dpi job.now findings) }
+pub fn find_refusals(
+    alloc: Global,
+    job: &[u8],
+    profile: Profile,
+    dpi: Dpi,
+) -> Result<Option<Findings>, AllocError>
+    ensures { IfOk result (λ findings. AreFindings profile dpi job.now findings) }
 {
-    match first_refusal(alloc, job, dpi)? {
+    let read_as = ReadAs { profile, dpi };
+    match first_refusal(alloc, job, read_as)? {
         None => Ok(None),
-        Some(refusal) => Ok(Some(findings_from(alloc, job, dpi, refusal)?)),
+        Some(refusal) => Ok(Some(findings_from(alloc, job, read_as, refusal)?)),
     }
 }
 
 /// The refusal of a job, if it has one.
-fn first_refusal(alloc: Global, job: &[u8], dpi: Dpi) -> Result<Option<Refusal>, AllocError>
-    ensures { IfOk result (λ refusal. IsFirstRefusal dpi job.now refusal) }
+fn first_refusal(alloc: Global, job: &[u8], read_as: ReadAs) -> Result<Option<Refusal>, AllocError>
+    ensures { IfOk result (λ refusal. IsFirstRefusal read_as.profile read_as.dpi job.now refusal) }
 {
-    match page_count(alloc, job, dpi) {
+    match page_count(alloc, job, read_as.profile, read_as.dpi) {
         Ok(_) => Ok(None),
         Err(JobFault::Refused(refusal)) => Ok(Some(refusal)),
         Err(JobFault::Memory) => Err(AllocError),
@@ -44,7 +59,7 @@ fn first_refusal(alloc: Global, job: &[u8], dpi: Dpi) -> Result<Option<Refusal>,
 fn findings_from(
     alloc: Global,
     job: &[u8],
-    dpi: Dpi,
+    read_as: ReadAs,
     refusal: Refusal,
 ) -> Result<Findings, AllocError>
     ensures { IfOk result (λ findings. findings.first.refusal ≡ refusal) }
@@ -52,14 +67,14 @@ fn findings_from(
     match read_job(alloc, job) {
         Ok(mut commands) => {
             let first = leave_out(&mut commands, refusal);
-            let with_first = leave_out_values(alloc, &mut commands, &first, dpi)?;
+            let with_first = leave_out_values(alloc, &mut commands, &first, read_as)?;
             Ok(Findings {
                 first,
-                later: later_findings(alloc, commands, job.len(), dpi, with_first)?,
+                later: later_findings(alloc, commands, job.len(), read_as, with_first)?,
             })
         }
         Err(JobFault::Refused(_)) => {
-            let unread = read_on(alloc, job, refusal, dpi)?;
+            let unread = read_on(alloc, job, refusal, read_as)?;
             Ok(Findings {
                 first: Finding {
                     refusal,
@@ -82,7 +97,12 @@ struct Unread {
 }
 
 /// Reads a job on after a sequence that can't be read, with it and later ones left out, as long as it is known where they end.
-fn read_on(alloc: Global, job: &[u8], first: Refusal, dpi: Dpi) -> Result<Unread, AllocError> {
+fn read_on(
+    alloc: Global,
+    job: &[u8],
+    first: Refusal,
+    read_as: ReadAs,
+) -> Result<Unread, AllocError> {
     let mut bytes = Vec::from_slice(alloc, job)?;
     let mut unread = Unread {
         times: 1,
@@ -97,7 +117,7 @@ fn read_on(alloc: Global, job: &[u8], first: Refusal, dpi: Dpi) -> Result<Unread
         match next_fault(alloc, &bytes, start)? {
             Some(refusal) => refused = refusal,
             None => {
-                unread.later = findings_of(alloc, &bytes, dpi, unread.later)?;
+                unread.later = findings_of(alloc, &bytes, read_as, unread.later)?;
                 return Ok(unread);
             }
         }
@@ -126,11 +146,11 @@ fn next_fault(alloc: Global, bytes: &[u8], from: usize) -> Result<Option<Refusal
 fn findings_of(
     alloc: Global,
     job: &[u8],
-    dpi: Dpi,
+    read_as: ReadAs,
     findings: Vec<Finding>,
 ) -> Result<Vec<Finding>, AllocError> {
     match read_job(alloc, job) {
-        Ok(commands) => later_findings(alloc, commands, job.len(), dpi, findings),
+        Ok(commands) => later_findings(alloc, commands, job.len(), read_as, findings),
         Err(JobFault::Refused(_)) => Ok(findings),
         Err(JobFault::Memory) => Err(AllocError),
     }
@@ -158,7 +178,7 @@ fn later_findings(
     alloc: Global,
     commands: Vec<Command<'_>>,
     end: usize,
-    dpi: Dpi,
+    read_as: ReadAs,
     before: Vec<Finding>,
 ) -> Result<Vec<Finding>, AllocError> {
     let mut left = commands;
@@ -167,7 +187,7 @@ fn later_findings(
         if findings.len() >= FINDING_LIMIT {
             break;
         }
-        let Some(refusal) = refusal_of(alloc, &left, end, dpi)? else {
+        let Some(refusal) = refusal_of(alloc, &left, end, read_as)? else {
             break;
         };
         let finding = leave_out(&mut left, refusal);
@@ -175,7 +195,7 @@ fn later_findings(
         if finding.value.is_none() {
             break;
         }
-        findings.extend_from_slice(&leave_out_values(alloc, &mut left, &finding, dpi)?)?;
+        findings.extend_from_slice(&leave_out_values(alloc, &mut left, &finding, read_as)?)?;
     }
     findings.truncate(FINDING_LIMIT - 1);
     Ok(findings)
@@ -187,12 +207,12 @@ fn leave_out_values(
     alloc: Global,
     commands: &mut Vec<Command<'_>>,
     finding: &Finding,
-    dpi: Dpi,
+    read_as: ReadAs,
 ) -> Result<Vec<Finding>, AllocError> {
     if finding.refusal.kind != Kind::UnsupportedValue {
         return Ok(Vec::new(alloc));
     }
-    let found = refused_values(alloc, commands, finding.refusal.name, dpi)?;
+    let found = refused_values(alloc, commands, finding.refusal.name, read_as)?;
     leave_out_like_ones(commands, &found);
     Ok(found)
 }
@@ -202,10 +222,17 @@ pub fn refusal_of(
     alloc: Global,
     commands: &[Command<'_>],
     end: usize,
-    dpi: Dpi,
+    read_as: ReadAs,
 ) -> Result<Option<Refusal>, AllocError> {
-    match run(alloc, commands, end, dpi, &mut Unseen) {
-        Ok(()) => Ok(None),
+    match run_asked(
+        alloc,
+        commands,
+        end,
+        read_as.profile,
+        read_as.dpi,
+        &mut Unseen,
+    ) {
+        Ok(_) => Ok(None),
         Err(JobFault::Refused(refusal)) => Ok(Some(refusal)),
         Err(JobFault::Memory) => Err(AllocError),
     }

@@ -1,8 +1,8 @@
 //! Values of commands that are refused by themselves.
 
 use crate::Finding;
-use crate::refusals::refusal_of;
-use pcl_base::{Dpi, Kind, Name, Refusal, Value};
+use crate::refusals::{ReadAs, refusal_of};
+use pcl_base::{Kind, Name, Refusal, Value};
 use pcl_escape::Command;
 use std::alloc::{AllocError, Global};
 
@@ -23,11 +23,11 @@ pub fn refused_values(
     alloc: Global,
     commands: &[Command<'_>],
     name: Name,
-    dpi: Dpi,
+    read_as: ReadAs,
 ) -> Result<Vec<Finding>, AllocError> {
     let mut found = Vec::new(alloc);
     for counted in count_values(alloc, commands, name)?.iter() {
-        if is_refused(alloc, name, *counted, dpi)? {
+        if is_refused(alloc, name, *counted, read_as)? {
             found.push(Finding {
                 refusal: Refusal::new(Kind::UnsupportedValue, counted.at, name),
                 value: Some(counted.value),
@@ -72,14 +72,19 @@ fn count_value(command: &Command<'_>, values: &mut Vec<Counted>) -> Result<(), A
 }
 
 /// Whether a command of a name and a value is refused for its value where it stands alone.
-fn is_refused(alloc: Global, name: Name, counted: Counted, dpi: Dpi) -> Result<bool, AllocError> {
+fn is_refused(
+    alloc: Global,
+    name: Name,
+    counted: Counted,
+    read_as: ReadAs,
+) -> Result<bool, AllocError> {
     let alone = Command {
         at: counted.at,
         name,
         value: counted.value,
         bytes: &[],
     };
-    match refusal_of(alloc, &[alone], counted.at.saturating_add(1), dpi)? {
+    match refusal_of(alloc, &[alone], counted.at.saturating_add(1), read_as)? {
         Some(refusal) => Ok(refusal.kind == Kind::UnsupportedValue),
         None => Ok(false),
     }

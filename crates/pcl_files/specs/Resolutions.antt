@@ -2,20 +2,23 @@
 use Rattle.std.specs.Prelude.{◌≡◌, ◌⊎◌, ℕ, List, Bool, true, false}
 use Rattle.pcl_base.specs.declared.dpi.Dpi.{Dpi}
 use Rattle.pcl_base.specs.declared.dpi.Dpi.TheVariants.{Dpi300, Dpi600}
+use Rattle.pcl_base.specs.declared.profile.Profile.{Profile}
+use Rattle.pcl_base.specs.declared.profile.Profile.TheVariants.{Drivers}
 use Rattle.pcl_page.specs.Accepting.{IsAccepted, IsRefused, IsFirstAccepted}
 use Rattle.pcl_request.specs.declared.request.Resolution.{Resolution}
 use Rattle.pcl_request.specs.declared.request.Resolution.TheVariants.{Given, FirstAccepted}
 
--- a job is seen at this
-abbrev pub IsSeenAt : Resolution → List ℕ → Dpi → Type 0
-IsSeenAt (Given dpi) job at = at ≡ dpi
-IsSeenAt FirstAccepted job at = IsFirstAccepted job at
+-- a job that is read by a profile is seen at this
+abbrev pub IsSeenAt : Resolution → Profile → List ℕ → Dpi → Type 0
+IsSeenAt (Given dpi) profile job at = at ≡ dpi
+IsSeenAt FirstAccepted profile job at = IsFirstAccepted profile job at
 
+-- the drivers' profile accepts both
 abbrev pub AreBothAccepted : Dpi → (first second : List ℕ) → Type 0
-AreBothAccepted dpi first second = IsAccepted dpi first × IsAccepted dpi second
+AreBothAccepted dpi first second = IsAccepted Drivers dpi first × IsAccepted Drivers dpi second
 
 abbrev pub IsOneRefused : Dpi → (first second : List ℕ) → Type 0
-IsOneRefused dpi first second = IsRefused dpi first ⊎ IsRefused dpi second
+IsOneRefused dpi first second = IsRefused Drivers dpi first ⊎ IsRefused Drivers dpi second
 
 abbrev pub SayIfAccepted : Dpi → (first second : List ℕ) → Bool → Type 0
 SayIfAccepted dpi first second true = AreBothAccepted dpi first second

@@ -3,22 +3,27 @@
 ghost use Rattle.std.specs.Prelude.{IfOk};
 ghost use Rattle.pcl_files.specs.Resolutions.{AreSeenAt, IsFirstCommon, IsSeenAt, SayIfAccepted};
 
-use pcl_base::Dpi;
+use pcl_base::{Dpi, Profile};
 use pcl_page::{first_accepted, is_accepted};
 use pcl_request::Resolution;
 use std::alloc::{AllocError, Global};
 
-/// The resolution at which a job is seen.
-pub fn resolve(alloc: Global, resolution: Resolution, job: &[u8]) -> Result<Dpi, AllocError>
-    ensures { IfOk result (λ dpi. IsSeenAt resolution job.now dpi) }
+/// The resolution at which a job is seen that is read by a profile.
+pub fn resolve(
+    alloc: Global,
+    resolution: Resolution,
+    profile: Profile,
+    job: &[u8],
+) -> Result<Dpi, AllocError>
+    ensures { IfOk result (λ dpi. IsSeenAt resolution profile job.now dpi) }
 {
     match resolution {
         Resolution::Given(dpi) => Ok(dpi),
-        Resolution::FirstAccepted => first_accepted(alloc, job),
+        Resolution::FirstAccepted => first_accepted(alloc, job, profile),
     }
 }
 
-/// The resolution at which two jobs are seen.
+/// The resolution at which two jobs are seen that are read by the drivers' profile.
 pub fn resolve_both(
     alloc: Global,
     resolution: Resolution,
@@ -46,7 +51,7 @@ fn first_common(alloc: Global, first: &[u8], second: &[u8]) -> Result<Dpi, Alloc
     Ok(Dpi::Dpi300)
 }
 
-/// Whether the rules accept two jobs.
+/// Whether the drivers' profile accepts two jobs.
 pub fn are_accepted(
     alloc: Global,
     first: &[u8],
@@ -55,8 +60,8 @@ pub fn are_accepted(
 ) -> Result<bool, AllocError>
     ensures { IfOk result (λ accepted. SayIfAccepted dpi first.now second.now accepted) }
 {
-    if is_accepted(alloc, first, dpi)? {
-        is_accepted(alloc, second, dpi)
+    if is_accepted(alloc, first, Profile::Drivers, dpi)? {
+        is_accepted(alloc, second, Profile::Drivers, dpi)
     } else {
         Ok(false)
     }

@@ -4,13 +4,15 @@ use Rattle.std.specs.Prelude.{Option, Some, None, Result, Ok, Err}
 use Rattle.std.specs.declared.alloc.AllocError.{AllocError}
 use Rattle.std.specs.Global.{Vec}
 use Rattle.pcl_base.specs.declared.dpi.Dpi.{Dpi}
+use Rattle.pcl_base.specs.declared.profile.Profile.{Profile}
+use Rattle.pcl_base.specs.declared.profile.Profile.TheVariants.{Drivers}
 use Rattle.pcl_base.specs.declared.refusal.Refusal.{Refusal}
 use Rattle.pcl_base.specs.Dpi.{dots_per_inch}
 use Rattle.pcl_base.specs.Kind.{kind_number}
 use Rattle.pcl_page.specs.Situation.{Sheet}
-use Rattle.pcl_page.specs.Jobs.{HasPages}
+use Rattle.pcl_page.specs.Jobs.{HasPagesBy}
 use Rattle.pcl_page.specs.Accepting.{IsAccepted}
-use Rattle.pcl_page.specs.Delivering.{IsRefusal}
+use Rattle.pcl_page.specs.Delivering.{IsRefusalBy}
 use Rattle.pcl_cert.specs.declared.format.Format.{Format}
 use Rattle.pcl_streams.specs.declared.fault.Fault.TheVariants as run
 use Rattle.pcl_tool.specs.declared.job_verdict.JobVerdict.{JobVerdict}
@@ -75,24 +77,24 @@ Tells other page answer = answer.outcome ≡ outcome_of other
 
 -- ---- calls on one job
 
--- what an answer tells at a resolution: of a call that is done this holds, a refusal is the job's, and no argument is wrong; no page is
--- missing, since none is asked for
-pub record AnswersAt (dpi : Dpi) (job : List ℕ) (Done : Answer → Type 0) (answer : Answer) : Type 0 where
+-- what an answer tells at a resolution of a job that is read by a profile: of a call that is done this holds, a refusal is the job's, and no
+-- argument is wrong; no page is missing, since none is asked for
+pub record AnswersAt (profile : Profile) (dpi : Dpi) (job : List ℕ) (Done : Answer → Type 0) (answer : Answer) : Type 0 where
   pub performed : IsPerformed answer.outcome
   pub no_page : answer.outcome ≢ 2
   pub done : answer.outcome ≡ 0 → (answer.resolution ≡ dots_per_inch dpi) × Done answer
-  pub refused : answer.outcome ≡ 1 → (refusal : Refusal) × IsRefusal dpi job refusal × TellsRefusal refusal answer
+  pub refused : answer.outcome ≡ 1 → (refusal : Refusal) × IsRefusalBy profile dpi job refusal × TellsRefusal refusal answer
 
 -- the same at the resolution at which the job is seen by a number
-pub record Answers (number : ℕ) (job : List ℕ) (Done : Dpi → Answer → Type 0) (answer : Answer) : Type 0 where
+pub record Answers (profile : Profile) (number : ℕ) (job : List ℕ) (Done : Dpi → Answer → Type 0) (answer : Answer) : Type 0 where
   pub no_page : answer.outcome ≢ 2
-  pub done : answer.outcome ≡ 0 → (dpi : Dpi) × IsSeen number job dpi × (answer.resolution ≡ dots_per_inch dpi) × Done dpi answer
+  pub done : answer.outcome ≡ 0 → (dpi : Dpi) × IsSeen profile number job dpi × (answer.resolution ≡ dots_per_inch dpi) × Done dpi answer
   pub refused : answer.outcome ≡ 1
-      → (dpi : Dpi) × IsSeen number job dpi × ((refusal : Refusal) × IsRefusal dpi job refusal × TellsRefusal refusal answer)
+      → (dpi : Dpi) × IsSeen profile number job dpi × ((refusal : Refusal) × IsRefusalBy profile dpi job refusal × TellsRefusal refusal answer)
 
 -- the images of these pages, one after the other
 abbrev pub HasChosenImages : List ℕ → PageChoice → Dpi → Answer → Type 0
-HasChosenImages job choice dpi answer = AreImagesOf dpi job choice answer.made.now
+HasChosenImages job choice dpi answer = AreImagesOf Drivers dpi job choice answer.made.now
 
 -- the same of the pages from one number to another
 abbrev pub HasImages : List ℕ → (first last : ℕ) → Dpi → Answer → Type 0
@@ -100,11 +102,11 @@ HasImages job first last dpi answer = (choice : PageChoice) × IsChoiceFor first
 
 -- one of these pages, of which this is the last, is missing in an accepted job, as the program says
 abbrev pub LacksChosenAt : Dpi → List ℕ → PageChoice → ℕ → Answer → Type 0
-LacksChosenAt dpi job choice last answer = LacksPage dpi job choice × IsLine (line_of run.NoSuchPage last) answer.line.now
+LacksChosenAt dpi job choice last answer = LacksPage Drivers dpi job choice × IsLine (line_of run.NoSuchPage last) answer.line.now
 
 -- the same at the resolution at which the job is seen by a number
 abbrev pub LacksChosen : ℕ → List ℕ → PageChoice → ℕ → Answer → Type 0
-LacksChosen number job choice last answer = (dpi : Dpi) × IsSeen number job dpi × LacksChosenAt dpi job choice last answer
+LacksChosen number job choice last answer = (dpi : Dpi) × IsSeen Drivers number job dpi × LacksChosenAt dpi job choice last answer
 
 -- the same of the pages from one number to another
 abbrev pub LacksPages : ℕ → List ℕ → (first last : ℕ) → Answer → Type 0
@@ -115,14 +117,14 @@ LacksPages number job first last answer =
 pub record ShowsAt (dpi : Dpi) (job : List ℕ) (choice : PageChoice) (last : ℕ) (answer : Answer) : Type 0 where
   pub performed : IsPerformed answer.outcome
   pub done : answer.outcome ≡ 0 → (answer.resolution ≡ dots_per_inch dpi) × HasChosenImages job choice dpi answer
-  pub refused : answer.outcome ≡ 1 → (refusal : Refusal) × IsRefusal dpi job refusal × TellsRefusal refusal answer
+  pub refused : answer.outcome ≡ 1 → (refusal : Refusal) × IsRefusalBy Drivers dpi job refusal × TellsRefusal refusal answer
   pub missing : answer.outcome ≡ 2 → LacksChosenAt dpi job choice last answer
 
 -- the same at the resolution at which the job is seen by a number, where these images and these missing pages are asked for
 pub record Shows (number : ℕ) (job : List ℕ) (Done : Dpi → Answer → Type 0) (Missing : Answer → Type 0) (answer : Answer) : Type 0 where
-  pub done : answer.outcome ≡ 0 → (dpi : Dpi) × IsSeen number job dpi × (answer.resolution ≡ dots_per_inch dpi) × Done dpi answer
+  pub done : answer.outcome ≡ 0 → (dpi : Dpi) × IsSeen Drivers number job dpi × (answer.resolution ≡ dots_per_inch dpi) × Done dpi answer
   pub refused : answer.outcome ≡ 1
-      → (dpi : Dpi) × IsSeen number job dpi × ((refusal : Refusal) × IsRefusal dpi job refusal × TellsRefusal refusal answer)
+      → (dpi : Dpi) × IsSeen Drivers number job dpi × ((refusal : Refusal) × IsRefusalBy Drivers dpi job refusal × TellsRefusal refusal answer)
   pub missing : answer.outcome ≡ 2 → Missing answer
 
 -- a least raster job of the job's pages, and where one of a format is asked for its certificate, which a check reads
@@ -141,15 +143,15 @@ HasSmallerJob job dpi answer = IsWrittenFor Printers dpi job answer.made.now
 
 -- the number of the job's pages
 abbrev pub HasPageCount : List ℕ → Dpi → Answer → Type 0
-HasPageCount job dpi answer = (pages : List Sheet) × HasPages dpi job pages × (length pages ≡ answer.pages)
+HasPageCount job dpi answer = (pages : List Sheet) × HasPagesBy Drivers dpi job pages × (length pages ≡ answer.pages)
 
 -- the job is accepted; of the text on its pages nothing is said
 abbrev pub IsOfAccepted : List ℕ → Dpi → Answer → Type 0
-IsOfAccepted job dpi answer = IsAccepted dpi job
+IsOfAccepted job dpi answer = IsAccepted Drivers dpi job
 
 -- a text on the refusal of the job, or that there is none
 abbrev pub HasExplanation : List ℕ → Dpi → Answer → Type 0
-HasExplanation job dpi answer = Explains dpi job answer.made.now
+HasExplanation job dpi answer = Explains Drivers dpi job answer.made.now
 
 -- the right verdict on a job, its output and a certificate; it holds where that is Proved
 pub record HasVerdict (input output certificate : List ℕ) (dpi : Dpi) (answer : Answer) : Type 0 where
@@ -170,8 +172,8 @@ pub record HasComparison (first second : List ℕ) (dpi : Dpi) (answer : Answer)
 -- one of two jobs is refused, and which
 abbrev pub TellsOneRefused : Dpi → (first second : List ℕ) → Answer → Type 0
 TellsOneRefused dpi first second answer =
-    ((refusal : Refusal) × IsRefusal dpi first refusal × TellsRefusalOf First refusal answer)
-    ⊎ ((refusal : Refusal) × IsRefusal dpi second refusal × TellsRefusalOf Second refusal answer)
+    ((refusal : Refusal) × IsRefusalBy Drivers dpi first refusal × TellsRefusalOf First refusal answer)
+    ⊎ ((refusal : Refusal) × IsRefusalBy Drivers dpi second refusal × TellsRefusalOf Second refusal answer)
 
 -- what an answer tells at a resolution
 pub record ComparesAt (dpi : Dpi) (first second : List ℕ) (answer : Answer) : Type 0 where

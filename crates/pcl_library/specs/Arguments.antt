@@ -3,6 +3,7 @@ use Rattle.std.specs.Prelude.{◌≡◌, ◌≢◌, ◌⊎◌, ◌↔◌, ℕ, �
 use Rattle.pcl_base.specs.Limits.{input_limit, page_limit}
 use Rattle.pcl_base.specs.declared.dpi.Dpi.{Dpi}
 use Rattle.pcl_base.specs.declared.dpi.Dpi.TheVariants.{Dpi300, Dpi600}
+use Rattle.pcl_base.specs.declared.profile.Profile.{Profile}
 use Rattle.pcl_cert.specs.declared.format.Format.{Format}
 use Rattle.pcl_cert.specs.declared.format.Format.TheVariants.{One, Two}
 use Rattle.pcl_streams.specs.declared.fault.Fault.TheVariants as run
@@ -24,9 +25,9 @@ resolution_number (Given Dpi300) = 300
 resolution_number (Given Dpi600) = 600
 resolution_number FirstAccepted = 0
 
--- a job is seen at this by the resolution of a number
-abbrev pub IsSeen : ℕ → List ℕ → Dpi → Type 0
-IsSeen number job dpi = (asked : Resolution) × (resolution_number asked ≡ number) × IsSeenAt asked job dpi
+-- a job that is read by a profile is seen at this by the resolution of a number
+abbrev pub IsSeen : Profile → ℕ → List ℕ → Dpi → Type 0
+IsSeen profile number job dpi = (asked : Resolution) × (resolution_number asked ≡ number) × IsSeenAt asked profile job dpi
 
 -- two jobs are
 abbrev pub AreSeen : ℕ → (first second : List ℕ) → Dpi → Type 0

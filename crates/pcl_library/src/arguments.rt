@@ -6,23 +6,23 @@ ghost use Rattle.pcl_library.specs.Arguments.{IsWithinLimit, IsResolutionOf, IsC
 ghost use Rattle.pcl_library.specs.Failures.{IsUnperformed};
 
 use crate::failure::{Argument, Failure};
-use pcl_base::{Dpi, PAGE_LIMIT};
+use pcl_base::{Dpi, PAGE_LIMIT, Profile};
 use pcl_cert::Format;
 use pcl_files::{resolve, resolve_both};
 use pcl_request::Resolution;
 use pcl_tool::{Fault, INPUT_LIMIT, PageChoice};
 use std::alloc::Global;
 
-/// The resolution at which a job is seen by the number of one: 300 or 600 dots per inch, or 0 for the first of these at which the
+/// The resolution at which a job that is read by a profile is seen by the number of one: 300 or 600 dots per inch, or 0 for the first of these at which the
 /// job is accepted.
-pub fn seen_at(alloc: Global, job: &[u8], resolution: u32) -> Result<Dpi, Failure>
-    ensures seen { IfOk result (IsSeen resolution job.now) }
+pub fn seen_at(alloc: Global, job: &[u8], profile: Profile, resolution: u32) -> Result<Dpi, Failure>
+    ensures seen { IfOk result (IsSeen profile resolution job.now) }
     ensures unperformed { IfErr result IsUnperformed }
     ensures arguments { FailsBy (IsNoResolution resolution) (IsTooLong job.now) (outcome_in result) }
 {
     let asked = resolution_numbered(resolution)?;
     within_limit(job)?;
-    Ok(resolve(alloc, asked, job)?)
+    Ok(resolve(alloc, asked, profile, job)?)
 }
 
 /// The same of two jobs; 0 is for the first resolution at which both are accepted.

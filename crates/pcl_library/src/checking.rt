@@ -1,6 +1,7 @@
 //! A written job checked beside its input, by a certificate from anybody.
 
 ghost use Rattle.std.specs.Prelude.{◌⊎◌, IfOk, IfErr};
+ghost use Rattle.pcl_base.specs.declared.profile.Profile.TheVariants.{Stated};
 ghost use Rattle.pcl_library.specs.Arguments.{IsSeen, IsNoResolution, IsTooLong, FailsBy, outcome_in};
 ghost use Rattle.pcl_library.specs.Failures.{IsUnperformed};
 ghost use Rattle.pcl_library.specs.Answers.{Answers, AnswersAt, HasVerdict};
@@ -9,7 +10,7 @@ use crate::answer::Answer;
 use crate::arguments::{resolution_numbered, within_limit};
 use crate::failure::Failure;
 use pcl_answers::verdict_line;
-use pcl_base::Dpi;
+use pcl_base::{Dpi, Profile};
 use pcl_files::resolve;
 use pcl_tool::{JobVerdict, check_job};
 use std::alloc::Global;
@@ -25,7 +26,7 @@ pub extern "C" fn pcl_library_check(
     resolution: u32,
     answer: &mut Answer,
 )
-    ensures told { Answers resolution input.now (HasVerdict input.now output.now certificate.now) answer.new }
+    ensures told { Answers Stated resolution input.now (HasVerdict input.now output.now certificate.now) answer.new }
     ensures arguments { FailsBy
         (IsNoResolution resolution)
         (IsTooLong input.now ⊎ IsTooLong output.now ⊎ IsTooLong certificate.now)
@@ -45,7 +46,7 @@ fn checked_at(
     certificate: &[u8],
     resolution: u32,
 ) -> Result<Dpi, Failure>
-    ensures seen { IfOk result (IsSeen resolution input.now) }
+    ensures seen { IfOk result (IsSeen Stated resolution input.now) }
     ensures unperformed { IfErr result IsUnperformed }
     ensures arguments { FailsBy
         (IsNoResolution resolution)
@@ -56,12 +57,12 @@ fn checked_at(
     within_limit(input)?;
     within_limit(output)?;
     within_limit(certificate)?;
-    Ok(resolve(alloc, asked, input)?)
+    Ok(resolve(alloc, asked, Profile::Stated, input)?)
 }
 
 /// What the checker answers.
 fn check_answer(alloc: Global, input: &[u8], output: &[u8], certificate: &[u8], dpi: Dpi) -> Answer
-    ensures { AnswersAt dpi input.now (HasVerdict input.now output.now certificate.now dpi) result }
+    ensures { AnswersAt Stated dpi input.now (HasVerdict input.now output.now certificate.now dpi) result }
 {
     match check_job(alloc, input, output, certificate, dpi) {
         Ok(verdict) => {

@@ -1,13 +1,14 @@
 //! Jobs written again.
 
 ghost use Rattle.std.specs.Prelude.{◌⊎◌, Some, None};
+ghost use Rattle.pcl_base.specs.declared.profile.Profile.TheVariants.{Stated, Drivers};
 ghost use Rattle.pcl_library.specs.Arguments.{IsNoResolution, IsNoFormat, IsTooLong, FailsBy};
 ghost use Rattle.pcl_library.specs.Answers.{Answers, AnswersAt, HasLeastJob, HasWrittenJob, HasSmallerJob};
 
 use crate::answer::Answer;
 use crate::arguments::{format_numbered, seen_at};
 use crate::failure::Failure;
-use pcl_base::Dpi;
+use pcl_base::{Dpi, Profile};
 use pcl_cert::Format;
 use pcl_shrink::{Readers, shrink};
 use pcl_tool::{Fault, INPUT_LIMIT, Unwatched, least_job, minimize};
@@ -22,7 +23,7 @@ pub extern "C" fn pcl_library_min(
     format: u32,
     answer: &mut Answer,
 )
-    ensures told { Answers resolution job.now (HasWrittenJob job.now format) answer.new }
+    ensures told { Answers Stated resolution job.now (HasWrittenJob job.now format) answer.new }
     ensures arguments { FailsBy (IsNoResolution resolution ⊎ IsNoFormat format) (IsTooLong job.now) answer.new.outcome }
 {
     *answer = match format_numbered(format) {
@@ -33,10 +34,10 @@ pub extern "C" fn pcl_library_min(
 
 /// A least raster job, with a certificate where a format is given.
 fn min_answer(alloc: Global, job: &[u8], resolution: u32, format: Option<Format>) -> Answer
-    ensures told { Answers resolution job.now (HasLeastJob job.now format) result }
+    ensures told { Answers Stated resolution job.now (HasLeastJob job.now format) result }
     ensures arguments { FailsBy (IsNoResolution resolution) (IsTooLong job.now) result.outcome }
 {
-    match seen_at(alloc, job, resolution) {
+    match seen_at(alloc, job, Profile::Stated, resolution) {
         Ok(dpi) => written_answer(alloc, job, format, dpi),
         Err(failure) => Answer::of_failure(alloc, &failure, 0),
     }
@@ -44,7 +45,7 @@ fn min_answer(alloc: Global, job: &[u8], resolution: u32, format: Option<Format>
 
 /// The same at a resolution.
 fn written_answer(alloc: Global, job: &[u8], format: Option<Format>, dpi: Dpi) -> Answer
-    ensures { AnswersAt dpi job.now (HasLeastJob job.now format dpi) result }
+    ensures { AnswersAt Stated dpi job.now (HasLeastJob job.now format dpi) result }
 {
     match format {
         Some(format) => certified_answer(alloc, job, format, dpi),
@@ -54,7 +55,7 @@ fn written_answer(alloc: Global, job: &[u8], format: Option<Format>, dpi: Dpi) -
 
 /// A least raster job.
 fn least_answer(alloc: Global, job: &[u8], dpi: Dpi) -> Answer
-    ensures { AnswersAt dpi job.now (HasLeastJob job.now None dpi) result }
+    ensures { AnswersAt Stated dpi job.now (HasLeastJob job.now None dpi) result }
 {
     match least_job(alloc, job, dpi, Unwatched) {
         Ok(least) => Answer::of_bytes(least, dpi),
@@ -64,7 +65,7 @@ fn least_answer(alloc: Global, job: &[u8], dpi: Dpi) -> Answer
 
 /// A least raster job and its certificate, where that has no more bytes than a check reads.
 fn certified_answer(alloc: Global, job: &[u8], format: Format, dpi: Dpi) -> Answer
-    ensures { AnswersAt dpi job.now (HasLeastJob job.now (Some format) dpi) result }
+    ensures { AnswersAt Stated dpi job.now (HasLeastJob job.now (Some format) dpi) result }
 {
     match minimize(alloc, job, dpi, format) {
         Ok(output) => {
@@ -86,10 +87,10 @@ pub extern "C" fn pcl_library_shrink(
     resolution: u32,
     answer: &mut Answer,
 )
-    ensures told { Answers resolution job.now (HasSmallerJob job.now) answer.new }
+    ensures told { Answers Drivers resolution job.now (HasSmallerJob job.now) answer.new }
     ensures arguments { FailsBy (IsNoResolution resolution) (IsTooLong job.now) answer.new.outcome }
 {
-    *answer = match seen_at(alloc, job, resolution) {
+    *answer = match seen_at(alloc, job, Profile::Drivers, resolution) {
         Ok(dpi) => shrink_answer(alloc, job, dpi),
         Err(failure) => Answer::of_failure(alloc, &failure, 0),
     };
@@ -97,7 +98,7 @@ pub extern "C" fn pcl_library_shrink(
 
 /// The smallest job that is found, for printers.
 fn shrink_answer(alloc: Global, job: &[u8], dpi: Dpi) -> Answer
-    ensures { AnswersAt dpi job.now (HasSmallerJob job.now dpi) result }
+    ensures { AnswersAt Drivers dpi job.now (HasSmallerJob job.now dpi) result }
 {
     match shrink(alloc, job, dpi, Readers::Printers) {
         Ok(shrunk) => Answer::of_bytes(shrunk.job, dpi),

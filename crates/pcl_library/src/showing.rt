@@ -1,6 +1,7 @@
 //! Images of pages.
 
 ghost use Rattle.std.specs.Prelude.{◌⊎◌};
+ghost use Rattle.pcl_base.specs.declared.profile.Profile.TheVariants.{Drivers};
 ghost use Rattle.pcl_streams.specs.PageImages.{ArePageImages};
 ghost use Rattle.pcl_library.specs.Arguments.{IsNoResolution, AreNoPages, IsTooLong, FailsBy};
 ghost use Rattle.pcl_library.specs.Answers.{Shows, ShowsAt, HasImages, HasChosenImages, LacksPages, LacksChosen};
@@ -8,7 +9,7 @@ ghost use Rattle.pcl_library.specs.Answers.{Shows, ShowsAt, HasImages, HasChosen
 use crate::answer::Answer;
 use crate::arguments::{pages_between, seen_at};
 use crate::failure::Failure;
-use pcl_base::Dpi;
+use pcl_base::{Dpi, Profile};
 use pcl_tool::{Fault, PageChoice, preview_pages};
 use std::alloc::Global;
 
@@ -43,7 +44,7 @@ fn preview_answer(
     ensures told { Shows resolution job.now (HasChosenImages job.now choice) (LacksChosen resolution job.now choice last) result }
     ensures arguments { FailsBy (IsNoResolution resolution) (IsTooLong job.now) result.outcome }
 {
-    match seen_at(alloc, job, resolution) {
+    match seen_at(alloc, job, Profile::Drivers, resolution) {
         Ok(dpi) => chosen_answer(alloc, job, choice, last, dpi),
         Err(failure) => Answer::of_failure(alloc, &failure, 0),
     }
@@ -61,10 +62,10 @@ fn chosen_answer(alloc: Global, job: &[u8], choice: PageChoice, last: u32, dpi: 
 
 /// The same in memory, where a write fails for want of it.
 fn images(alloc: Global, job: &[u8], choice: PageChoice, dpi: Dpi) -> Result<Vec<u8>, Fault>
-    ensures { ArePageImages dpi job.now choice result }
+    ensures { ArePageImages Drivers dpi job.now choice result }
 {
     let mut images = Vec::new(alloc);
-    match preview_pages(alloc, job, choice, dpi, &mut images) {
+    match preview_pages(alloc, job, choice, Profile::Drivers, dpi, &mut images) {
         Ok(()) => Ok(images),
         Err(Fault::WriteFault) => Err(Fault::Memory),
         Err(fault) => Err(fault),

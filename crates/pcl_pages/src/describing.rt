@@ -4,27 +4,28 @@ ghost use Rattle.pcl_pages.specs.Describing.{IsDescribed};
 
 use crate::facts::{JobFacts, PageFacts};
 use crate::lines::table;
-use pcl_base::{Dpi, JobFault};
+use pcl_base::{Dpi, JobFault, Profile};
 use pcl_page::{Page, PageSink, perform_asked};
 use pcl_request::Layout;
 use std::alloc::{AllocError, Global};
 use std::marker::Model;
 
-/// A text on the pages of a job. Of each page it has the number, the resolution, the size, the copies, the sides and the paper source
+/// A text on the pages of a job, by a profile. Of each page it has the number, the resolution, the size, the copies, the sides and the paper source
 /// that the job asks for, how many of its dots are black, the bytes of its least page text (docs/OUTPUT.md), and how many of these are
 /// row data of each method; last come the sums. A refusal is the job's.
 pub fn describe_pages(
     alloc: Global,
     job: &[u8],
+    profile: Profile,
     dpi: Dpi,
     layout: Layout,
 ) -> Result<Vec<u8>, JobFault>
-    ensures { IsDescribed dpi job.now result }
+    ensures { IsDescribed profile dpi job.now result }
 {
     let mut collected = Collected {
         pages: Vec::new(alloc),
     };
-    let asks = perform_asked(alloc, job, dpi, &mut collected)?;
+    let asks = perform_asked(alloc, job, profile, dpi, &mut collected)?;
     let facts = JobFacts::new(alloc, dpi, collected.pages, &asks)?;
     Ok(laid_out(alloc, &facts, layout)?)
 }

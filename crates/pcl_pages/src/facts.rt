@@ -8,6 +8,9 @@ use pcl_writer::write_page;
 use serde::Serialize;
 use std::alloc::{AllocError, Global};
 
+/// Ten-thousandths of a decipoint in a unit of 1/7200 inch.
+const OFFSET_PARTS: i64 = 1_000;
+
 /// How many bytes of row data go by each method.
 #[derive(Clone, Copy, Serialize)]
 pub struct DataBytes {
@@ -87,6 +90,10 @@ pub struct PageFacts {
     pub media_type: Option<i64>,
     /// The front or the back of a sheet, where the job asks for it (`&aG`).
     pub sheet_side: Option<i64>,
+    /// How far the page is moved to the right on its sheet, where the job says so (`&lU`), in units of 1/7200 inch.
+    pub left_offset: Option<i64>,
+    /// How far it is moved down, where the job says so (`&lZ`), in the same.
+    pub top_offset: Option<i64>,
     pub dots: u64,
     pub black_dots: u64,
     /// The bytes of its least page text (docs/OUTPUT.md).
@@ -110,6 +117,8 @@ impl PageFacts {
             output_bin: None,
             media_type: None,
             sheet_side: None,
+            left_offset: None,
+            top_offset: None,
             dots: u64::from(page.size.width(page.dpi)) * u64::from(page.size.height(page.dpi)),
             black_dots: black_dots(page),
             bytes: text.len(),
@@ -125,6 +134,8 @@ impl PageFacts {
             output_bin: asked.said.output_bin,
             media_type: asked.said.media_type,
             sheet_side: asked.start.sheet_side,
+            left_offset: units_of(asked.said.left_offset),
+            top_offset: units_of(asked.said.top_offset),
             ..self
         }
     }
@@ -234,6 +245,11 @@ fn exits_of(alloc: Global, exits: &[Exit<'_>]) -> Result<Vec<ExitFacts>, AllocEr
         facts.push(ExitFacts::of_exit(alloc, exit)?)?;
     }
     Ok(facts)
+}
+
+/// An offset in whole units of 1/7200 inch.
+fn units_of(offset: Option<i64>) -> Option<i64> {
+    Some(offset? / OFFSET_PARTS)
 }
 
 /// How many dots of a page are black.

@@ -2,6 +2,8 @@
 use Rattle.std.specs.Prelude.{◌≡◌, ℕ, Bool, true, false, ◌&&◌, List, Option, Some, None, codes}
 use Rattle.std.specs.Borrow.{Bor}
 use Rattle.pcl_base.specs.declared.dpi.Dpi.TheVariants.{Dpi300, Dpi600}
+use Rattle.pcl_base.specs.declared.profile.Profile.{Profile}
+use Rattle.pcl_base.specs.declared.profile.Profile.TheVariants.{Stated, Drivers}
 use Rattle.pcl_streams.specs.PageImages.{last_page}
 use Rattle.pcl_request.specs.declared.request.Beside.{Beside}
 use Rattle.pcl_request.specs.declared.request.Beside.TheVariants.{Input, Images}
@@ -14,14 +16,22 @@ use Rattle.pcl_request.specs.declared.request.Source.TheVariants as source
 use Rattle.pcl_request.specs.declared.request.Target.{Target}
 use Rattle.pcl_request.specs.declared.request.Target.TheVariants as target
 use Rattle.pcl_request.specs.declared.request.Task.{Task}
-use Rattle.pcl_request.specs.declared.request.Task.TheVariants.{Preview, Explain, ExplainKind, DescribePages}
+use Rattle.pcl_request.specs.declared.request.Task.TheVariants.{Preview, Explain, ExplainKind, DescribePages, Shrink}
 use Rattle.pcl_request.specs.declared.request.Work.{Work}
 use Rattle.pcl_request.specs.declared.request.Work.TheVariants as work
 
 -- the last page that is asked for by its number, 0 where none is
 abbrev pub task_page : Task → ℕ
-task_page (Preview choice) = last_page choice
+task_page (Preview choice profile) = last_page choice
 task_page other = 0
+
+-- by which profile the job is read
+abbrev pub task_profile : Task → Profile
+task_profile (Preview choice profile) = profile
+task_profile (Explain profile) = profile
+task_profile (DescribePages layout profile) = profile
+task_profile (Shrink report readers) = Drivers
+task_profile other = Stated
 
 abbrev pub page_of : Work → ℕ
 page_of (work.Task task) = task_page task
@@ -29,9 +39,9 @@ page_of (work.Certify certificate) = 0
 
 -- a job or an image is made, and not a text
 abbrev pub makes_raw : Task → Bool
-makes_raw Explain = false
+makes_raw (Explain profile) = false
 makes_raw (ExplainKind kind) = false
-makes_raw (DescribePages layout) = false
+makes_raw (DescribePages layout profile) = false
 makes_raw other = true
 
 abbrev pub has_raw : Work → Bool

@@ -1,6 +1,7 @@
 //! What a batch is asked for.
 
 use crate::request::Resolution;
+use pcl_base::Profile;
 use pcl_page::Readers;
 
 /// How each job is written again.
@@ -12,6 +13,16 @@ pub enum Rewriting {
     ShrinkEverywhere(Readers),
     /// As the least raster job, with a certificate of the first format in a file of its own.
     Certify,
+}
+
+impl Rewriting {
+    /// By which profile jobs are read.
+    pub fn profile(self) -> Profile {
+        match self {
+            Rewriting::Shrink(_) | Rewriting::ShrinkEverywhere(_) => Profile::Drivers,
+            Rewriting::Certify => Profile::Stated,
+        }
+    }
 }
 
 /// Where what is written of a job goes. Of a job whose file is called `NAME` that is a file `NAME`, its digests `NAME.sha256`, and

@@ -1,10 +1,10 @@
 //! What the program is asked for.
 
 ghost use Rattle.std.specs.Prelude.{◌≡◌, ◌&&◌, MatchOption};
-ghost use Rattle.pcl_request.specs.Requests.{IsWordFor, aside_of, certificate_file, first_job, has_raw, is_standard_output, makes_raw, page_of, performed, second_job, source_file, target_file, task_page, writes_raw};
+ghost use Rattle.pcl_request.specs.Requests.{IsWordFor, aside_of, certificate_file, first_job, has_raw, is_standard_output, makes_raw, page_of, performed, second_job, source_file, target_file, task_page, task_profile, writes_raw};
 ghost use Rattle.pcl_request.specs.declared.request.Resolution.{Resolution};
 
-use pcl_base::{Dpi, Kind};
+use pcl_base::{Dpi, Kind, Profile};
 use pcl_cert::Format;
 use pcl_page::Readers;
 use pcl_streams::PageChoice;
@@ -14,17 +14,30 @@ use pcl_streams::PageChoice;
 pub enum Task {
     /// A raster job.
     Minimize,
-    /// The images of the pages that are asked for.
-    Preview { choice: PageChoice },
-    /// What the rules refuse in it, and what can be done.
-    Explain,
+    /// The images of the pages that are asked for, by a profile.
+    Preview {
+        choice: PageChoice,
+        profile: Profile,
+    },
+    /// What the rules of a profile refuse in it, and what can be done.
+    Explain {
+        profile: Profile,
+    },
     /// What a kind of refusal means, and what can be done. No job is read.
-    ExplainKind { kind: Kind },
-    /// What its pages are, in a layout.
-    DescribePages { layout: Layout },
+    ExplainKind {
+        kind: Kind,
+    },
+    /// What its pages are by a profile, in a layout.
+    DescribePages {
+        layout: Layout,
+        profile: Profile,
+    },
     /// The smallest job that is found with its pages, which asks for the same, for these readers; and a report of its bytes if that is
     /// asked for.
-    Shrink { report: bool, readers: Readers },
+    Shrink {
+        report: bool,
+        readers: Readers,
+    },
 }
 
 /// A certificate that is asked for.
@@ -100,11 +113,24 @@ impl Task {
     {
         match self {
             Task::Minimize
-            | Task::Explain
+            | Task::Explain { .. }
             | Task::ExplainKind { .. }
             | Task::DescribePages { .. }
             | Task::Shrink { .. } => 0,
-            Task::Preview { choice } => choice.last(),
+            Task::Preview { choice, .. } => choice.last(),
+        }
+    }
+
+    /// By which profile its job is read.
+    pub fn profile(self) -> Profile
+        ensures { result ≡ task_profile self }
+    {
+        match self {
+            Task::Minimize | Task::ExplainKind { .. } => Profile::Stated,
+            Task::Preview { profile, .. }
+            | Task::Explain { profile }
+            | Task::DescribePages { profile, .. } => profile,
+            Task::Shrink { .. } => Profile::Drivers,
         }
     }
 
@@ -114,7 +140,7 @@ impl Task {
     {
         match self {
             Task::Minimize | Task::Preview { .. } | Task::Shrink { .. } => true,
-            Task::Explain | Task::ExplainKind { .. } | Task::DescribePages { .. } => false,
+            Task::Explain { .. } | Task::ExplainKind { .. } | Task::DescribePages { .. } => false,
         }
     }
 }

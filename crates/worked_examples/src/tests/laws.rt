@@ -1,7 +1,7 @@
 //! Each public call of `pcl_page` that the other examples don't make.
 
 use super::assert_gives;
-use pcl_base::{Dpi, JobFault, Kind, Name, Refusal, Value};
+use pcl_base::{Dpi, JobFault, Kind, Name, Profile, Refusal, Value};
 use pcl_escape::{Command, read_job};
 use pcl_page::{
     Asked, AskedPage, Page, PageSink, PageStart, one_meaning, perform_asked, run, some_meaning,
@@ -85,7 +85,7 @@ const ASKING: &[u8] = b"\x1b&l1S\x1b*b1W\x80\x1b&l2H\x1b*b1W\x80\x1b%-12345X@PJL
 
 fn assert_asks(rt: &impl Abort, alloc: Global) -> Result<(), Fail> {
     let mut count = Count { pages: 0 };
-    let performed = perform_asked(alloc, ASKING, Dpi::Dpi300, &mut count);
+    let performed = perform_asked(alloc, ASKING, Profile::Stated, Dpi::Dpi300, &mut count);
     let asks = performed.ok().ok_or("the job is right")?;
     let said = Asked {
         sides: Some(1),

@@ -1,5 +1,6 @@
 use Rattle.std.proofs.Common.{◌≡◌, ◌∙◌, List, ℕ, Option, Result, Ok, Err, inl, inr, subst}
 use Rattle.pcl_answers.proofs.Names.{Vec, err_from_is_err_and, Keeps-refl, Dpi, Fault, Refused, Memory, ReadFault, TooLong, WriteFault, CheckAnswer, AppendsFront, IsWritten, CheckedFiles, FileAct, IsSeenAt, answer_line_of, AreRead, IsAnswer, IsCheckRun, IsCheckedBeside, IsFileRead, IsFileUnread, performed}
+use Rattle.pcl_base.specs.declared.profile.Profile.TheVariants.{Stated}
 use Rattle.pcl_files.proofs.FileReads.{read_fault}
 use Rattle.pcl_answers.proofs.checks.check.Goals as goal
 
@@ -23,9 +24,9 @@ unread acts asked name held other r u = absurd (read_fault acts _ name other r)
 seen_beside : {F : Type 0} {acts : F → FileAct → F → Type 0} {files : F} (asked : CheckedFiles) {input output certificate : Vec ℕ}
     (dpi : Dpi) (result : Result CheckAnswer Fault) {lent one other i o k : List ℕ} → IsFileRead acts files asked.input.now (Ok input)
     → IsFileRead acts files asked.output.now (Ok output) → IsFileRead acts files asked.certificate.now (Ok certificate)
-    → lent ≡ performed asked.beside one other → one ≡ input.items → other ≡ output.items → IsSeenAt asked.resolution lent dpi
+    → lent ≡ performed asked.beside one other → one ≡ input.items → other ≡ output.items → IsSeenAt asked.resolution Stated lent dpi
     → i ≡ input.items → o ≡ output.items → k ≡ certificate.items → IsCheckedBeside asked.beside dpi i o k result
-    → AreRead acts files asked input output certificate × IsSeenAt asked.resolution (performed asked.beside input.items output.items) dpi
+    → AreRead acts files asked input output certificate × IsSeenAt asked.resolution Stated (performed asked.beside input.items output.items) dpi
     × IsCheckedBeside asked.beside dpi input.items output.items certificate.items result
 seen_beside asked dpi result a b c lent p q seen r s t checked =
     (record { input_is = a; output_is = b; certificate_is = c }, rw (← p, ← q, ← lent) seen, rw (← r, ← s, ← t) checked)
@@ -33,7 +34,7 @@ seen_beside asked dpi result a b c lent p q seen r s t checked =
 -- a job of the files that isn't performed
 unchecked : {F : Type 0} {acts : F → FileAct → F → Type 0} {files : F} {asked : CheckedFiles} (held : Option (List ℕ))
     (input output certificate : Vec ℕ) (dpi : Dpi) (fault : Fault) → AreRead acts files asked input output certificate
-    × IsSeenAt asked.resolution (performed asked.beside input.items output.items) dpi
+    × IsSeenAt asked.resolution Stated (performed asked.beside input.items output.items) dpi
     × IsCheckedBeside asked.beside dpi input.items output.items certificate.items (Err fault)
     → IsCheckRun acts files asked held held (Err fault)
 unchecked held input output certificate dpi (Refused refusal) s = ((input, output, certificate, dpi, s.0, s.1, s.2), Keeps-refl held)

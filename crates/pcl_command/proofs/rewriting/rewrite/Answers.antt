@@ -14,7 +14,7 @@ use Rattle.pcl_command.proofs.rewriting.rewrite.Goals as goal
 shrunk_again : (readers : Readers) (dpi : Dpi) (job : List ℕ) (shrunk : Result Shrunk JobFault) (again : Result Again Failure)
     → IsShrunkEverywhere readers job shrunk → IsShrunkAgain shrunk again → IsRewritten (ShrinkEverywhere readers) dpi job again
 shrunk_again readers dpi job (Ok shrunk) (Ok again) s a =
-    let written = written_everywhere s.0 s.1 job shrunk readers shrunk.doubt s.2 s.3 in
+    let written = written_everywhere job shrunk readers s in
     subst (λ (certificate : Option (Vec ℕ)). IsRewrittenTo (ShrinkEverywhere readers) dpi job again.job.items certificate) (sym a.1)
     (subst (IsWrittenEverywhere readers job) (sym a.0) written)
 shrunk_again readers dpi job (Err (fault.Refused refusal)) (Err failure) s a = (run.Refused refusal, s, a)

@@ -9,6 +9,6 @@ returns g c =
       Some c.do_task.new.reader.now,
       c.in_ok-dpi.dpi,
       record { given = r.0; ended = r.1 },
-      rw c.deref.ensures.value at c.in_ok-dpi.ensures,
+      rw (c.deref.ensures.value, c.profile.ensures) at c.in_ok-dpi.ensures,
       rw c.deref-bytes.ensures.value at c.do_task.ensures,
     )
