@@ -1,7 +1,7 @@
 #!/usr/bin/env python3
 """Compares pclmin with the plain program (plain/), and with the second model (reference.py), on random and mutated jobs, and on triples.
 
-    python3 oracle/fuzz.py PCLMIN PLAIN COUNT SEED [--triples | --model] [--workers N] [--seconds N] [--folder FOLDER]
+    python3 oracle/fuzz.py PCLMIN PLAIN COUNT SEED [--triples | --drivers] [--model] [--workers N] [--seconds N] [--folder FOLDER]
 
 PCLMIN is the program, which is started for each question, or the library, as build/libpclmin.so (`lib/build.sh shared`), which is called
 in this script's own processes and answers far more of them.
@@ -17,8 +17,12 @@ With --triples COUNT triples of a job, an output and a certificate are made, eig
 be what the plain program writes, byte for byte, and be proved. In the others some of the three are changed (triples.py). Both programs
 have to give the same status and the same line of `check`, and an output that is proved has to be as long as the one that was written.
 
+With --drivers jobs have offsets too, and are read by the drivers' profile: pclmin's `pages` has to refuse a job in the line of the plain
+program, and its `same` has to find the pages of an accepted one in what the plain program writes of it.
+
 With --model the status, the line of a refusal and the image of a page also have to be those of reference.py, and a job
-that was written again has to have the same pages by it. The model takes most of the time then.
+that was written again has to have the same pages by it; with --drivers these are the plain program's. The model takes most of the time
+then.
 
 A job on which the two differ is kept in FOLDER (build/fuzz) as SEED-NUMBER.pcl, and the output and the certificate of a triple beside it
 as .out and .cert, with a line on standard output, and the status is then 1. The number of workers is 1 if it isn't given; what is made
@@ -65,6 +69,7 @@ VERDICTS = (["proved", "proved with another output", "proved with another certif
             + ["Place method %d" % method for method in range(4)]
             + ["Edge method %d %s" % (method, side) for method in range(4) for side in ("closed", "open")])
 PROVED = (0, b"proved\n", b"")
+SAME = (0, b"same\n")
 
 
 class Reached:
@@ -100,7 +105,7 @@ class Comparison:
     def __init__(self, asked):
         self.pclmin, self.plain = programs.product(asked.pclmin, asked.folder), programs.Plain(asked.plain)
         self.seed, self.folder, self.count, self.has_model = asked.seed, asked.folder, asked.count, asked.model
-        self.compare = self.compare_triples if asked.triples else self.compare_job
+        self.compare = self.compare_triples if asked.triples else self.compare_by_drivers if asked.drivers else self.compare_job
         self.reached = Reached()
         self.place = os.open(place_path(asked, os.getpid()), os.O_WRONLY | os.O_CREAT, 0o666)
 
@@ -191,6 +196,46 @@ class Comparison:
             if modelled(written, dpi)[0] != pages:
                 return "the written job has other pages by the model"
         return None
+
+    # Jobs by the drivers' profile
+
+    def compare_by_drivers(self, number):
+        draw = random.Random("%d %d drivers" % (self.seed, number))
+        job, dpi = job_of(draw, has_offsets=True), draw.choice([300] * 5 + [600])
+        by = ["--drivers", "--dpi", str(dpi)]
+        (first, count), (written, _), (named, _) = yield [(["pbm", "--page", "1"] + by, job), (["min"] + by, job), (["names"], job)]
+        self.reached.add_job(first, named)
+        fault = self.drivers_fault(job, written, dpi)
+        if self.has_model and not fault:
+            fault = yield from self.drivers_model_fault(job, dpi, written, count, draw)
+        if not fault:
+            return []
+        self.keep(number, job)
+        return ["job %d at %d: %s" % (number, dpi, fault)]
+
+    def drivers_fault(self, job, written, dpi):
+        """What differs in the line of a refusal, or in the pages; of the job the plain program's answer to `min` is there."""
+        refusal = self.pclmin.refusal(job, dpi)
+        if refusal != written[2]:
+            return "pclmin %r, plain %s" % (refusal, told(written))
+        if written[0] == 0:
+            came = self.pclmin.same(job, written[1], dpi)
+            if came[:2] != SAME:
+                return "what the plain program writes: %s" % told(came)
+        return None
+
+    def drivers_model_fault(self, job, dpi, written, count, draw):
+        """What differs between the model and the plain program."""
+        pages, line = modelled(job, dpi, reference.Profile.DRIVERS)
+        if pages is None:
+            return None if written == (1, b"", line) else "plain %s, where the model has %s" % (told(written), line)
+        if written[0] != 0 or len(pages) != count:
+            return "plain %s with %d pages, where the model has %d" % (told(written), count, len(pages))
+        if not pages:
+            return None
+        page = draw.randint(1, count)
+        (came, _), = yield [(["pbm", "--page", str(page), "--drivers", "--dpi", str(dpi)], job)]
+        return None if came == (0, image(pages[page - 1], dpi), b"") else "page %d isn't the model's" % page
 
     # Triples
 
@@ -286,10 +331,10 @@ def image(page, dpi):
     return b"P4\n%d %d\n" % (width, height) + b"".join(rows)
 
 
-def modelled(job, dpi):
+def modelled(job, dpi, profile=reference.Profile.STATED):
     """The pages of a job by the model, or the line of its refusal."""
     try:
-        return reference.pages_of(job, dpi), None
+        return reference.pages_of(job, dpi, profile), None
     except reference.Refused as refused:
         return None, b"pclmin: refused: %s\n" % str(refused).encode()
 
@@ -402,11 +447,14 @@ def main():
     parser.add_argument("seed", type=int)
     way = parser.add_mutually_exclusive_group()
     way.add_argument("--triples", action="store_true")
-    way.add_argument("--model", action="store_true")
+    way.add_argument("--drivers", action="store_true")
+    parser.add_argument("--model", action="store_true")
     parser.add_argument("--workers", type=int, default=1)
     parser.add_argument("--seconds", type=int)
     parser.add_argument("--folder", default="build/fuzz")
     asked = parser.parse_args()
+    if asked.triples and asked.model:
+        parser.error("the model checks no triples")
     os.makedirs(asked.folder, exist_ok=True)
     reached, started = Reached(), time.monotonic()
     done, differing = compare_all(asked, reached)

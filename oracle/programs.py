@@ -47,13 +47,26 @@ class Program:
         """How many pages an accepted job has."""
         return len(json.loads(self.run(["pages", "--json", "--dpi", str(dpi)], job)[1])["pages"])
 
+    def refusal(self, job, dpi):
+        """The line by which a job is refused by the drivers' profile, or nothing."""
+        return self.run(["pages", "--dpi", str(dpi)], job)[2]
+
+    def same(self, first, second, dpi, *options):
+        """The answer of `same`."""
+        return self.asked_of_files(["same", *options, "--dpi", str(dpi)], first, second)
+
     def check(self, job, output, certificate, dpi):
         """The answer of `check`."""
-        for name, content in zip(self.names, (job, output, certificate)):
+        return self.asked_of_files(["check", "--dpi", str(dpi)], job, output, certificate)
+
+    def asked_of_files(self, words, *contents):
+        """The answer to the words of a command line and files behind them."""
+        names = self.names[:len(contents)]
+        for name, content in zip(names, contents):
             with open(name, "wb") as out:
                 out.write(content)
-        came = self.run(["check", "--dpi", str(dpi)] + self.names, b"")
-        for name in self.names:
+        came = self.run(words + names, b"")
+        for name in names:
             os.remove(name)
         return came
 
@@ -97,6 +110,17 @@ class Library:
     def check(self, job, output, certificate, dpi):
         """The answer of `check`."""
         answer = self.calls.check(job, output, certificate, dpi)
+        if answer.fault != self.calls.DONE:
+            return self.told(answer, b"")
+        return (0 if answer.holds else 1), answer.line.encode("latin-1"), b""
+
+    def refusal(self, job, dpi):
+        """The line by which a job is refused by the drivers' profile, or nothing."""
+        return self.told(self.calls.pages(job, dpi), b"")[2]
+
+    def same(self, first, second, dpi):
+        """The answer of `same`."""
+        answer = self.calls.same(first, second, dpi)
         if answer.fault != self.calls.DONE:
             return self.told(answer, b"")
         return (0 if answer.holds else 1), answer.line.encode("latin-1"), b""

@@ -1,7 +1,8 @@
 """Random print jobs of every part of docs/LANGUAGE.md, with values at and near their bounds.
 
 Each is drawn from a `random.Random`: `job_of` gives a job of any kind, `right_job` one that is mostly accepted, and `long_job` one that
-performs as many commands as a job may, or one more.
+performs as many commands as a job may, or one more. `has_offsets` puts offsets of the page into a job, as the drivers' profile takes
+them.
 """
 
 ESC = b"\x1b"
@@ -273,7 +274,37 @@ def mark(draw):
     return draw.choice(ends) + draw.choice(ways) + draw.choice(ends)
 
 
-def right_job(draw):
+def offset(draw, side=None):
+    """An offset of the page: one of few that are spelled in several ways, or at a bound."""
+    few = ["-180", "-180", "-180.0", "-180.00004", "-0180", "36", "+36", "36.", "0", "-0", "", "0.9999", "-0.5", "1", "1.0000", "-1", "1.5"]
+    bounds = ["0.99999", "1.9999", "-1.0001", "32767", "-32767", "65535", "65535.00009", "-32767.0001", "65536"]
+    said = draw.choice(few if draw.random() < 0.95 else bounds)
+    return ESC + b"&l" + said.encode() + (side or draw.choice([b"U", b"Z"]))
+
+
+def offsets(draw, has_font):
+    """Offsets before marks, after them, again after other commands, and in macros."""
+    side = draw.choice([b"U", b"Z"])
+    said = offset(draw, side)
+    again = draw.choice([said, said, said, offset(draw, side), offset(draw)])
+    show = draw.choice(SHOWS)
+    fresh = draw.choice([b"\f", b"\f", ESC + b"E", ESC + b"%-12345X", ESC + b"&l2A", ESC + b"&l1H", ESC + b"&a1G", b""])
+    way = draw.randint(0, 6)
+    if way == 0:
+        return fresh + draw.choice([said + offset(draw), ESC + b"&l-180u36Z", ESC + b"&l0e0u2x1.5Z", ESC + b"&l36z0oU"]) + show
+    if way == 1:
+        return fresh + said + show + parts_of(draw, 1, has_font) + again + show
+    if way == 2:
+        return fresh + said + show + draw.choice([b"\f", ESC + b"E", ESC + b"&l2A", b"\n" * 60]) + again + show
+    if way == 3:
+        return fresh + ESC + b"*r1A" + draw.choice([b"", ESC + b"*b3Y", ESC + b"*b1W\x80"]) + said + show
+    number, run = draw.randint(0, 3), draw.choice([b"&f2X", b"&f3X", b"&f3X"])
+    content = [said, said + show, show + said, said + b"\f", show + b"\f" + said, b"\f" + said + show + again][draw.randint(0, 5)]
+    begin = draw.choice([b"", again, again + show, ESC + b"*r1A" + ESC + b"*b0W"])
+    return macro_of(number, content) + fresh + begin + ESC + b"&f%dY" % number + ESC + run + draw.choice([b"", again, b"\f" + again]) + show
+
+
+def right_job(draw, has_offsets=False):
     """A job that is mostly accepted."""
     begin = draw.choice([b"", ESC + b"E", ESC + b"&l0E", ESC + b"&l0E" + ESC + b"*p0x0Y" + ESC + b"*t300R"])
     has_font = draw.random() < 0.5
@@ -284,6 +315,9 @@ def right_job(draw):
         parts.insert(draw.randint(0, len(parts)), b"\f" * draw.choice([254, 255, 256, 257]))
     if draw.random() < 0.04:
         parts.insert(draw.randint(0, len(parts)), picture(draw, 300) + ESC + b"*rC")
+    if has_offsets:
+        for _ in range(draw.choice([0, 1, 1, 2, 4])):
+            parts.insert(draw.randint(0, len(parts)), offsets(draw, has_font))
     if draw.random() < 0.6:
         parts.append(draw.choice(SHOWS))
     return begin + (FONT if has_font else b"") + b"".join(parts)
@@ -305,10 +339,10 @@ def mutated(draw, job):
     return bytes(job)
 
 
-def job_of(draw):
-    job = right_job(draw)
+def job_of(draw, has_offsets=False):
+    job = right_job(draw, has_offsets)
     if draw.random() < 0.25:
-        job = mutated(draw, job if draw.random() < 0.7 else job + right_job(draw))
+        job = mutated(draw, job if draw.random() < 0.7 else job + right_job(draw, has_offsets))
     return job
 
 

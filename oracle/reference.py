@@ -1,9 +1,11 @@
 #!/usr/bin/env python3
 """Checks the tables of whole jobs against a second program that says what a job means.
 
-    python3 oracle/reference.py TABLE..            checks each case
-    python3 oracle/reference.py --fill TABLE..     prints the tables with what is expected written into the cases
-                                                  that say nothing of it
+    python3 oracle/reference.py [--drivers] TABLE..            checks each case
+    python3 oracle/reference.py [--drivers] --fill TABLE..     prints the tables with what is expected written into the cases
+                                                              that say nothing of it
+
+With --drivers jobs are read by the drivers' profile, else by the stated one.
 
 The tables are those of crates/job_cases/data; src/table.rt there and crates/case_tables/src/notation.rt tell how
 they are written. What a job means is worked out here from docs/LANGUAGE.md, rule by rule, plain and slow, and shares no
@@ -11,6 +13,7 @@ line with the product; the bodies that are written are those of least.py. A case
 and the status is then 1.
 """
 
+import enum
 import functools
 import re
 import sys
@@ -262,11 +265,18 @@ def character_of(data):
     return Character(left, top, delta, bits)
 
 
+class Profile(enum.Enum):
+    """Which commands ask the printer for something: no offset but 0 is of the stated profile."""
+
+    STATED = enum.auto()
+    DRIVERS = enum.auto()
+
+
 class Performer:
     """Performs the commands of a job."""
 
-    def __init__(self, dpi):
-        self.dpi, self.dot = dpi, 7200 // dpi
+    def __init__(self, dpi, profile):
+        self.dpi, self.dot, self.profile = dpi, 7200 // dpi, profile
         self.pages, self.performed = [], 0
         self.fonts = {}
         # Macros by ID: their commands, and whether they are permanent. The definition that is open: an ID and its commands.
@@ -280,6 +290,7 @@ class Performer:
         self.skips, self.termination = True, 0
         self.stack = []
         self.rectangle = {"width": 0, "height": 0}
+        self.offsets = {"left": 0, "top": 0}
         self.resolution, self.raster_width, self.raster_height, self.method = 75, 0, 0, 0
         self.raster = None
         self.font_id, self.code = 0, 0
@@ -536,6 +547,21 @@ def page_size(performer, command):
     performer.set_size(size)
 
 
+def offset(side):
+    """Sets an offset, in ten-thousandths of a decipoint. A marked page keeps its own."""
+    def perform(performer, command):
+        value = command.value
+        said = 0 if value.whole() == 0 else -value.parts if value.sign == "-" else value.parts
+        if performer.profile is Profile.STATED:
+            is_taken = said == 0
+        else:
+            is_taken = not performer.marked or said == performer.offsets[side]
+        if not is_taken:
+            refuse(command)
+        performer.offsets[side] = said
+    return perform
+
+
 def reset(performer, command):
     if command.name == b"%X" and command.value.whole() != -12345:
         refuse(command)
@@ -685,7 +711,7 @@ ANY_FROM_ZERO = range(65536)
 
 # All that is set, but for the page size, the cursor and its stack.
 CALL_RESTORES = ("copies", "pcl_unit", "hmi", "vmi", "top", "bottom", "left", "skips", "termination", "macro_id", "font_id", "code",
-                 "selected", "in_use", "rectangle", "resolution", "raster_width", "raster_height", "method")
+                 "selected", "in_use", "rectangle", "offsets", "resolution", "raster_width", "raster_height", "method")
 
 PERFORM = {
     b"E": reset, b"%X": reset,
@@ -706,7 +732,8 @@ PERFORM = {
     b"&lE": from_zero(top_margin),
     b"&lF": text_length,
     b"&lL": taking({0, 1}, lambda p, whole: setattr(p, "skips", whole == 1)),
-    b"&lO": taking({0}, nothing), b"&lU": taking({0}, nothing), b"&lZ": taking({0}, nothing), b"&aP": taking({0}, nothing),
+    b"&lO": taking({0}, nothing), b"&aP": taking({0}, nothing),
+    b"&lU": offset("left"), b"&lZ": offset("top"),
     b"&lH": Performer.eject_marked, b"&aG": Performer.eject_marked,
     b"&uD": taking(UNITS_OF_MEASURE, lambda p, whole: setattr(p, "pcl_unit", 7200 // whole)),
     b"&kH": from_zero(lambda p, value: setattr(p, "hmi", value.times(60))),
@@ -735,9 +762,9 @@ PERFORM = {
 }
 
 
-def pages_of(job, dpi):
+def pages_of(job, dpi, profile=Profile.STATED):
     """The pages of a job, or its refusal."""
-    performer = Performer(dpi)
+    performer = Performer(dpi, profile)
     for command in read(job):
         performer.perform(command)
     if performer.definition:
@@ -750,10 +777,10 @@ def pages_of(job, dpi):
 
 
 class Case:
-    """A case of a table: its lines, its job, and what is expected of it."""
+    """A case of a table: its lines, its job, by which profile it is read, and what is expected of it."""
 
-    def __init__(self, name, line):
-        self.name, self.line = name, line
+    def __init__(self, name, line, profile):
+        self.name, self.line, self.profile = name, line, profile
         self.dpi, self.notation = 300, ""
         self.pages, self.refusal, self.no_page, self.length = [], None, False, None
         self.bodies, self.end = [], line
@@ -829,7 +856,7 @@ def row_of(text):
     return row
 
 
-def cases_of(lines):
+def cases_of(lines, profile=Profile.STATED):
     """The cases of a table."""
     cases, page = [], None
     for number, line in enumerate(lines, 1):
@@ -841,7 +868,7 @@ def cases_of(lines):
         page_line = re.fullmatch(r"(?:([0-9]+)\* )?page (\w+)(?:, ([0-9]+) copies)?", line)
         row_line = re.fullmatch(r"([0-9]+)(?:-([0-9]+))?(?: by ([0-9]+))?: (.*)", line)
         if word == "case":
-            cases.append(Case(rest, number))
+            cases.append(Case(rest, number, profile))
             page = None
         elif word == "dpi":
             cases[-1].dpi = int(rest)
@@ -874,7 +901,7 @@ def cases_of(lines):
 def outcome(case):
     """What a job is here: its refusal, or its pages."""
     try:
-        return pages_of(case.job(), case.dpi)
+        return pages_of(case.job(), case.dpi, case.profile)
     except Refused as refusal:
         return str(refusal)
 
@@ -999,25 +1026,26 @@ def row_lines(page):
     return lines
 
 
-def filled(lines):
+def filled(lines, profile):
     """A table with what is expected written into the cases that say nothing of it."""
     lines = list(lines)
-    for case in reversed(cases_of(lines)):
+    for case in reversed(cases_of(lines, profile)):
         if case.says_nothing():
             lines[case.end:case.end] = ["  " + line for line in lines_of(outcome(case), case.dpi)]
     return lines
 
 
 def main(words):
-    fills = words[:1] == ["--fill"]
+    profile = Profile.DRIVERS if "--drivers" in words else Profile.STATED
+    fills = "--fill" in words
     seen, failed = set(), 0
-    for path in words[fills:]:
+    for path in (word for word in words if not word.startswith("--")):
         with open(path, encoding="latin-1") as source:
             lines = source.read().split("\n")
         if fills:
-            print("\n".join(filled(lines)), end="")
+            print("\n".join(filled(lines, profile)), end="")
             continue
-        cases = cases_of(lines)
+        cases = cases_of(lines, profile)
         for case in cases:
             wrong = "the name stands twice" if case.name in seen else fault(case)
             seen.add(case.name)

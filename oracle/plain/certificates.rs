@@ -2,7 +2,7 @@
 
 use crate::bitmap::Bitmap;
 use crate::linear;
-use crate::performing::{Task, perform};
+use crate::performing::{Profile, Task, perform};
 use crate::plan;
 use crate::refusals::Refusal;
 use crate::settings::Size;
@@ -108,7 +108,7 @@ pub fn read(bytes: &[u8], dpi: u32) -> Result<Vec<Claim<'_>>, Malformed> {
 pub fn write(job: &[u8], has_lists: bool, dpi: u32) -> Result<Vec<u8>, Refusal> {
     let mut pages = Vec::new();
     let mut see = |bitmap: &Bitmap, copies| append_page(bitmap, copies, has_lists, dpi, &mut pages);
-    let count = perform(job, Task::Visit(&mut see), dpi)?.pages as u32;
+    let count = perform(job, Task::Visit(&mut see), dpi, Profile::Stated)?.pages as u32;
     Ok([FORMATS[usize::from(has_lists)], &count.to_be_bytes(), &pages].concat())
 }
 

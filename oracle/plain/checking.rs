@@ -4,7 +4,7 @@
 use crate::bitmap::Bitmap;
 use crate::certificates::{self, Claim, Malformed, numbers_of};
 use crate::linear;
-use crate::performing::{Task, perform};
+use crate::performing::{Profile, Task, perform};
 use crate::plan::{Rows, digits};
 use crate::refusals::Refusal;
 use crate::texts::Text;
@@ -72,7 +72,7 @@ pub fn check(job: &[u8], output: &[u8], certificate: &[u8], dpi: u32) -> Result<
         }
         seen += 1;
     };
-    perform(job, Task::Visit(&mut see), dpi)?;
+    perform(job, Task::Visit(&mut see), dpi, Profile::Stated)?;
     Ok(match (read, wrong) {
         (Err(fault), _) => Verdict::Certificate(fault),
         (Ok(claims), _) if claims.len() != seen => Verdict::PageCount,

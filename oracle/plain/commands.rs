@@ -51,6 +51,8 @@ pub enum Operation {
     Move(Axis, Measure),
     CursorStack,
     EjectMarked,
+    /// How far the logical page lies from its place on the sheet.
+    Offset(Axis),
     MacroId,
     MacroControl,
     RectangleSide(Axis, Measure),
@@ -107,7 +109,9 @@ impl Operation {
             b"&lE" => TopMargin,
             b"&lF" => TextLength,
             b"&lL" => PerforationSkip,
-            b"&lO" | b"&lU" | b"&lZ" | b"&aP" | b"*vN" | b"*vT" => OnlyZero,
+            b"&lU" => Offset(X),
+            b"&lZ" => Offset(Y),
+            b"&lO" | b"&aP" | b"*vN" | b"*vT" => OnlyZero,
             b"&lH" | b"&aG" => EjectMarked,
             b"&lS" | b"&lG" | b"&lM" | b"&lP" | b"&aM" | b"&sC" | b"&d@" | b"*vO" | b"*cG" => Nothing,
             b"&uD" => UnitOfMeasure,
@@ -188,6 +192,15 @@ impl Number {
     /// The whole part, where it is taken.
     pub fn taken(self, is_taken: impl Fn(u32) -> bool) -> Result<u32, Kind> {
         self.count().ok().filter(|&count| is_taken(count)).ok_or(Kind::UnsupportedValue)
+    }
+
+    /// In ten-thousandths, with the sign; 0 where the whole part is.
+    pub fn unless_whole_part_is_zero(self) -> i64 {
+        let parts = i64::from(self.magnitude) * 10_000 + i64::from(self.decimals);
+        match self.whole() {
+            0 => 0,
+            whole => parts * i64::from(whole.signum()),
+        }
     }
 
     /// A number of units, without the sign, rounded down.

@@ -1,8 +1,8 @@
 //! What `pclmin pbm`, `pclmin min` and `pclmin check` do, written plainly over std alone: to compare their speed and memory with,
 //! and their answers.
 //!
-//!     plain pbm --page N [--dpi 300|600] < job.pcl > page.pbm
-//!     plain min [--dpi 300|600] < job.pcl > written.pcl
+//!     plain pbm --page N [--dpi 300|600] [--drivers] < job.pcl > page.pbm
+//!     plain min [--dpi 300|600] [--drivers] < job.pcl > written.pcl
 //!     plain cert [--format 1|2] [--dpi 300|600] < job.pcl > certificate
 //!     plain check [--dpi 300|600] IN OUT CERT
 //!     plain names < job.pcl
@@ -10,8 +10,9 @@
 //!
 //! Status 0: the page, the job or its certificate was written, or the output is proved. 1: it isn't, the job is refused, or has no
 //! such page. 2: usage. 3: reading or writing failed. A fault is the line that `pclmin` has for it. What a job means is in
-//! docs/LANGUAGE.md, how it is written again in docs/OUTPUT.md, and what a certificate is in docs/CERTIFICATE.md. `names` writes the
-//! names of the commands that are read, each on a line, and doesn't perform them.
+//! docs/LANGUAGE.md, how it is written again in docs/OUTPUT.md, and what a certificate is in docs/CERTIFICATE.md. With
+//! `--drivers` a job is read by the drivers' profile. `names` writes the names of the commands that are read, each on a line, and
+//! doesn't perform them.
 //!
 //! `jobs` answers one request after the other. A request is a line of the words of a command line, as above, and the
 //! number of the job's bytes, with the job behind it; of `check` it has the numbers of bytes of all three in place of their names.
@@ -36,14 +37,14 @@ mod settings;
 mod texts;
 
 use checking::Verdict;
-use performing::{Done, Task, perform};
+use performing::{Done, Profile, Task, perform};
 use refusals::Refusal;
 use std::fmt;
 use std::io::{self, BufRead, Read, Write};
 use std::process::ExitCode;
 
-const USAGE: &str = "usage: plain pbm --page N [--dpi 300|600], plain min [--dpi 300|600], plain cert [--format 1|2] [--dpi 300|600], \
-                     plain check [--dpi 300|600] IN OUT CERT, plain names, or plain jobs";
+const USAGE: &str = "usage: plain pbm --page N [--dpi 300|600] [--drivers], plain min [--dpi 300|600] [--drivers], \
+                     plain cert [--format 1|2] [--dpi 300|600], plain check [--dpi 300|600] IN OUT CERT, plain names, or plain jobs";
 const USAGE_STATUS: u8 = 2;
 
 fn main() -> ExitCode {
@@ -74,8 +75,8 @@ fn main() -> ExitCode {
 /// What is to be done with a job.
 #[derive(Clone, Copy)]
 enum Order {
-    Preview { page: usize, dpi: u32 },
-    Rewrite { dpi: u32 },
+    Preview { page: usize, dpi: u32, profile: Profile },
+    Rewrite { dpi: u32, profile: Profile },
     Certify { has_lists: bool, dpi: u32 },
     Check { dpi: u32 },
     Name,
@@ -92,10 +93,15 @@ impl Order {
     /// The order of some words, and the words behind it.
     fn of<'a, 'b>(words: &'b [&'a str]) -> Option<(Order, &'b [&'a str])> {
         let (name, mut words) = words.split_first()?;
-        let (mut page, mut format, mut dpi) = (None, 1, 300);
-        while let [option, number, behind @ ..] = words
+        let (mut page, mut format, mut dpi, mut profile) = (None, 1, 300, Profile::Stated);
+        while let [option, behind @ ..] = words
             && option.starts_with("--")
         {
+            if let ("--drivers", "pbm" | "min") = (*option, *name) {
+                (profile, words) = (Profile::Drivers, behind);
+                continue;
+            }
+            let (number, behind) = behind.split_first()?;
             words = behind;
             match (*option, number.parse().ok()?, *name) {
                 ("--page", number @ 1..=256, "pbm") => page = Some(number as usize),
@@ -105,8 +111,11 @@ impl Order {
             }
         }
         let order = match *name {
-            "pbm" => Order::Preview { page: page?, dpi },
-            "min" => Order::Rewrite { dpi },
+            "pbm" => {
+                let page = page?;
+                Order::Preview { page, dpi, profile }
+            }
+            "min" => Order::Rewrite { dpi, profile },
             "cert" => {
                 let has_lists = format == 2;
                 Order::Certify { has_lists, dpi }
@@ -126,8 +135,11 @@ impl Order {
     fn follow(self, inputs: &[Vec<u8>]) -> Result<Made<'_>, Refusal> {
         let job = &inputs[0];
         Ok(match self {
-            Order::Preview { page: wanted, dpi } => Made::Pages(perform(job, Task::Preview { wanted, kept: None }, dpi)?),
-            Order::Rewrite { dpi } => Made::Pages(perform(job, Task::Rewrite(b"\x1bE".to_vec()), dpi)?),
+            Order::Preview { page: wanted, dpi, profile } => {
+                let task = Task::Preview { wanted, kept: None };
+                Made::Pages(perform(job, task, dpi, profile)?)
+            }
+            Order::Rewrite { dpi, profile } => Made::Pages(perform(job, Task::Rewrite(b"\x1bE".to_vec()), dpi, profile)?),
             Order::Certify { has_lists, dpi } => Made::Bytes(certificates::write(job, has_lists, dpi)?),
             Order::Check { dpi } => Made::Verdict(checking::check(job, &inputs[1], &inputs[2], dpi)?),
             Order::Name => Made::Bytes(reading::names(job)?.into_bytes()),

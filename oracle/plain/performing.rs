@@ -15,6 +15,15 @@ const PAGE_LIMIT: usize = 256;
 const QUARTER_DOT: u64 = 6;
 const GREATEST_ID: u32 = 32767;
 
+/// Which commands ask the printer for something. By no profile do they move a dot.
+#[derive(Clone, Copy)]
+pub enum Profile {
+    /// That of `min`, `check` and `pbm`, which takes an offset of 0 alone.
+    Stated,
+    /// That of `shrink`, `same`, `pages` and `explain`, which takes any offset on an unmarked page.
+    Drivers,
+}
+
 /// What becomes of the pages.
 pub enum Task<'a> {
     /// The page of this number, from 1, is kept.
@@ -32,8 +41,8 @@ pub struct Done<'a> {
 }
 
 /// Performs a job as it is read. A fault of the reading comes before every refusal of the performing.
-pub fn perform<'a>(job: &'a [u8], task: Task<'a>, dpi: u32) -> Result<Done<'a>, Refusal> {
-    let mut performer = Performer::new(task, dpi);
+pub fn perform<'a>(job: &'a [u8], task: Task<'a>, dpi: u32, profile: Profile) -> Result<Done<'a>, Refusal> {
+    let mut performer = Performer::new(task, dpi, profile);
     let mut reader = Reader::new(job);
     loop {
         match reader.next_command() {
@@ -56,6 +65,7 @@ pub fn perform<'a>(job: &'a [u8], task: Task<'a>, dpi: u32) -> Result<Done<'a>, 
 
 struct Performer<'a> {
     dpi: u32,
+    profile: Profile,
     task: Task<'a>,
     settings: Settings,
     cursor: Cursor,
@@ -69,9 +79,10 @@ struct Performer<'a> {
 }
 
 impl<'a> Performer<'a> {
-    fn new(task: Task<'a>, dpi: u32) -> Performer<'a> {
+    fn new(task: Task<'a>, dpi: u32, profile: Profile) -> Performer<'a> {
         Performer {
             dpi,
+            profile,
             task,
             settings: Settings::DEFAULTS,
             cursor: Cursor::new(),
@@ -214,6 +225,7 @@ impl<'a> Performer<'a> {
             Operation::Copies => settings.copies = value.taken(|copies| matches!(copies, 1..=99))?,
             Operation::PageSize => self.set_size(value)?,
             Operation::EjectMarked => self.eject_marked()?,
+            Operation::Offset(axis) => self.set_offset(axis, value)?,
             Operation::Reset => self.reset()?,
             Operation::UniversalExit if value.whole() == -12345 => self.reset()?,
             Operation::UniversalExit => return Err(Kind::UnsupportedValue),
@@ -424,6 +436,21 @@ impl<'a> Performer<'a> {
         self.delete_temporary_fonts();
         self.macros.delete_temporary();
         self.fit_bitmap();
+        Ok(())
+    }
+
+    /// Sets an offset. The marks of a page lie at one, so that a marked page keeps its own.
+    fn set_offset(&mut self, axis: Axis, value: Number) -> Result<(), Kind> {
+        let offset = value.unless_whole_part_is_zero();
+        let stands = &mut self.settings.offsets[axis as usize];
+        let is_taken = match self.profile {
+            Profile::Stated => offset == 0,
+            Profile::Drivers => !self.is_marked || offset == *stands,
+        };
+        if !is_taken {
+            return Err(Kind::UnsupportedValue);
+        }
+        *stands = offset;
         Ok(())
     }
 

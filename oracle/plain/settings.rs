@@ -75,6 +75,8 @@ pub struct Settings {
     pub raster_width: Option<usize>,
     pub raster_height: Option<usize>,
     pub method: u32,
+    /// The left and the top offset in ten-thousandths of a decipoint.
+    pub offsets: [i64; 2],
 }
 
 impl Settings {
@@ -98,6 +100,7 @@ impl Settings {
         raster_width: None,
         raster_height: None,
         method: 0,
+        offsets: [0; 2],
     };
 
     /// The margins of a page size.
