@@ -6,8 +6,8 @@ use Rattle.pcl_base.specs.Value.{whole_of, with_sign}
 use Rattle.pcl_env.specs.declared.asked.Asked.{Asked}
 
 -- an offset of less than a decipoint is 0
-abbrev pub offset_of : Value → ℤ
-offset_of v = if whole_of v == 0 then pos 0 else with_sign v.sign v.parts
+abbrev pub page_offset : Value → ℤ
+page_offset v = if whole_of v == 0 then pos 0 else with_sign v.sign v.parts
 
 -- the page lies where these offsets put it: where none is said, at 0
 abbrev pub lies_at : Option ℤ → ℤ

@@ -27,7 +27,7 @@ use Rattle.pcl_base.specs.Value.{whole_of, is_minus, is_below_zero, scaled_by}
 use Rattle.pcl_env.specs.declared.effect.Effect.{Effect}
 use Rattle.pcl_env.specs.declared.effect.Effect.TheVariants as page
 use Rattle.pcl_env.specs.declared.effect.Unsupported.{Unsupported}
-use Rattle.pcl_env.specs.Offset.{offset_of, lies_at}
+use Rattle.pcl_env.specs.Offset.{page_offset, lies_at}
 use Rattle.pcl_env.specs.Settings.{inch, margin, Position, Settings, put_x, put_y, put, to_first_line, asked_with, copies_said, defaults, with_size}
 
 -- the settings after a command and what becomes of the page; none where the value isn't taken
@@ -173,7 +173,7 @@ effect_of_asking other = page.Stay
 -- that it lies at.
 abbrev pub is_offset_taken : Profile → Value → Bool → Option ℤ → Bool
 is_offset_taken Stated v m said = whole_of v == 0
-is_offset_taken Drivers v m said = not m || int_eq (offset_of v) (lies_at said)
+is_offset_taken Drivers v m said = not m || int_eq (page_offset v) (lies_at said)
 
 abbrev pub is_asking_taken : Asking → Value → Bool → Settings → Bool
 is_asking_taken LeftOffset v m s = is_offset_taken s.profile v m s.asked.left_offset

@@ -14,7 +14,7 @@ use Rattle.pcl_base.specs.declared.value.Value.{Value}
 use Rattle.pcl_base.specs.Size.{code_of, units_wide, units_high}
 use Rattle.pcl_base.specs.Value.{signed_whole}
 use Rattle.pcl_env.specs.declared.asked.Asked.{Asked}
-use Rattle.pcl_env.specs.Offset.{offset_of}
+use Rattle.pcl_env.specs.Offset.{page_offset}
 
 -- ---- lengths
 
@@ -118,8 +118,8 @@ asked_with MediaType v vmi asked = record asked { media_type = Some (signed_whol
 asked_with PaperSource v vmi asked = if int_eq (signed_whole v) (pos 0) then asked else record asked { paper_source = Some (signed_whole v) }
 asked_with SheetSide v vmi asked = asked
 asked_with PageLength v vmi asked = record asked { page_length = Some (signed_whole v *ℤ pos vmi) }
-asked_with LeftOffset v vmi asked = record asked { left_offset = Some (offset_of v) }
-asked_with TopOffset v vmi asked = record asked { top_offset = Some (offset_of v) }
+asked_with LeftOffset v vmi asked = record asked { left_offset = Some (page_offset v) }
+asked_with TopOffset v vmi asked = record asked { top_offset = Some (page_offset v) }
 
 abbrev pub copies_said : ℕ → Asked → Asked
 copies_said copies asked = record asked { copies = Some (pos copies) }

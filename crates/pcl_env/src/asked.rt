@@ -5,7 +5,7 @@ ghost use Rattle.std.specs.Ordering.{int_eq};
 ghost use Rattle.pcl_env.specs.Offset.{lie_together};
 ghost use Rattle.pcl_env.specs.Settings.{asked_with, copies_said, size_said};
 
-use crate::offset::{lies_at, offset_of};
+use crate::offset::{lies_at, page_offset};
 use pcl_base::{Asking, Size, Value};
 
 /// What a job said of each of these since the last reset, `None` where it said nothing: the last value, as its whole part with its sign
@@ -74,11 +74,11 @@ impl Asked {
                 ..self
             },
             Asking::LeftOffset => Asked {
-                left_offset: Some(offset_of(value)),
+                left_offset: Some(page_offset(value)),
                 ..self
             },
             Asking::TopOffset => Asked {
-                top_offset: Some(offset_of(value)),
+                top_offset: Some(page_offset(value)),
                 ..self
             },
         }

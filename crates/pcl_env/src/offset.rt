@@ -1,7 +1,7 @@
 //! How far a page is moved on its sheet ("Left Offset Registration", "Top Offset Registration"), in ten-thousandths of a decipoint.
 
 ghost use Rattle.std.specs.Prelude.{◌≡◌, ◌++◌, ◌<◌, ◌+◌, OnOk};
-ghost use Rattle.pcl_env.specs.Offset.{offset_of, lies_at, offset_text, minus_text, parts_text, decimals_text, decimal_count};
+ghost use Rattle.pcl_env.specs.Offset.{page_offset, lies_at, offset_text, minus_text, parts_text, decimals_text, decimal_count};
 
 use itoa::Buffer;
 use pcl_base::{Sign, Value};
@@ -11,8 +11,8 @@ use std::alloc::AllocError;
 const WHOLE: u64 = 10_000;
 
 /// The offset that a value says: 0 where its whole part is 0.
-pub(crate) fn offset_of(value: Value) -> i64
-    ensures { result ≡ offset_of value }
+pub(crate) fn page_offset(value: Value) -> i64
+    ensures { result ≡ page_offset value }
 {
     if value.whole() == 0 {
         return 0;

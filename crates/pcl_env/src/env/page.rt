@@ -8,7 +8,7 @@ ghost use Rattle.pcl_base.specs.declared.dpi.Dpi.TheVariants.{Dpi300};
 ghost use Rattle.pcl_env.specs.Outcome.{outcome, is_asking_taken, is_offset_taken, Answers};
 
 use super::{Env, MARGIN};
-use crate::offset::{lies_at, offset_of};
+use crate::offset::{lies_at, page_offset};
 use crate::stack::Position;
 use crate::{Effect, Unsupported};
 use pcl_base::{Asking, COPIES_LIMIT, Profile, Size, Value};
@@ -144,6 +144,6 @@ fn is_offset_taken(profile: Profile, value: Value, is_marked: bool, said: Option
 {
     match profile {
         Profile::Stated => value.whole() == 0,
-        Profile::Drivers => !is_marked || offset_of(value) == lies_at(said),
+        Profile::Drivers => !is_marked || page_offset(value) == lies_at(said),
     }
 }
