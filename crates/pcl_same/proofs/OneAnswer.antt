@@ -1,6 +1,6 @@
 -- Two jobs have one answer.
 use Rattle.std.proofs.Common.{inl, inr, ◌≡◌, ◌≢◌, ℕ, zero, suc, ◌<◌, List, [], ◌∷◌, ◌++◌, length, Bool, Result, Ok, Err, refl, arith}
-use Rattle.pcl_same.proofs.Names.{Profile, Stated, Drivers, Dpi, Refusal, AreAlike, AllAlike, HasPagesBy, IsRefusalBy, Sheet, Comparison, Same, Difference, Size, Copies, Dot, First, Second, SameFault, Memory, Compare, AreReadBy, IsAnswered, IsComparedBy, IsFirstDot, DifferBy, DifferFirst}
+use Rattle.pcl_same.proofs.Names.{Profile, Stated, Drivers, Dpi, Refusal, AreAlike, AllAlike, HasPagesBy, IsRefusalBy, Sheet, Comparison, Same, Difference, Size, Copies, Dot, First, Second, SameFault, Memory, Compare, AreReadBy, IsAnsweredByOne, IsComparedBy, IsFirstDot, DifferBy, DifferFirst}
 use Rattle.pcl_same.specs.declared.comparison.Comparison.TheVariants.{Page}
 use Rattle.pcl_same.specs.declared.fault.SameFault.TheVariants.{Refused}
 
@@ -154,7 +154,7 @@ module _ (one : HasOneMeaning Stated) (dpi : Dpi) (first second : List ℕ) wher
       by_one Stated Drivers a b r s p q m n = absurd (apart_there r s)
       by_one Drivers Stated a b r s p q m n = absurd (apart_there s r)
 
-      pub one_told : (a b : Result C SameFault) → IsAnswered IsBy dpi first second a → IsAnswered IsBy dpi first second b
+      pub one_told : (a b : Result C SameFault) → IsAnsweredByOne IsBy dpi first second a → IsAnsweredByOne IsBy dpi first second b
           → a ≢ Err Memory → b ≢ Err Memory → a ≡ b
       one_told (Err Memory) b p q m n = absurd (m refl)
       one_told a (Err Memory) p q m n = absurd (n refl)
