@@ -5,7 +5,7 @@ use crate::edges::SheetRows;
 use crate::raster::Raster;
 use pcl_base::{Asking, Axis, Dpi, Method, Operation, Side, Sign, Unit, Value};
 use pcl_bitmap::Ink;
-use pcl_env::Env;
+use pcl_env::{Asked, Env};
 use pcl_fonts::Glyph;
 
 /// By whose reading what is written must print what a job prints.
@@ -44,8 +44,10 @@ pub enum Doubt {
     PartOfUnit,
     /// Sides, a media type or a page length on a marked page, which may eject it.
     Ejection,
-    /// Ink past the left or the right edge of the page, or half a dot past its lower one.
+    /// Ink past the left or the right edge of the page, half a dot past its lower one, or past the edge to which the page is moved.
     Edge,
+    /// Sides, the side of the sheet or a paper source that is asked for after a page of a sheet that may have a back, with an offset.
+    Back,
 }
 
 /// What printers may read otherwise in what was performed.
@@ -62,6 +64,12 @@ pub struct Doubts {
     stack: Option<Doubt>,
     /// Why the rows of the raster that has begun may stand elsewhere.
     raster: Option<Doubt>,
+    /// Whether the last command was a reset or a universal exit.
+    is_reset: bool,
+    /// Whether the page was moved on its sheet since a reset.
+    has_offset: bool,
+    /// Whether a page was ejected since a reset whose sheet may have a back.
+    has_back: bool,
     /// Whether a raster has begun on the page.
     has_raster: bool,
     /// Whether that raster starts between two rows of dots, or the page is moved up on its sheet.
@@ -86,6 +94,9 @@ impl Doubts {
             row: None,
             stack: None,
             raster: None,
+            is_reset: false,
+            has_offset: false,
+            has_back: false,
             has_raster: false,
             is_low: false,
             is_seed_open: false,
@@ -133,8 +144,10 @@ impl Doubts {
         if !is_marked && ejects_marked(operation) {
             self.note_if(self.has_raster, Doubt::EmptyMark);
         }
+        self.is_reset = matches!(operation, Operation::Reset | Operation::UniversalExit);
         match operation {
-            Operation::Reset | Operation::UniversalExit | Operation::PageSize => self.settle(),
+            Operation::Reset | Operation::UniversalExit => self.note_reset(),
+            Operation::PageSize => self.settle(),
             Operation::CarriageReturn => self.column = None,
             Operation::TopMargin if !is_marked => self.note_margin(was_home),
             Operation::Move(axis, unit) => self.note_move(axis, unit, value.sign, environment),
@@ -143,7 +156,10 @@ impl Doubts {
             }
             Operation::LineFeed | Operation::HalfLineFeed => self.row = self.row.or(self.spacing),
             Operation::CursorStack => self.note_stack(value),
-            Operation::Ask(what) => self.note_asking(what, environment, is_marked, dpi),
+            Operation::Ask(what) => {
+                self.note_back(what, value, environment.asked(), is_marked);
+                self.note_asking(what, environment, is_marked, dpi);
+            }
             Operation::VerticalMotionIndex | Operation::LineSpacing if was_home && !is_marked => {
                 self.doubt_home(environment);
             }
@@ -221,6 +237,13 @@ impl Doubts {
         self.note_if(self.is_width_open, Doubt::ColumnWidth);
     }
 
+    /// Looks at a reset: no page was moved or ejected since.
+    fn note_reset(&mut self) {
+        self.has_offset = false;
+        self.has_back = false;
+        self.settle();
+    }
+
     /// The cursor's place is sure.
     fn settle(&mut self) {
         self.column = None;
@@ -235,9 +258,10 @@ impl Doubts {
         }
     }
 
-    /// A page was ejected: the cursor is on the first line.
-    pub fn note_ejection(&mut self) {
+    /// A page that was asked with this was ejected: the cursor is on the first line.
+    pub fn note_ejection(&mut self, asked: Asked) {
         self.row = self.spacing;
+        self.has_back |= !self.is_reset && may_have_back(asked);
         self.has_raster = false;
     }
 
@@ -263,6 +287,18 @@ impl Doubts {
             Asking::PaperSource | Asking::SheetSide if is_marked => self.doubt_column(environment),
             _ => self.doubt_home(environment),
         }
+    }
+
+    /// Looks at what is asked for after a page on a two-sided sheet: where the page is moved, its back may be moved the other way.
+    fn note_back(&mut self, what: Asking, value: Value, asked: Asked, is_marked: bool) {
+        let follows_back = self.has_back || is_marked && may_have_back(asked);
+        let turns = match what {
+            Asking::Sides | Asking::SheetSide => true,
+            Asking::PaperSource => value.whole() != 0,
+            _ => false,
+        };
+        self.note_if(turns && follows_back && self.has_offset, Doubt::Back);
+        self.has_offset |= !asked.lies_with(Asked::NOTHING);
     }
 
     /// Looks at an offset of the page that was set: a page that lies between the dots of its sheet, or far from it.
@@ -406,6 +442,11 @@ impl Doubts {
         self.note_any(self.column);
         self.note_any(self.row);
     }
+}
+
+/// Whether the sheet of a page that was asked with this may have a back: it does where the printer is set so and no sides are said.
+fn may_have_back(asked: Asked) -> bool {
+    asked.sides != Some(0)
 }
 
 /// Whether a command ejects a page that is marked.

@@ -233,7 +233,7 @@ impl<'a> Performer<'a> {
         sink.page(&self.page)?;
         self.page.bitmap.clear();
         self.is_marked = false;
-        self.doubts.note_ejection();
+        self.doubts.note_ejection(asked);
         self.ejected += 1;
         self.environment.new_page();
         Ok(())
