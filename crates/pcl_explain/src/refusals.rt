@@ -26,9 +26,10 @@ pub struct ReadAs {
     pub dpi: Dpi,
 }
 
-/// What the rules of a profile refuse in a job. That is the refusal of the job, and then that of the job without all commands like those that were
-/// refused before, up to 100 in all. Where a value is refused, the commands of its name with other values that are refused by themselves
-/// are found with it, so that the job is performed once for each name, and 32 times at most. None exactly where the job is accepted.
+/// What the rules of a profile refuse in a job. That is the refusal of the job, and then that of the job without all commands like those
+/// that were refused before, up to 100 in all. Where a value is refused, the commands of its name with other values that are refused by
+/// themselves are found with it, so that the job is performed once for each name, and 32 times at most. None exactly where the job is
+/// accepted.
 pub fn find_refusals(
     alloc: Global,
     job: &[u8],
