@@ -14,11 +14,11 @@ _pclmin() {
     esac
     case $command:$word in
         min:-*) mapfile -t COMPREPLY < <(compgen -W "--dpi --cert --format --quiet --output --help" -- "$word") ;;
-        pbm:-*) mapfile -t COMPREPLY < <(compgen -W "--dpi --page --output --help" -- "$word") ;;
+        pbm:-*) mapfile -t COMPREPLY < <(compgen -W "--dpi --page --drivers --output --help" -- "$word") ;;
         shrink:-*) mapfile -t COMPREPLY < <(compgen -W "--dpi --report --profile-only --output --help" -- "$word") ;;
-        pages:-*) mapfile -t COMPREPLY < <(compgen -W "--dpi --json --tsv --output --help" -- "$word") ;;
+        pages:-*) mapfile -t COMPREPLY < <(compgen -W "--dpi --json --tsv --stated --output --help" -- "$word") ;;
         batch:-*) mapfile -t COMPREPLY < <(compgen -W "--dpi --min --profile-only --json --output --keep-folders --in-place --help" -- "$word") ;;
-        explain:-*) mapfile -t COMPREPLY < <(compgen -W "--dpi --output --help" -- "$word") ;;
+        explain:-*) mapfile -t COMPREPLY < <(compgen -W "--dpi --stated --output --help" -- "$word") ;;
         check:-*) mapfile -t COMPREPLY < <(compgen -W "--dpi --page --quiet --help" -- "$word") ;;
         same:-*) mapfile -t COMPREPLY < <(compgen -W "--dpi --asked --image --help" -- "$word") ;;
         min:* | pbm:* | shrink:* | pages:* | batch:* | explain:* | check:* | same:*) mapfile -t COMPREPLY < <(compgen -f -- "$word") ;;
