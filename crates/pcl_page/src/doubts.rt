@@ -199,6 +199,9 @@ impl Doubts {
                 (unit == Unit::PclUnit && value.parts % WHOLE != 0)
                     || has_rest(value, unit_of(axis, unit, environment))
             }
+            Operation::Ask(Asking::LeftOffset | Asking::TopOffset) => {
+                value.whole() == 0 && value.parts != 0
+            }
             _ => false,
         };
         self.note_if(has_parts, Doubt::PartOfUnit);
