@@ -1,12 +1,12 @@
 -- What was read and written where pages are shown.
 use Rattle.std.proofs.Common.{◌≤◌, ℕ, List, Option, Result, Err, length, arith}
-use Rattle.pcl_command.proofs.Names.{Dpi, Fault, Memory, ReadFault, TooLong, IsRead, input_limit, PageChoice, IsPagesPreview, IsPreviewRun}
+use Rattle.pcl_command.proofs.Names.{Dpi, Fault, Memory, ReadFault, TooLong, IsRead, input_limit, ImageForm, PageChoice, IsPagesPreview, IsPreviewRun}
 
 -- of a job that was read to its end
-pub shown : (dpi : Dpi) (choice : PageChoice) {given left : Option (List ℕ)} (old new : Option (List ℕ)) {job : List ℕ}
+pub shown : (form : ImageForm) (dpi : Dpi) (choice : PageChoice) {given left : Option (List ℕ)} (old new : Option (List ℕ)) {job : List ℕ}
     (result : Result (Unit {0}) Fault) → IsRead given left job → length job ≤ input_limit
-    → IsPagesPreview dpi job choice old new result → IsPreviewRun dpi choice given left old new result
-shown dpi choice old new {job} (Err Memory) read short p = ((job, read.given, omega (arith, short)), p)
-shown dpi choice old new (Err ReadFault) read short p = absurd p
-shown dpi choice old new (Err TooLong) read short p = absurd p
-shown dpi choice old new {job} other read short p = (job, read, p)
+    → IsPagesPreview form dpi job choice old new result → IsPreviewRun form dpi choice given left old new result
+shown form dpi choice old new {job} (Err Memory) read short p = ((job, read.given, omega (arith, short)), p)
+shown form dpi choice old new (Err ReadFault) read short p = absurd p
+shown form dpi choice old new (Err TooLong) read short p = absurd p
+shown form dpi choice old new {job} other read short p = (job, read, p)

@@ -8,6 +8,7 @@ use Rattle.pcl_page.specs.Accepting.{IsAccepted, IsFirstAccepted}
 use Rattle.pcl_page.specs.Delivering.{IsRefusal}
 use Rattle.pcl_streams.specs.declared.fault.Fault.{Fault}
 use Rattle.pcl_streams.specs.declared.fault.Fault.TheVariants.{Refused, Memory, ReadFault, TooLong, WriteFault}
+use Rattle.pcl_streams.specs.declared.form.ImageForm.{ImageForm}
 use Rattle.pcl_streams.specs.declared.page_images.PageChoice.{PageChoice}
 use Rattle.pcl_streams.specs.PageImages.{IsPagesPreview}
 use Rattle.pcl_streams.specs.Transfer.{AppendsFront, IsWritten}
@@ -47,13 +48,13 @@ use Rattle.pcl_command.specs.Clashes.{SayIfClash, clash_line}
 use Rattle.pcl_command.specs.Reads.{IsUnread}
 use Rattle.pcl_command.specs.World.{World}
 
--- what a reader gave and a writer holds after the preview of pages of the job that it gives
-abbrev pub IsPreviewRun : Dpi → PageChoice → (given left old new : Option (List ℕ)) → Result (Unit {0}) Fault → Type 0
-IsPreviewRun dpi choice given left old new (Err Memory) = IsUnread given left old new Memory
-IsPreviewRun dpi choice given left old new (Err ReadFault) = IsUnread given left old new ReadFault
-IsPreviewRun dpi choice given left old new (Err TooLong) = IsUnread given left old new TooLong
-IsPreviewRun dpi choice given left old new shown =
-    (job : List ℕ) × IsRead given left job × IsPagesPreview dpi job choice old new shown
+-- what a reader gave and a writer holds after the preview, in a form, of pages of the job that it gives
+abbrev pub IsPreviewRun : ImageForm → Dpi → PageChoice → (given left old new : Option (List ℕ)) → Result (Unit {0}) Fault → Type 0
+IsPreviewRun form dpi choice given left old new (Err Memory) = IsUnread given left old new Memory
+IsPreviewRun form dpi choice given left old new (Err ReadFault) = IsUnread given left old new ReadFault
+IsPreviewRun form dpi choice given left old new (Err TooLong) = IsUnread given left old new TooLong
+IsPreviewRun form dpi choice given left old new shown =
+    (job : List ℕ) × IsRead given left job × IsPagesPreview form dpi job choice old new shown
 
 -- what a reader gave and a writer holds after a text was written, which says of the job that the reader gives what it is to say, or
 -- after that job was refused
@@ -83,7 +84,7 @@ IsKindExplained kind old new done = (text : List ℕ) × ExplainsKind kind text 
 -- what was asked for is done, or failed so
 abbrev pub HasDoneTask : Task → Dpi → (given left old new : Option (List ℕ)) → Result (Unit {0}) Fault → Type 0
 HasDoneTask Minimize dpi given left old new done = IsFiltered dpi given left old new done
-HasDoneTask (Preview choice) dpi given left old new done = IsPreviewRun dpi choice given left old new done
+HasDoneTask (Preview choice form) dpi given left old new done = IsPreviewRun form dpi choice given left old new done
 HasDoneTask Explain dpi given left old new done = IsTextRun (Explains dpi) NeverRefuses given left old new done
 HasDoneTask (ExplainKind kind) dpi given left old new done = (left ≡ given) × IsKindExplained kind old new done
 HasDoneTask (DescribePages layout) dpi given left old new done = IsTextRun (TellsOfPages dpi) (IsRefusal dpi) given left old new done

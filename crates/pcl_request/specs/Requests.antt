@@ -20,7 +20,7 @@ use Rattle.pcl_request.specs.declared.request.Work.TheVariants as work
 
 -- the last page that is asked for by its number, 0 where none is
 abbrev pub task_page : Task → ℕ
-task_page (Preview choice) = last_page choice
+task_page (Preview choice form) = last_page choice
 task_page other = 0
 
 abbrev pub page_of : Work → ℕ

@@ -7,15 +7,15 @@ ghost use Rattle.pcl_request.specs.declared.request.Resolution.{Resolution};
 use pcl_base::{Dpi, Kind};
 use pcl_cert::Format;
 use pcl_page::Readers;
-use pcl_streams::PageChoice;
+use pcl_streams::{ImageForm, PageChoice};
 
 /// What a run makes of its job.
 #[derive(Clone, Copy)]
 pub enum Task {
     /// A raster job.
     Minimize,
-    /// The images of the pages that are asked for.
-    Preview { choice: PageChoice },
+    /// The images of the pages that are asked for, in a form.
+    Preview { choice: PageChoice, form: ImageForm },
     /// What the rules refuse in it, and what can be done.
     Explain,
     /// What a kind of refusal means, and what can be done. No job is read.
@@ -104,7 +104,7 @@ impl Task {
             | Task::ExplainKind { .. }
             | Task::DescribePages { .. }
             | Task::Shrink { .. } => 0,
-            Task::Preview { choice } => choice.last(),
+            Task::Preview { choice, .. } => choice.last(),
         }
     }
 
