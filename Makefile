@@ -42,12 +42,14 @@ test-process:
 	process/calls.py $(PROGRAM)
 
 # All that gets the filter to people: test-cups, test-batch and test-cupsd, and then the manual pages by their linter, the completions
-# in each shell, what the console blocks of the documents print and where their links lead, what `explain` and `--help` say beside the
-# documents, a second checker beside `check`, and the Debian package, installed and purged. Needs root, Python 3, mandoc, zsh, fish, the
-# packages that home/batch.py and cups/server.py name, and the program that `make build` left.
+# in each shell, what file managers show of jobs, what the console blocks of the documents print and where their links lead, what
+# `explain` and `--help` say beside the documents, a second checker beside `check`, and the Debian package, installed and purged. Needs
+# root, Python 3, mandoc, zsh, fish, the packages that home/batch.py, home/thumbnails.sh and cups/server.py name, and the program that
+# `make build` left.
 test-home: test-cups test-batch test-cupsd
 	mandoc -T lint -W warning man/pclmin.1 man/pclmin-cups.8
 	home/completions.sh
+	home/thumbnails.sh $(PROGRAM)
 	home/blocks.py $(PROGRAM) README.md CONTRIBUTING.md CHANGELOG.md docs/*.md */README.md
 	home/said.py $(PROGRAM)
 	home/sceptic.py $(PROGRAM)
@@ -100,7 +102,9 @@ bench-certificates:
 bench-clients:
 	bench/clients.py $(PROGRAM)
 
-# Copies the program that `make build` left to $(PREFIX)/bin, its manual page and its completions to $(PREFIX)/share.
+# Copies the program that `make build` left to $(PREFIX)/bin, its manual page and its completions to $(PREFIX)/share, and what file
+# managers make small pictures of jobs by. Where a file's name doesn't say that it is a job, `update-mime-database $(PREFIX)/share/mime`
+# makes its bytes say so.
 install:
 	@test -x $(PROGRAM) || { echo "there is no $(PROGRAM): run make build first" >&2; exit 1; }
 	install -D -m 755 $(PROGRAM) $(DESTDIR)$(PREFIX)/bin/pclmin
@@ -108,6 +112,9 @@ install:
 	install -D -m 644 completions/pclmin.bash $(DESTDIR)$(PREFIX)/share/bash-completion/completions/pclmin
 	install -D -m 644 completions/_pclmin $(DESTDIR)$(PREFIX)/share/zsh/site-functions/_pclmin
 	install -D -m 644 completions/pclmin.fish $(DESTDIR)$(PREFIX)/share/fish/vendor_completions.d/pclmin.fish
+	install -D -m 755 share/pclmin-thumbnailer $(DESTDIR)$(PREFIX)/bin/pclmin-thumbnailer
+	install -D -m 644 share/pclmin.thumbnailer $(DESTDIR)$(PREFIX)/share/thumbnailers/pclmin.thumbnailer
+	install -D -m 644 share/pclmin.xml $(DESTDIR)$(PREFIX)/share/mime/packages/pclmin.xml
 
 # Proves the library, and makes build/libpclmin.a and build/pclmin.h of it (docs/LIBRARY.md). Needs Python 3, a C compiler and binutils.
 lib:

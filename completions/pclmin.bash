@@ -3,26 +3,28 @@ _pclmin() {
     local word=${COMP_WORDS[COMP_CWORD]} previous=${COMP_WORDS[COMP_CWORD - 1]} command=${COMP_WORDS[1]}
     COMPREPLY=()
     if [ "$COMP_CWORD" -eq 1 ]; then
-        mapfile -t COMPREPLY < <(compgen -W "min pbm shrink pages batch explain check same help --help --version" -- "$word")
+        mapfile -t COMPREPLY < <(compgen -W "min pbm pgm shrink pages batch explain check same help --help --version" -- "$word")
         return
     fi
     case $previous in
         --dpi) mapfile -t COMPREPLY < <(compgen -W "300 600 auto" -- "$word"); return ;;
         --format) mapfile -t COMPREPLY < <(compgen -W "1 2" -- "$word"); return ;;
-        --page) if [ "$command" = pbm ]; then return; fi ;;
+        --page) if [ "$command" = pbm ] || [ "$command" = pgm ]; then return; fi ;;
+        --scale) return ;;
         --cert | --image | --output | -o) mapfile -t COMPREPLY < <(compgen -f -- "$word"); return ;;
     esac
     case $command:$word in
         min:-*) mapfile -t COMPREPLY < <(compgen -W "--dpi --cert --format --quiet --output --help" -- "$word") ;;
         pbm:-*) mapfile -t COMPREPLY < <(compgen -W "--dpi --page --drivers --output --help" -- "$word") ;;
+        pgm:-*) mapfile -t COMPREPLY < <(compgen -W "--dpi --scale --page --drivers --output --help" -- "$word") ;;
         shrink:-*) mapfile -t COMPREPLY < <(compgen -W "--dpi --report --profile-only --output --help" -- "$word") ;;
         pages:-*) mapfile -t COMPREPLY < <(compgen -W "--dpi --json --tsv --stated --output --help" -- "$word") ;;
         batch:-*) mapfile -t COMPREPLY < <(compgen -W "--dpi --min --profile-only --json --output --keep-folders --in-place --help" -- "$word") ;;
         explain:-*) mapfile -t COMPREPLY < <(compgen -W "--dpi --stated --output --help" -- "$word") ;;
         check:-*) mapfile -t COMPREPLY < <(compgen -W "--dpi --page --quiet --help" -- "$word") ;;
         same:-*) mapfile -t COMPREPLY < <(compgen -W "--dpi --asked --image --help" -- "$word") ;;
-        min:* | pbm:* | shrink:* | pages:* | batch:* | explain:* | check:* | same:*) mapfile -t COMPREPLY < <(compgen -f -- "$word") ;;
-        help:*) mapfile -t COMPREPLY < <(compgen -W "min pbm shrink pages batch explain check same" -- "$word") ;;
+        min:* | pbm:* | pgm:* | shrink:* | pages:* | batch:* | explain:* | check:* | same:*) mapfile -t COMPREPLY < <(compgen -f -- "$word") ;;
+        help:*) mapfile -t COMPREPLY < <(compgen -W "min pbm pgm shrink pages batch explain check same" -- "$word") ;;
     esac
 }
 complete -o filenames -F _pclmin pclmin

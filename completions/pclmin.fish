@@ -1,8 +1,9 @@
 # Completion of pclmin for fish.
-set -l commands min pbm shrink pages batch explain check same help
+set -l commands min pbm pgm shrink pages batch explain check same help
 complete -c pclmin -f
 complete -c pclmin -n "not __fish_seen_subcommand_from $commands" -a min -d "Write a job again as the least raster job"
 complete -c pclmin -n "not __fish_seen_subcommand_from $commands" -a pbm -d "Show pages as PBM images"
+complete -c pclmin -n "not __fish_seen_subcommand_from $commands" -a pgm -d "Show pages as smaller PGM images"
 complete -c pclmin -n "not __fish_seen_subcommand_from $commands" -a shrink -d "Write the smallest job of the same pages that is found"
 complete -c pclmin -n "not __fish_seen_subcommand_from $commands" -a pages -d "List the pages of a job"
 complete -c pclmin -n "not __fish_seen_subcommand_from $commands" -a batch -d "Shrink many jobs into a folder"
@@ -10,7 +11,7 @@ complete -c pclmin -n "not __fish_seen_subcommand_from $commands" -a explain -d 
 complete -c pclmin -n "not __fish_seen_subcommand_from $commands" -a check -d "Check a written job by its certificate"
 complete -c pclmin -n "not __fish_seen_subcommand_from $commands" -a same -d "Compare the pages of two jobs"
 complete -c pclmin -n "not __fish_seen_subcommand_from $commands" -a help -d "Show help"
-complete -c pclmin -n "__fish_seen_subcommand_from min pbm shrink pages batch explain check same" -l dpi -x -a "300 600 auto" -d "Resolution in dots per inch"
+complete -c pclmin -n "__fish_seen_subcommand_from min pbm pgm shrink pages batch explain check same" -l dpi -x -a "300 600 auto" -d "Resolution in dots per inch"
 complete -c pclmin -n "__fish_seen_subcommand_from min check" -s q -l quiet -d "Suppress progress output"
 complete -c pclmin -n "__fish_seen_subcommand_from min" -l cert -r -F -d "Write a certificate"
 complete -c pclmin -n "__fish_seen_subcommand_from min" -l format -x -a "1 2" -d "Format of the certificate"
@@ -24,9 +25,10 @@ complete -c pclmin -n "__fish_seen_subcommand_from batch" -l in-place -d "Write 
 complete -c pclmin -n "__fish_seen_subcommand_from batch" -s o -l output -x -a "(__fish_complete_directories)" -d "Write into a folder"
 complete -c pclmin -n "__fish_seen_subcommand_from check" -l page -d "The first file has images of the pages"
 complete -c pclmin -n "__fish_seen_subcommand_from same" -l asked -d "Compare what is asked of the printer too"
-complete -c pclmin -n "__fish_seen_subcommand_from pbm" -l page -x -d "Number of the page, or a range"
-complete -c pclmin -n "__fish_seen_subcommand_from pbm" -l drivers -d "Read what drivers send besides"
-complete -c pclmin -n "__fish_seen_subcommand_from min pbm shrink pages batch explain check same" -F
-complete -c pclmin -n "__fish_seen_subcommand_from min pbm shrink pages explain" -s o -l output -r -F -d "Write to a file"
+complete -c pclmin -n "__fish_seen_subcommand_from pgm" -l scale -x -d "Dots of a side of a pixel"
+complete -c pclmin -n "__fish_seen_subcommand_from pbm pgm" -l page -x -d "Number of the page, or a range"
+complete -c pclmin -n "__fish_seen_subcommand_from pbm pgm" -l drivers -d "Read what drivers send besides"
+complete -c pclmin -n "__fish_seen_subcommand_from min pbm pgm shrink pages batch explain check same" -F
+complete -c pclmin -n "__fish_seen_subcommand_from min pbm pgm shrink pages explain" -s o -l output -r -F -d "Write to a file"
 complete -c pclmin -n "__fish_seen_subcommand_from same" -l image -r -F -d "Draw the dots that differ"
-complete -c pclmin -n "__fish_seen_subcommand_from help" -a "min pbm shrink pages batch explain check same"
+complete -c pclmin -n "__fish_seen_subcommand_from help" -a "min pbm pgm shrink pages batch explain check same"

@@ -20,13 +20,14 @@ Version: $version
 Architecture: $architecture
 Maintainer: Yulmado maintainers <maintainers@users.noreply.yulmado.example>
 Depends: libc6
-Suggests: cups
+Suggests: cups, netpbm, shared-mime-info
 Section: text
 Priority: optional
 Description: proved print filter for PCL 5
  Writes print jobs in PCL 5 again as the smallest raster job of a stated form,
  with a certificate that nothing smaller exists; previews pages; checks
- certificates; compares jobs. A CUPS backend sends jobs as smaller ones.
+ certificates; compares jobs. A CUPS backend sends jobs as smaller ones, and
+ file managers show the first page of a job where netpbm is installed.
 CONTROL
 dpkg-deb --root-owner-group --build "$root" "$package" > /dev/null
 echo "$package"
@@ -38,10 +39,12 @@ if [ "${1:-}" = try ]; then
     [ "$(head -c 2 build/dot.pbm)" = P4 ]
     man -w pclmin > /dev/null
     man -w pclmin-cups > /dev/null
+    grep -q '^Exec=pclmin-thumbnailer ' /usr/share/thumbnailers/pclmin.thumbnailer
+    [ -x /usr/bin/pclmin-thumbnailer ] && [ -e /usr/share/mime/packages/pclmin.xml ]
     /usr/lib/cups/backend/pclmin | grep -q '^network pclmin '
     grep -q '^program=.*/usr/bin/pclmin' /usr/lib/cups/backend/pclmin
     dpkg --purge pclmin > /dev/null
-    for left in /usr/bin/pclmin /usr/lib/cups/backend/pclmin; do
+    for left in /usr/bin/pclmin /usr/bin/pclmin-thumbnailer /usr/share/thumbnailers/pclmin.thumbnailer /usr/lib/cups/backend/pclmin; do
         if [ -e "$left" ]; then echo "$left is still there" >&2; exit 1; fi
     done
     echo "installed, run and purged"

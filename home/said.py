@@ -21,7 +21,7 @@ LINE = re.compile(r"(?P<kind>\w+) at \d+ (?P<name>\S+)(?: [+-]?\d+)?(?: \(\d+ ti
 # A value that commands with numbers don't take, and data behind those that take some.
 VALUE, DATA = "5000", b"3W\0\0\0"
 ACCEPTED = "nothing is refused\n"
-COMMANDS = ("min", "same", "explain", "pages", "shrink", "batch", "check", "pbm")
+COMMANDS = ("min", "same", "explain", "pages", "shrink", "batch", "check", "pbm", "pgm")
 
 
 def explain(pclmin, *words, job=b""):

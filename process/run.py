@@ -321,8 +321,9 @@ def check_spared_terminal(program):
     end, wrong = b"\x04", []
     spared = "pclmin: nothing is written to a terminal: send standard output to a file, or give -o FILE\n"
     hint = "pclmin: the job is read from this terminal: end it with control D, or give a file\n"
-    wanted = [(["min"], spared, 2), (["shrink"], spared, 2), (["pbm"], spared, 2), (["pages"], hint + "pclmin: no page\n", 0),
-              (["explain"], hint + "pclmin: no page\n", 0), (["min", "-q", "-o", "/dev/null"], hint, 0), (["--version"], "", 0)]
+    wanted = [(["min"], spared, 2), (["shrink"], spared, 2), (["pbm"], spared, 2), (["pgm", "--scale", "2"], spared, 2),
+              (["pages"], hint + "pclmin: no page\n", 0), (["explain"], hint + "pclmin: no page\n", 0),
+              (["min", "-q", "-o", "/dev/null"], hint, 0), (["--version"], "", 0)]
     for words, said, status in wanted:
         came = on_terminals(program, words, end)
         if came != (said, status):

@@ -33,6 +33,10 @@ enum Argument {
     ProfileOnly,
     /// The format of a certificate.
     Format,
+    /// Which pages are shown.
+    Pages,
+    /// How many dots make a pixel.
+    Scale,
     /// JSON where lines of columns could be asked for.
     Json,
     Quiet,
@@ -57,13 +61,18 @@ const PROFILE_ONLY: &str = "profile-only";
 const READ_OTHERWISE: &str =
     "Shrink jobs too that some printers read otherwise, which else go as they came";
 
+/// The option by which what drivers send besides is read too, and its help.
+const DRIVERS: &str = "drivers";
+
+const READ_AS_SENT: &str = "Read what drivers send besides too, as shrink does: offsets of the page";
+
 /// The option by which a job is read as `min` reads it, and its help.
 const STATED: &str = "stated";
 
 const READ_AS_STATED: &str = "Read the job as min does, without what drivers send besides";
 
 /// The subcommands, in the order of the help.
-const SUBCOMMANDS: [Subcommand; 8] = [
+const SUBCOMMANDS: [Subcommand; 9] = [
     Subcommand {
         name: "min",
         about: "Writes a job again as the least raster job of the same pages",
@@ -185,15 +194,20 @@ const SUBCOMMANDS: [Subcommand; 8] = [
         takes: &[
             Argument::Job,
             Argument::Output,
-            Argument::Option(
-                "page",
-                "N",
-                "The number of the page, from 1 to 256, or a range such as 2-5; all pages where it isn't given",
-            ),
-            Argument::Flag(
-                "drivers",
-                "Read what drivers send besides too, as shrink does: offsets of the page",
-            ),
+            Argument::Pages,
+            Argument::Flag(DRIVERS, READ_AS_SENT),
+            Argument::Dpi,
+        ],
+    },
+    Subcommand {
+        name: "pgm",
+        about: "Writes pages of a job as smaller PGM images (P5), one after the other",
+        takes: &[
+            Argument::Job,
+            Argument::Output,
+            Argument::Scale,
+            Argument::Pages,
+            Argument::Flag(DRIVERS, READ_AS_SENT),
             Argument::Dpi,
         ],
     },
@@ -263,6 +277,8 @@ fn arg<'a>(alloc: Global, argument: Argument) -> Result<Arg<'a>, AllocError> {
         Argument::InPlace => in_place(alloc),
         Argument::ProfileOnly => profile_only(alloc),
         Argument::Format => format(alloc),
+        Argument::Pages => Ok(pages(alloc)),
+        Argument::Scale => Ok(scale(alloc)),
         Argument::Json => json(alloc),
         Argument::Quiet => Ok(quiet(alloc)),
         Argument::Dpi => Ok(dpi(alloc)),
@@ -357,6 +373,28 @@ fn format<'a>(alloc: Global) -> Result<Arg<'a>, AllocError> {
     )
     .value_parser(value_parser!(u16).range(1..=2))
     .requires_arg("cert")
+}
+
+/// The pages that are shown.
+fn pages<'a>(alloc: Global) -> Arg<'a> {
+    option(
+        alloc,
+        "page",
+        "N",
+        "The number of the page, from 1 to 256, or a range such as 2-5; all pages where it isn't given",
+    )
+}
+
+/// How many dots make a pixel.
+fn scale<'a>(alloc: Global) -> Arg<'a> {
+    option(
+        alloc,
+        "scale",
+        "N",
+        "Make each pixel the mean of N by N dots, with N from 1 to 32",
+    )
+    .value_parser(value_parser!(u16).range(1..=32))
+    .required(true)
 }
 
 /// Whether one object is asked for.

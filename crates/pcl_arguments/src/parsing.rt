@@ -11,7 +11,7 @@ use pcl_request::{
     Batch, Beside, Certificate, CheckedFiles, ComparedFiles, Destination, Layout, ReportForm,
     Request, Resolution, Rewriting, Run, Source, Target, Task, Work, resolution_named,
 };
-use pcl_streams::PageChoice;
+use pcl_streams::{ImageForm, PageChoice, Scale};
 use std::alloc::{AllocError, Global};
 use std::convert::AsStr;
 
@@ -151,7 +151,7 @@ fn request_of<'w>(matches: &ArgMatches<'w>) -> Result<Request<'w>, WrongWord<'w>
     }
 }
 
-/// What the words of `min`, `pbm`, `pages`, `explain` or `shrink` ask for.
+/// What the words of `min`, `pbm`, `pgm`, `pages`, `explain` or `shrink` ask for.
 fn run_of<'w>(name: &str, command: &ArgMatches<'w>) -> Result<Run<'w>, WrongWord<'w>> {
     let resolution = resolution_of(command)?;
     let work = match name {
@@ -164,6 +164,7 @@ fn run_of<'w>(name: &str, command: &ArgMatches<'w>) -> Result<Run<'w>, WrongWord
         }),
         _ => Work::Task(Task::Preview {
             choice: page_choice(command)?,
+            form: image_form(name, command)?,
             profile: if command.get_flag("drivers") {
                 Profile::Drivers
             } else {
@@ -298,7 +299,21 @@ fn explain_task(explain: &ArgMatches<'_>) -> Task {
     }
 }
 
-/// The pages that the words after `pbm` ask for: all where none is named.
+/// The form of images that `pbm` or `pgm` asks for.
+fn image_form<'w>(name: &str, command: &ArgMatches<'w>) -> Result<ImageForm, WrongWord<'w>> {
+    match name {
+        "pgm" => Ok(ImageForm::Greymap(scale_of(command)?)),
+        _ => Ok(ImageForm::Bitmap),
+    }
+}
+
+/// The scale that the words after `pgm` ask for.
+fn scale_of<'w>(pgm: &ArgMatches<'w>) -> Result<Scale, WrongWord<'w>> {
+    let side = pgm.get_one::<u16>("scale").ok_or(WrongWord::Missing)?;
+    Scale::new(u32::from(side)).ok_or(WrongWord::Missing)
+}
+
+/// The pages that the words after `pbm` or `pgm` ask for: all where none is named.
 fn page_choice<'w>(pbm: &ArgMatches<'w>) -> Result<PageChoice, WrongWord<'w>> {
     match pbm.get_str("page") {
         None => Ok(PageChoice::All),

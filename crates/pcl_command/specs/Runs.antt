@@ -10,6 +10,7 @@ use Rattle.pcl_page.specs.Accepting.{IsAccepted, IsFirstAccepted}
 use Rattle.pcl_page.specs.Delivering.{IsRefusalBy}
 use Rattle.pcl_streams.specs.declared.fault.Fault.{Fault}
 use Rattle.pcl_streams.specs.declared.fault.Fault.TheVariants.{Refused, Memory, ReadFault, TooLong, WriteFault}
+use Rattle.pcl_streams.specs.declared.form.ImageForm.{ImageForm}
 use Rattle.pcl_streams.specs.declared.page_images.PageChoice.{PageChoice}
 use Rattle.pcl_streams.specs.PageImages.{IsPagesPreview}
 use Rattle.pcl_streams.specs.Transfer.{AppendsFront, IsWritten}
@@ -49,13 +50,13 @@ use Rattle.pcl_command.specs.Clashes.{SayIfClash, clash_line}
 use Rattle.pcl_command.specs.Reads.{IsUnread}
 use Rattle.pcl_command.specs.World.{World}
 
--- what a reader gave and a writer holds after the preview of pages of the job that it gives
-abbrev pub IsPreviewRun : Profile → Dpi → PageChoice → (given left old new : Option (List ℕ)) → Result (Unit {0}) Fault → Type 0
-IsPreviewRun profile dpi choice given left old new (Err Memory) = IsUnread given left old new Memory
-IsPreviewRun profile dpi choice given left old new (Err ReadFault) = IsUnread given left old new ReadFault
-IsPreviewRun profile dpi choice given left old new (Err TooLong) = IsUnread given left old new TooLong
-IsPreviewRun profile dpi choice given left old new shown =
-    (job : List ℕ) × IsRead given left job × IsPagesPreview profile dpi job choice old new shown
+-- what a reader gave and a writer holds after the preview, in a form, of pages of the job that it gives
+abbrev pub IsPreviewRun : ImageForm → Profile → Dpi → PageChoice → (given left old new : Option (List ℕ)) → Result (Unit {0}) Fault → Type 0
+IsPreviewRun form profile dpi choice given left old new (Err Memory) = IsUnread given left old new Memory
+IsPreviewRun form profile dpi choice given left old new (Err ReadFault) = IsUnread given left old new ReadFault
+IsPreviewRun form profile dpi choice given left old new (Err TooLong) = IsUnread given left old new TooLong
+IsPreviewRun form profile dpi choice given left old new shown =
+    (job : List ℕ) × IsRead given left job × IsPagesPreview form profile dpi job choice old new shown
 
 -- what a reader gave and a writer holds after a text was written, which says of the job that the reader gives what it is to say, or
 -- after that job was refused
@@ -85,7 +86,7 @@ IsKindExplained kind old new done = (text : List ℕ) × ExplainsKind kind text 
 -- what was asked for is done, or failed so
 abbrev pub HasDoneTask : Task → Dpi → (given left old new : Option (List ℕ)) → Result (Unit {0}) Fault → Type 0
 HasDoneTask Minimize dpi given left old new done = IsFiltered dpi given left old new done
-HasDoneTask (Preview choice profile) dpi given left old new done = IsPreviewRun profile dpi choice given left old new done
+HasDoneTask (Preview choice form profile) dpi given left old new done = IsPreviewRun form profile dpi choice given left old new done
 HasDoneTask (Explain profile) dpi given left old new done = IsTextRun (Explains profile dpi) NeverRefuses given left old new done
 HasDoneTask (ExplainKind kind) dpi given left old new done = (left ≡ given) × IsKindExplained kind old new done
 HasDoneTask (DescribePages layout profile) dpi given left old new done =

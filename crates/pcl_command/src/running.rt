@@ -19,7 +19,7 @@ use pcl_page::first_accepted;
 use pcl_pages::describe_pages;
 use pcl_request::{Layout, Request, Resolution, Run, Source, Target, Task, Work};
 use pcl_shrink::{Readers, shrink, shrink_everywhere};
-use pcl_streams::{Fault, PageChoice, preview_pages, read_all, write_all};
+use pcl_streams::{Fault, ImageForm, PageChoice, preview_pages, read_all, write_all};
 use pcl_tool::{INPUT_LIMIT, filter_watched};
 use std::alloc::Global;
 use std::io::{Read, Write};
@@ -238,7 +238,11 @@ fn do_task<R: Read, W: Write, P: Reporter>(
 {
     match task {
         Task::Minimize => filter_watched(alloc, reader, dpi, out, watcher),
-        Task::Preview { choice, profile } => show(alloc, choice, profile, dpi, reader, out),
+        Task::Preview {
+            choice,
+            form,
+            profile,
+        } => show(alloc, choice, form, profile, dpi, reader, out),
         Task::Explain { profile } => explain(alloc, profile, dpi, reader, out, watcher),
         Task::ExplainKind { kind } => explain_kind(alloc, kind, out),
         Task::DescribePages { layout, profile } => {
@@ -250,19 +254,21 @@ fn do_task<R: Read, W: Write, P: Reporter>(
     }
 }
 
-/// Writes the images of the pages of the job that a reader gives that are asked for.
+/// Writes the images, in a form, of the pages of the job that a reader gives that are asked for.
 fn show<R: Read, W: Write>(
     alloc: Global,
     choice: PageChoice,
+    form: ImageForm,
     profile: Profile,
     dpi: Dpi,
     reader: &mut R,
     out: &mut W,
 ) -> Result<(), Fault>
-    ensures { IsPreviewRun profile dpi choice (R.remaining reader.old) (R.remaining reader.new) (W.contents out.old) (W.contents out.new) result }
+    ensures { IsPreviewRun form profile dpi choice (R.remaining reader.old) (R.remaining reader.new) (W.contents out.old)
+        (W.contents out.new) result }
 {
     let job = read_all(alloc, reader, INPUT_LIMIT)?;
-    preview_pages(alloc, &job, choice, profile, dpi, out)
+    preview_pages(alloc, &job, choice, form, profile, dpi, out)
 }
 
 /// Writes what the rules refuse in the job that a reader gives, and what can be done. A job without pages is reported.

@@ -3,6 +3,7 @@
 ghost use Rattle.std.specs.Prelude.{◌⊎◌};
 ghost use Rattle.pcl_base.specs.declared.profile.Profile.TheVariants.{Drivers};
 ghost use Rattle.pcl_streams.specs.PageImages.{ArePageImages};
+ghost use Rattle.pcl_streams.specs.declared.form.ImageForm.TheVariants.{Bitmap};
 ghost use Rattle.pcl_library.specs.Arguments.{IsNoResolution, AreNoPages, IsTooLong, FailsBy};
 ghost use Rattle.pcl_library.specs.Answers.{Shows, ShowsAt, HasImages, HasChosenImages, LacksPages, LacksChosen};
 
@@ -10,7 +11,8 @@ use crate::answer::Answer;
 use crate::arguments::{pages_between, seen_at};
 use crate::failure::Failure;
 use pcl_base::{Dpi, Profile};
-use pcl_tool::{Fault, PageChoice, preview_pages};
+use pcl_streams::{ImageForm, preview_pages};
+use pcl_tool::{Fault, PageChoice};
 use std::alloc::Global;
 
 /// `pclmin_preview`: the pages from `first` to `last` as PBM images. Pages are counted from 1, and stand one after the other; 0
@@ -62,10 +64,18 @@ fn chosen_answer(alloc: Global, job: &[u8], choice: PageChoice, last: u32, dpi: 
 
 /// The same in memory, where a write fails for want of it.
 fn images(alloc: Global, job: &[u8], choice: PageChoice, dpi: Dpi) -> Result<Vec<u8>, Fault>
-    ensures { ArePageImages Drivers dpi job.now choice result }
+    ensures { ArePageImages Bitmap Drivers dpi job.now choice result }
 {
     let mut images = Vec::new(alloc);
-    match preview_pages(alloc, job, choice, Profile::Drivers, dpi, &mut images) {
+    match preview_pages(
+        alloc,
+        job,
+        choice,
+        ImageForm::Bitmap,
+        Profile::Drivers,
+        dpi,
+        &mut images,
+    ) {
         Ok(()) => Ok(images),
         Err(Fault::WriteFault) => Err(Fault::Memory),
         Err(fault) => Err(fault),

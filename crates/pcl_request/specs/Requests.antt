@@ -22,12 +22,12 @@ use Rattle.pcl_request.specs.declared.request.Work.TheVariants as work
 
 -- the last page that is asked for by its number, 0 where none is
 abbrev pub task_page : Task → ℕ
-task_page (Preview choice profile) = last_page choice
+task_page (Preview choice form profile) = last_page choice
 task_page other = 0
 
 -- by which profile the job is read
 abbrev pub task_profile : Task → Profile
-task_profile (Preview choice profile) = profile
+task_profile (Preview choice form profile) = profile
 task_profile (Explain profile) = profile
 task_profile (DescribePages layout profile) = profile
 task_profile (Shrink report readers) = Drivers

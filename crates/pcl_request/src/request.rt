@@ -7,16 +7,17 @@ ghost use Rattle.pcl_request.specs.declared.request.Resolution.{Resolution};
 use pcl_base::{Dpi, Kind, Profile};
 use pcl_cert::Format;
 use pcl_page::Readers;
-use pcl_streams::PageChoice;
+use pcl_streams::{ImageForm, PageChoice};
 
 /// What a run makes of its job.
 #[derive(Clone, Copy)]
 pub enum Task {
     /// A raster job.
     Minimize,
-    /// The images of the pages that are asked for, by a profile.
+    /// The images in a form of the pages that are asked for, by a profile.
     Preview {
         choice: PageChoice,
+        form: ImageForm,
         profile: Profile,
     },
     /// What the rules of a profile refuse in it, and what can be done.

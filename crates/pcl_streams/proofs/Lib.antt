@@ -1,4 +1,6 @@
 pub mod Names
 pub mod Writes
 pub mod Choices
+pub mod Counts
+pub mod Pixels
 pub mod Showings

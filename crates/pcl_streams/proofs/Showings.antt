@@ -1,6 +1,6 @@
 -- What a sink holds that made images of the pages of a job.
 use Rattle.std.proofs.Common.{◌≡◌, ℕ, suc, zero, List, [], ◌∷◌, ◌++◌, length, Bool, true, false, Option, Result, Ok, Err, refl, sym, ap, subst, ◌∙◌, arith, append_assoc, append-nil, eqb, ◌↔◌}
-use Rattle.pcl_streams.proofs.Names.{sub-one, take-nil, drop-nil, nat_tests, Keeps-refl, Dpi, Profile, Page, Sheet, HasPagesBy, AllShow, Hands, Fault, Refused, Memory, WriteFault, NoSuchPage, PageChoice, All, Range, IsWritten, chosen, AreThere, images_of, AreImagesOf, LacksPage, ArePageImages, IsPagesPreview, Showing, later, next_image, shown_after, IsMet, IsMetBy}
+use Rattle.pcl_streams.proofs.Names.{ImageForm, sub-one, take-nil, drop-nil, nat_tests, Keeps-refl, Dpi, Profile, Page, Sheet, HasPagesBy, AllShow, Hands, Fault, Refused, Memory, WriteFault, NoSuchPage, PageChoice, All, Range, IsWritten, chosen, AreThere, images_in, AreImagesIn, LacksPage, ArePageImages, IsPagesPreview, Showing, later, next_image, shown_after, IsMet, IsMetBy}
 
 abbrev pub shows_next : Showing → Page → Showing → Type 0
 shows_next old page new = new ≡ shown_after old page
@@ -9,12 +9,12 @@ some_more : (n : ℕ) → eqb (suc n) 0 ≡ false
 some_more n = grind (arith, nat_tests)
 
 -- the image of the first page, if it is asked for, and those of the later ones
-next_and_later : (choice : PageChoice) (page : Page) (pages : List Page)
-    → images_of (chosen choice (page ∷ pages)) ≡ next_image choice page ++ images_of (chosen (later choice) pages)
-next_and_later All page pages = refl
-next_and_later (Range zero zero) page pages = refl
-next_and_later (Range zero (suc count)) page pages = rw (some_more count, sub-one) refl
-next_and_later (Range (suc before) count) page pages = rw (some_more before, sub-one) refl
+next_and_later : (form : ImageForm) (choice : PageChoice) (page : Page) (pages : List Page)
+    → images_in form (chosen choice (page ∷ pages)) ≡ next_image form choice page ++ images_in form (chosen (later choice) pages)
+next_and_later form All page pages = refl
+next_and_later form (Range zero zero) page pages = refl
+next_and_later form (Range zero (suc count)) page pages = rw (some_more count, sub-one) refl
+next_and_later form (Range (suc before) count) page pages = rw (some_more before, sub-one) refl
 
 -- what is missing of the later pages is missing of all
 there_later : (choice : PageChoice) (number : ℕ) → AreThere choice (suc number) ↔ AreThere (later choice) number
@@ -27,12 +27,12 @@ there_later (Range (suc before) count) number =
 pub record HasShown (dpi : Dpi) (sheets : List Sheet) (old new : Showing) : Type 0 where
   pub pages : List Page
   pub show : AllShow dpi pages sheets
-  pub images : new.images ≡ old.images ++ images_of (chosen old.choice pages)
+  pub images : new.images ≡ old.images ++ images_in old.form (chosen old.choice pages)
   pub met : AreThere old.choice (length sheets) ↔ IsMet new.choice
 
-none_chosen : (choice : PageChoice) → images_of (chosen choice []) ≡ []
-none_chosen All = refl
-none_chosen (Range before count) = rw (drop-nil, take-nil)
+none_chosen : (form : ImageForm) (choice : PageChoice) → images_in form (chosen choice []) ≡ []
+none_chosen form All = refl
+none_chosen form (Range before count) = rw (drop-nil, take-nil)
 
 met_of_none : (choice : PageChoice) → AreThere choice 0 ↔ IsMet choice
 met_of_none choice = grind arith
@@ -41,7 +41,7 @@ pub has_shown : (dpi : Dpi) (sheets : List Sheet) (old new : Showing) → Hands 
 has_shown dpi [] old new h = rw h (record {
   pages = [];
   show = tt;
-  images = rw (none_chosen old.choice, append-nil);
+  images = rw (none_chosen old.form old.choice, append-nil);
   met = met_of_none old.choice;
 })
 has_shown dpi (sheet ∷ sheets) old new h =
@@ -50,16 +50,16 @@ has_shown dpi (sheet ∷ sheets) old new h =
     record {
       pages = h.0 ∷ rest.pages;
       show = (h.2, rest.show);
-      images = rest.images ∙ rw (next_and_later old.choice h.0 rest.pages) (append_assoc old.images (next_image old.choice h.0) _);
+      images = rest.images ∙ rw (next_and_later old.form old.choice h.0 rest.pages) (append_assoc old.images (next_image old.form old.choice h.0) _);
       met = (λ all. rest.met.0 (there.0 all), λ met. there.1 (rest.met.1 met));
     }
 
 -- ---- previews
 
-pub all_made : {profile : Profile} {dpi : Dpi} {job : List ℕ} {sheets : List Sheet} (old new : Showing) {choice : PageChoice} {images : List ℕ}
-    → HasPagesBy profile dpi job sheets → Hands shows_next dpi sheets old new → old.choice ≡ choice → old.images ≡ [] → new.images ≡ images
-    → IsMet new.choice → AreImagesOf profile dpi job choice images
-all_made {dpi = dpi} {sheets = sheets} old new meaning h choice_is none images_are met =
+pub all_made : {profile : Profile} {dpi : Dpi} {job : List ℕ} {sheets : List Sheet} (old new : Showing) {choice : PageChoice}
+    {form : ImageForm} {images : List ℕ} → HasPagesBy profile dpi job sheets → Hands shows_next dpi sheets old new → old.choice ≡ choice
+    → old.form ≡ form → old.images ≡ [] → new.images ≡ images → IsMet new.choice → AreImagesIn form profile dpi job choice images
+all_made {dpi = dpi} {sheets = sheets} old new {choice = choice} meaning h choice_is form_is none images_are met =
     let shown = has_shown dpi sheets old new h in
     record {
       sheets = sheets;
@@ -67,8 +67,9 @@ all_made {dpi = dpi} {sheets = sheets} old new meaning h choice_is none images_a
       there = rw (← choice_is) (shown.met.1 met);
       pages = shown.pages;
       show = shown.show;
-      images = sym images_are ∙ shown.images ∙ ap (λ (before : List ℕ). before ++ images_of (chosen old.choice shown.pages)) none
-          ∙ ap (λ (choice : PageChoice). images_of (chosen choice shown.pages)) choice_is;
+      images = sym images_are ∙ shown.images ∙ ap (λ (before : List ℕ). before ++ images_in old.form (chosen old.choice shown.pages)) none
+          ∙ ap (λ (choice : PageChoice). images_in old.form (chosen choice shown.pages)) choice_is
+          ∙ ap (λ (form : ImageForm). images_in form (chosen choice shown.pages)) form_is;
     }
 
 pub one_lacks : {profile : Profile} {dpi : Dpi} {job : List ℕ} {sheets : List Sheet} (old new : Showing) {choice : PageChoice}
@@ -84,16 +85,16 @@ met_by met same is by = rw (← same) (rw is at by)
 pub unmet_by : {choice other : PageChoice} (met : Bool) → choice ≡ other → met ≡ false → IsMetBy choice met → IsMet other → ⊥
 unmet_by met same is by = rw (← same) (rw is at by)
 
-pub none_shown : (profile : Profile) (dpi : Dpi) (job : List ℕ) (choice : PageChoice) (held : Option (List ℕ)) (fault : Fault)
-    → ArePageImages profile dpi job choice (Err fault) → IsPagesPreview profile dpi job choice held held (Err fault)
-none_shown profile dpi job choice held (Refused refusal) n = (n, Keeps-refl held)
-none_shown profile dpi job choice held NoSuchPage n = (n, Keeps-refl held)
-none_shown profile dpi job choice held Memory n = Keeps-refl held
-none_shown profile dpi job choice held fault n = absurd n
+pub none_shown : (form : ImageForm) (profile : Profile) (dpi : Dpi) (job : List ℕ) (choice : PageChoice) (held : Option (List ℕ))
+    (fault : Fault) → ArePageImages form profile dpi job choice (Err fault) → IsPagesPreview form profile dpi job choice held held (Err fault)
+none_shown form profile dpi job choice held (Refused refusal) n = (n, Keeps-refl held)
+none_shown form profile dpi job choice held NoSuchPage n = (n, Keeps-refl held)
+none_shown form profile dpi job choice held Memory n = Keeps-refl held
+none_shown form profile dpi job choice held fault n = absurd n
 
-pub all_shown : {profile : Profile} {dpi : Dpi} {job : List ℕ} {choice : PageChoice} (old new : Option (List ℕ)) (images : List ℕ)
-    (result : Result (Unit {0}) Fault) → AreImagesOf profile dpi job choice images → IsWritten old new images result
-    → IsPagesPreview profile dpi job choice old new result
+pub all_shown : {form : ImageForm} {profile : Profile} {dpi : Dpi} {job : List ℕ} {choice : PageChoice} (old new : Option (List ℕ))
+    (images : List ℕ) (result : Result (Unit {0}) Fault) → AreImagesIn form profile dpi job choice images
+    → IsWritten old new images result → IsPagesPreview form profile dpi job choice old new result
 all_shown old new images (Ok done) made written = (images, made, written)
 all_shown old new images (Err WriteFault) made written = (images, made, written)
 all_shown old new images result made written = absurd written

@@ -4,16 +4,20 @@ use Rattle.std.specs.Global.{Vec}
 use Rattle.std.specs.Io.KnownBytes.{Appends, Keeps}
 use Rattle.pcl_base.specs.declared.dpi.Dpi.{Dpi}
 use Rattle.pcl_base.specs.declared.profile.Profile.{Profile}
+use Rattle.pcl_bitmap.specs.Bitmap.{Picture}
 use Rattle.pcl_bitmap.specs.declared.page.Page.{Page}
 use Rattle.pcl_page.specs.Situation.{Sheet}
 use Rattle.pcl_page.specs.Jobs.{HasPagesBy}
 use Rattle.pcl_page.specs.Delivering.{AllShow, IsRefusalBy}
 use Rattle.pcl_streams.specs.declared.fault.Fault.{Fault}
 use Rattle.pcl_streams.specs.declared.fault.Fault.TheVariants.{Refused, Memory, ReadFault, TooLong, WriteFault, NoSuchPage}
+use Rattle.pcl_streams.specs.declared.form.ImageForm.{ImageForm}
+use Rattle.pcl_streams.specs.declared.form.ImageForm.TheVariants.{Bitmap, Greymap}
 use Rattle.pcl_streams.specs.declared.page_images.PageChoice.{PageChoice}
 use Rattle.pcl_streams.specs.declared.page_images.PageChoice.TheVariants.{All, Range}
 use Rattle.pcl_streams.specs.Transfer.{AppendsFront}
 use Rattle.pcl_streams.specs.Image.{image_of}
+use Rattle.pcl_streams.specs.Greymap.{greymap_of}
 
 -- the pages that are asked for
 abbrev pub chosen : PageChoice → List Page → List Page
@@ -30,37 +34,47 @@ abbrev pub AreThere : PageChoice → ℕ → Type 0
 AreThere All number = Unit {0}
 AreThere (Range before count) number = before + count ≤ number
 
--- one image after the other
-abbrev pub images_of : List Page → List ℕ
-images_of [] = []
-images_of (page ∷ later) = image_of page.bitmap ++ images_of later
+-- the image of a page in a form
+abbrev pub image_in : ImageForm → Picture → List ℕ
+image_in Bitmap picture = image_of picture
+image_in (Greymap scale) picture = greymap_of scale picture
 
--- the bytes are the images of the pages of a job that a profile accepts that are asked for
-pub record AreImagesOf (profile : Profile) (dpi : Dpi) (job : List ℕ) (choice : PageChoice) (bytes : List ℕ) : Type 0 where
+-- one image after the other
+abbrev pub images_in : ImageForm → List Page → List ℕ
+images_in form [] = []
+images_in form (page ∷ later) = image_in form page.bitmap ++ images_in form later
+
+-- the bytes are the images in a form of the pages of a job that a profile accepts that are asked for
+pub record AreImagesIn (form : ImageForm) (profile : Profile) (dpi : Dpi) (job : List ℕ) (choice : PageChoice) (bytes : List ℕ) : Type 0 where
   pub sheets : List Sheet
   pub meaning : HasPagesBy profile dpi job sheets
   pub there : AreThere choice (length sheets)
   pub pages : List Page
   pub show : AllShow dpi pages sheets
-  pub images : bytes ≡ images_of (chosen choice pages)
+  pub images : bytes ≡ images_in form (chosen choice pages)
+
+-- the same in the form of bitmaps
+abbrev pub AreImagesOf : Profile → Dpi → List ℕ → PageChoice → List ℕ → Type 0
+AreImagesOf profile dpi job choice bytes = AreImagesIn Bitmap profile dpi job choice bytes
 
 -- a page that is asked for is missing in an accepted job
 abbrev pub LacksPage : Profile → Dpi → List ℕ → PageChoice → Type 0
 LacksPage profile dpi job choice = (sheets : List Sheet) × HasPagesBy profile dpi job sheets × (AreThere choice (length sheets) → ⊥)
 
-abbrev pub ArePageImages : Profile → Dpi → List ℕ → PageChoice → Result (Vec ℕ) Fault → Type 0
-ArePageImages profile dpi job choice (Ok images) = AreImagesOf profile dpi job choice images.items
-ArePageImages profile dpi job choice (Err (Refused refusal)) = IsRefusalBy profile dpi job refusal
-ArePageImages profile dpi job choice (Err NoSuchPage) = LacksPage profile dpi job choice
-ArePageImages profile dpi job choice (Err Memory) = Unit {0}
-ArePageImages profile dpi job choice (Err fault) = ⊥
+abbrev pub ArePageImages : ImageForm → Profile → Dpi → List ℕ → PageChoice → Result (Vec ℕ) Fault → Type 0
+ArePageImages form profile dpi job choice (Ok images) = AreImagesIn form profile dpi job choice images.items
+ArePageImages form profile dpi job choice (Err (Refused refusal)) = IsRefusalBy profile dpi job refusal
+ArePageImages form profile dpi job choice (Err NoSuchPage) = LacksPage profile dpi job choice
+ArePageImages form profile dpi job choice (Err Memory) = Unit {0}
+ArePageImages form profile dpi job choice (Err fault) = ⊥
 
 -- the images are written; a prefix of them where a write fails, and nothing after any other fault
-abbrev pub IsPagesPreview : Profile → Dpi → List ℕ → PageChoice → Option (List ℕ) → Option (List ℕ) → Result (Unit {0}) Fault → Type 0
-IsPagesPreview profile dpi job choice old new (Ok unit) = (bytes : List ℕ) × AreImagesOf profile dpi job choice bytes × Appends old new bytes
-IsPagesPreview profile dpi job choice old new (Err WriteFault) =
-    (bytes : List ℕ) × AreImagesOf profile dpi job choice bytes × AppendsFront old new bytes
-IsPagesPreview profile dpi job choice old new (Err (Refused refusal)) = IsRefusalBy profile dpi job refusal × Keeps old new
-IsPagesPreview profile dpi job choice old new (Err NoSuchPage) = LacksPage profile dpi job choice × Keeps old new
-IsPagesPreview profile dpi job choice old new (Err Memory) = Keeps old new
-IsPagesPreview profile dpi job choice old new (Err fault) = ⊥
+abbrev pub IsPagesPreview : ImageForm → Profile → Dpi → List ℕ → PageChoice → (old new : Option (List ℕ)) → Result (Unit {0}) Fault → Type 0
+IsPagesPreview form profile dpi job choice old new (Ok unit) =
+    (bytes : List ℕ) × AreImagesIn form profile dpi job choice bytes × Appends old new bytes
+IsPagesPreview form profile dpi job choice old new (Err WriteFault) =
+    (bytes : List ℕ) × AreImagesIn form profile dpi job choice bytes × AppendsFront old new bytes
+IsPagesPreview form profile dpi job choice old new (Err (Refused refusal)) = IsRefusalBy profile dpi job refusal × Keeps old new
+IsPagesPreview form profile dpi job choice old new (Err NoSuchPage) = LacksPage profile dpi job choice × Keeps old new
+IsPagesPreview form profile dpi job choice old new (Err Memory) = Keeps old new
+IsPagesPreview form profile dpi job choice old new (Err fault) = ⊥

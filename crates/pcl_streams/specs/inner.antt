@@ -1,3 +1,4 @@
 -- What only proofs and contracts of private functions cite.
 pub mod Choice
+pub mod Counting
 pub mod Showing

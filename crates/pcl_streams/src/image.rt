@@ -1,9 +1,12 @@
-//! Images in Netpbm's raw bitmap form, P4.
+//! Images of pages: in Netpbm's raw bitmap form, P4, and in either form.
 
 ghost use Rattle.std.specs.Prelude.{◌≡◌, ◌++◌, IfOk, OnOk, OnErr};
 ghost use Rattle.pcl_streams.specs.Image.{header_of, image_of, IsImageWritten};
+ghost use Rattle.pcl_streams.specs.PageImages.{image_in};
 
 use crate::Fault;
+use crate::form::ImageForm;
+use crate::greymap::make_greymap;
 use crate::writing::{write_all, write_bytes};
 use itoa::Buffer;
 use pcl_base::{Dpi, Size};
@@ -21,8 +24,26 @@ pub fn write_image<W: Write>(alloc: Global, bitmap: &Bitmap, out: &mut W) -> Res
     write_all(out, bitmap.bytes())
 }
 
-/// Appends a page as an image. Where memory runs out nothing is appended.
-pub fn append_image(bitmap: &Bitmap, images: &mut Vec<u8>) -> Result<(), AllocError>
+/// Appends a page as an image in a form. Where memory runs out nothing is appended.
+pub fn append_image_in(
+    form: ImageForm,
+    bitmap: &Bitmap,
+    images: &mut Vec<u8>,
+) -> Result<(), AllocError>
+    ensures appended { OnOk result (images.new.items ≡ images.old.items ++ image_in form bitmap.now) }
+    ensures kept { OnErr result (images.new.items ≡ images.old.items) }
+{
+    match form {
+        ImageForm::Bitmap => append_image(bitmap, images),
+        ImageForm::Greymap(scale) => {
+            let image = make_greymap(*images.allocator(), bitmap, scale)?;
+            images.extend_from_slice(&image)
+        }
+    }
+}
+
+/// Appends a page as a bitmap. Where memory runs out nothing is appended.
+fn append_image(bitmap: &Bitmap, images: &mut Vec<u8>) -> Result<(), AllocError>
     ensures appended { OnOk result (images.new.items ≡ images.old.items ++ image_of bitmap.now) }
     ensures kept { OnErr result (images.new.items ≡ images.old.items) }
 {

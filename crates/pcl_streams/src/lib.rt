@@ -3,6 +3,8 @@
 #![tactic(auto)]
 
 mod fault;
+mod form;
+mod greymap;
 mod image;
 mod page_images;
 mod page_preview;
@@ -11,6 +13,7 @@ mod watching;
 mod writing;
 
 pub use fault::Fault;
+pub use form::{ImageForm, Scale};
 pub use image::write_image;
 pub use page_images::{PageChoice, chosen_images, preview_pages};
 pub use page_preview::{page_dots, preview};

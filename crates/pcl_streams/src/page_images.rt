@@ -1,11 +1,13 @@
 //! The preview of pages of a job, one image after the other.
 
-ghost use Rattle.std.specs.Prelude.{◌≡◌, ◌==◌, ◌&&◌, not, if◌then◌else◌, IfOk};
+ghost use Rattle.std.specs.Prelude.{◌≡◌, ◌==◌, ◌&&◌, not, if◌then◌else◌};
 ghost use Rattle.pcl_streams.specs.PageImages.{last_page, ArePageImages, IsPagesPreview};
+ghost use Rattle.pcl_streams.specs.declared.form.ImageForm.TheVariants.{Bitmap};
 ghost use Rattle.pcl_streams.specs.inner.Showing.{asks_next, later, IsMetBy};
 
 use crate::Fault;
-use crate::image::append_image;
+use crate::form::ImageForm;
+use crate::image::append_image_in;
 use crate::writing::write_all;
 use pcl_base::{Dpi, Profile};
 use pcl_page::{Page, PageSink, perform_by};
@@ -72,23 +74,24 @@ impl PageChoice {
     }
 }
 
-/// Writes the pages of a job that are asked for, by a profile, as PBM images, one after the other, and flushes. NoSuchPage comes only for an accepted
-/// job without one of them. After a write fault a prefix of the images was written, after any other fault nothing.
+/// Writes the pages of a job that are asked for, by a profile, as images in a form, one after the other, and flushes. NoSuchPage comes
+/// only for an accepted job without one of them. After a write fault a prefix of the images was written, after any other fault nothing.
 pub fn preview_pages<W: Write>(
     alloc: Global,
     job: &[u8],
     choice: PageChoice,
+    form: ImageForm,
     profile: Profile,
     dpi: Dpi,
     out: &mut W,
 ) -> Result<(), Fault>
-    ensures { IsPagesPreview profile dpi job.now choice (W.contents out.old) (W.contents out.new) result }
+    ensures { IsPagesPreview form profile dpi job.now choice (W.contents out.old) (W.contents out.new) result }
 {
-    let images = chosen_images(alloc, job, choice, profile, dpi)?;
+    let images = chosen_images_in(alloc, job, choice, form, profile, dpi)?;
     write_all(out, &images)
 }
 
-/// The images of the pages of a job that are asked for.
+/// The PBM images of the pages of a job that are asked for, by a profile.
 pub fn chosen_images(
     alloc: Global,
     job: &[u8],
@@ -96,10 +99,25 @@ pub fn chosen_images(
     profile: Profile,
     dpi: Dpi,
 ) -> Result<Vec<u8>, Fault>
-    ensures { ArePageImages profile dpi job.now choice result }
+    ensures { ArePageImages Bitmap profile dpi job.now choice result }
+{
+    chosen_images_in(alloc, job, choice, ImageForm::Bitmap, profile, dpi)
+}
+
+/// The images in a form of the pages of a job that are asked for.
+fn chosen_images_in(
+    alloc: Global,
+    job: &[u8],
+    choice: PageChoice,
+    form: ImageForm,
+    profile: Profile,
+    dpi: Dpi,
+) -> Result<Vec<u8>, Fault>
+    ensures { ArePageImages form profile dpi job.now choice result }
 {
     let mut shown = Shown {
         choice,
+        form,
         images: Vec::new(alloc),
     };
     perform_by(alloc, job, profile, dpi, &mut shown)?;
@@ -115,6 +133,8 @@ pub fn chosen_images(
 struct Shown {
     /// What is asked for of the pages that are to come.
     choice: PageChoice,
+    /// The form of the images.
+    form: ImageForm,
     /// The images so far.
     images: Vec<u8>,
 }
@@ -124,7 +144,7 @@ impl Model for Shown {
 
     ghost Value = { Showing };
 
-    ghost view = { λ a. record { choice = a.choice; images = a.images.items } };
+    ghost view = { λ a. record { choice = a.choice; form = a.form; images = a.images.items } };
 }
 
 impl PageSink for Shown {
@@ -135,7 +155,7 @@ impl PageSink for Shown {
 
     fn page(&mut self, page: &Page) -> Result<(), AllocError> {
         if self.choice.asks_next() {
-            append_image(&page.bitmap, &mut self.images)?;
+            append_image_in(self.form, &page.bitmap, &mut self.images)?;
         }
         self.choice = self.choice.later();
         Ok(())
