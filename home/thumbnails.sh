@@ -47,6 +47,7 @@ mkdir -p "$place/bin" "$place/mime/packages"
 ln -s "$program" "$place/bin/pclmin"
 cp share/pclmin-thumbnailer "$place/bin"
 printf '\033&l26a0E\033*p0x0Y\033*t600R\033*r0A\033*b1W\200' > "$place/fine.pcl"
+printf '\033&l-180u36Z\033&l0E\033*p0x0Y\033*c9a9b0P' > "$place/moved.pcl"
 printf '\033*p70000X' > "$place/refused.pcl"
 : > "$place/empty.pcl"
 
@@ -54,6 +55,7 @@ is "a Letter page" "$(thumbnail examples/picture.pcl 256)" "PNG image data, 186 
 is "the smallest size" "$(thumbnail examples/picture.pcl 128)" "PNG image data, 93 x 128"
 is "the largest size" "$(thumbnail examples/picture.pcl 1024)" "PNG image data, 745 x 1024"
 is "an A4 page at 600 dots per inch" "$(thumbnail "$place/fine.pcl" 256)" "PNG image data, 171 x 256"
+is "a page that a driver moves" "$(thumbnail "$place/moved.pcl" 256)" "PNG image data, 186 x 256"
 is "a refused job" "$(thumbnail "$place/refused.pcl" 256)" "status 1"
 is "a job without a page" "$(thumbnail "$place/empty.pcl" 256)" "status 1"
 
