@@ -5,10 +5,11 @@
 
 PROGRAM is a built pclmin. The jobs are made anew in a temporary folder: documents by drivers, at their resolutions. A job is
 tried at 300 and then at 600 dots per inch, until it is accepted. It holds then if what `shrink` writes is no longer than the
-job, and if `same` says `same` of the job and what `min` writes, and `same --asked` of the job and what `shrink` writes. A refused
-one holds if both refuse it in the same words and write nothing. The result is a table by client, with the bytes of the accepted
-jobs, then each refusal, and `N of M hold`; the status is 1 if not all do. With WORDs only jobs whose names have all of these are
-made, and each has its own row.
+job, and if `same` says `same` of the job and what `min` writes, and `same --asked` of the job and what `shrink` writes. A job that
+`shrink` alone accepts, by the drivers' profile, has no bytes by `min`. A refused one holds if both refuse it and write nothing, and in
+the same words unless it has offsets of the page. The result is a table by client, with the bytes of the accepted jobs, then each
+refusal, and `N of M hold`; the status is 1 if not all do. With WORDs only jobs whose names have all of these are made, and each has
+its own row.
 
 Needs ghostscript, cups, cups-ppdc, cups-ipp-utils, printer-driver-gutenprint, printer-driver-hpijs, netpbm, imagemagick,
 hp2xx, barcode, texlive-binaries and texlive-base.
@@ -26,12 +27,15 @@ import tempfile
 
 PROCESSORS, RESOLUTIONS = 2, (300, 600)
 REFUSED = re.compile(r"pclmin: refused: (.+)")
+# A refusal of the stated profile alone.
+OFFSET = re.compile(r"UnsupportedValue at [0-9]+ &l[UZ]")
 NEEDS = ("gs ppdc pbmtolj ppmtolj convert hp2xx barcode tex dvilj dvilj2p hpijs /usr/sbin/ippevepcl /usr/lib/cups/filter/rastertohp "
          "/usr/lib/cups/filter/rastertogutenprint.5.3 /usr/lib/cups/driver/gutenprint.5.3")
 WORDS = "the printer at the far end of a slow line waits for each byte of a page while its paper and its toner wait too".split()
 
 Job = collections.namedtuple("Job", "client options document command")
-Result = collections.namedtuple("Result", "job sent dpi least smaller refusal fault", defaults=(0, 0, 0, None, None))
+# The bytes that `min` writes are None where it refuses the job.
+Result = collections.namedtuple("Result", "job sent dpi least smaller refusal fault", defaults=(0, None, 0, None, None))
 
 
 # ---- the documents
@@ -106,7 +110,8 @@ def painted(device, dpi, document, options=""):
 
 def ghostscript():
     devices = {"laserjet": (75, 150, 300), "ljetplus": (75, 150, 300), "ljet2p": (75, 150, 300), "lj4dith": (300, 600), "fs600": (300, 600),
-               "ljet3": (300,), "ljet4": (600,), "hl1250": (600,), "deskjet": (300,), "lj5gray": (300,), "pclm": (300,)}
+               "ljet3": RESOLUTIONS, "ljet4": RESOLUTIONS, "ljet4d": RESOLUTIONS, "hl1250": (600,), "deskjet": (300,),
+               "lj5gray": (300,), "pclm": (300,)}
     for device, resolutions in devices.items():
         for dpi in resolutions:
             for document in DOCUMENTS:
@@ -181,20 +186,21 @@ def written(program, how, dpi, job, out):
 
 
 def again(program, job, outs):
-    """Has a job written both ways, and gives its resolution, or none and its refusal."""
+    """Has a job written both ways, and gives the resolution at which `shrink` accepts it, or none and its refusal."""
     for dpi in RESOLUTIONS:
-        refusals = {written(program, how, dpi, job, out) for how, out in outs.items()}
-        if len(refusals) > 1:
-            raise ValueError("min and shrink end in different ways: %s" % refusals)
-        refusal = refusals.pop()
-        if refusal is None:
+        least, smaller = (written(program, how, dpi, job, out) for how, out in outs.items())
+        if least != smaller and not OFFSET.fullmatch(least or ""):
+            raise ValueError("min and shrink end in different ways: %s, %s" % (least, smaller))
+        if smaller is None:
             return dpi, None
-    return 0, refusal
+    return 0, smaller
 
 
 def fault_of(program, dpi, job, outs):
     """What doesn't hold of an accepted job, if anything."""
     for how, out in outs.items():
+        if not os.path.exists(out):
+            continue
         asked = ["--asked"] if how == "shrink" else []
         run = subprocess.run([program, "same", *asked, "--dpi", str(dpi), job, out], stdout=subprocess.PIPE, stderr=subprocess.STDOUT,
                              text=True)
@@ -218,10 +224,17 @@ def tried(program, folder, number, job):
         return Result(job, sent, fault=str(fault))
     if refusal:
         return Result(job, sent, refusal=refusal)
-    return Result(job, sent, dpi, os.path.getsize(least), os.path.getsize(smaller), fault=fault_of(program, dpi, path, outs))
+    least = os.path.getsize(least) if os.path.exists(least) else None
+    return Result(job, sent, dpi, least, os.path.getsize(smaller), fault=fault_of(program, dpi, path, outs))
 
 
 # ---- the table
+
+def total(results, size):
+    """The sum of a number of bytes, or a dash where one of them is missing."""
+    sizes = [getattr(result, size) for result in results]
+    return "–" if None in sizes else sum(sizes)
+
 
 def row(cells):
     print("| " + " | ".join("{:,}".format(cell) if isinstance(cell, int) else cell for cell in cells) + " |")
@@ -235,7 +248,7 @@ def table(results, named):
     row(["---"] + ["---:"] * 5)
     for name, group in groups.items():
         read = [result for result in group if result.dpi]
-        row([name, len(group), len(read)] + [sum(getattr(result, size) for result in read) for size in ("sent", "least", "smaller")])
+        row([name, len(group), len(read)] + [total(read, size) for size in ("sent", "least", "smaller")])
 
 
 def main(program, *words):

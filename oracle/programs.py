@@ -49,7 +49,8 @@ class Program:
 
     def refusal(self, job, dpi):
         """The line by which a job is refused by the drivers' profile, or nothing."""
-        return self.run(["pages", "--dpi", str(dpi)], job)[2]
+        status, _, said = self.run(["pages", "--dpi", str(dpi)], job)
+        return said if status != 0 else b""
 
     def same(self, first, second, dpi, *options):
         """The answer of `same`."""

@@ -18,6 +18,7 @@ done
 python3 oracle/fuzz.py "$PCLMIN" build/oracle/plain 1800 1 --workers 2 --folder build/oracle
 python3 oracle/fuzz.py "$PCLMIN" build/oracle/plain 200 2 --model --workers 2 --folder build/oracle
 python3 oracle/fuzz.py "$PCLMIN" build/oracle/plain 200 3 --triples --workers 2 --folder build/oracle
+python3 oracle/fuzz.py "$PCLMIN" build/oracle/plain 600 24 --drivers --model --workers 2 --folder build/oracle
 for seed in {4..23}; do
     python3 oracle/shrunk.py "$PCLMIN" build/oracle/plain 1000 "$seed" --workers "$(nproc)" --folder build/oracle
 done

@@ -1,15 +1,15 @@
 #!/usr/bin/env python3
 """Sends random jobs through `pclmin shrink` and back, and has the plain program (plain/) look at all pages of both.
 
-    python3 oracle/shrunk.py PCLMIN PLAIN COUNT SEED [--drivers] [--workers N] [--folder FOLDER]
+    python3 oracle/shrunk.py PCLMIN PLAIN COUNT SEED [--workers N] [--folder FOLDER]
 
 The jobs are those of random_jobs.py: one to three that are mostly accepted, joined, or one of any kind, by `--dpi 300`, `--dpi 600` or
 `--dpi auto`, which is drawn too; the first of eight that is accepted, or the last. Four of five go by `--profile-only`. What `shrink`
 writes of an accepted one is no longer, has as many pages, each the same by the plain program, and is the same by `same --asked`; by `--dpi auto` it has these pages at each
 resolution at which the plain program accepts the job. Without `--profile-only` it is the job as it came, or printers don't read it
 otherwise. A job that `shrink` refuses is refused by the plain program in the same line. A job that doesn't hold is kept in FOLDER
-(build/fuzz) as shrunk-SEED-NUMBER.pcl, with a line on standard output, and the status is then 1. With --drivers the plain program reads
-by the drivers' profile, and jobs have offsets. The number of workers is 1 if it isn't given; the jobs don't depend on it.
+(build/fuzz) as shrunk-SEED-NUMBER.pcl, with a line on standard output, and the status is then 1. The plain program reads by the drivers'
+profile, as `shrink` does, and jobs have offsets of the page. The number of workers is 1 if it isn't given; the jobs don't depend on it.
 """
 
 import argparse
@@ -27,10 +27,10 @@ from random_jobs import job_of, right_job
 TRIES = 8
 
 
-def random_job(draw, has_offsets):
+def random_job(draw):
     """A job, and what is asked for its resolution."""
     count = draw.choice([1, 1, 2, 3]) if draw.random() < 0.9 else 0
-    jobs = [right_job(draw, has_offsets) for _ in range(count)] or [job_of(draw, has_offsets)]
+    jobs = [right_job(draw, has_offsets=True) for _ in range(count)] or [job_of(draw, has_offsets=True)]
     return draw.choice([b"\f", b"", b"\x1bE"]).join(jobs), draw.choice(["300", "600", "auto"])
 
 
@@ -39,11 +39,11 @@ class Looker:
 
     def __init__(self, asked):
         self.pclmin, self.plain = programs.Program(asked.pclmin, asked.folder), programs.Plain(asked.plain)
-        self.seed, self.folder, self.by_drivers = asked.seed, asked.folder, asked.drivers
+        self.seed, self.folder = asked.seed, asked.folder
 
     def pages(self, job, dpi):
         """The images of all pages by the plain program at a resolution, or the line of its refusal."""
-        at = ["--dpi", dpi] + ["--drivers"] * self.by_drivers
+        at = ["--drivers", "--dpi", dpi]
         (first, count), = self.plain.answers([(["pbm", "--page", "1"] + at, job)])
         if first[0] != 0:
             return [] if first[2].startswith(b"pclmin: no page") else first[2]
@@ -58,7 +58,7 @@ class Looker:
         """What doesn't hold of a job, none where all does; and how it came out."""
         draw = random.Random("%d %d shrunk" % (self.seed, number))
         for _ in range(TRIES):
-            job, dpi = random_job(draw, self.by_drivers)
+            job, dpi = random_job(draw)
             readers = ["--profile-only"] if draw.random() < 0.8 else []
             status, written, said = self.pclmin.run(["shrink", "--dpi", dpi] + readers, job)
             if status == 0:
@@ -78,7 +78,8 @@ class Looker:
         accepted = [at for at, pages in came.items() if isinstance(pages, list)]
         if status == 1:
             first = next(iter(came.values()))
-            return (None if first == said and not accepted else "refused with %r, by the plain program %r" % (said, first)), "refused"
+            plain = "%d pages" % len(first) if isinstance(first, list) else first
+            return (None if first == said and not accepted else "refused with %r, by the plain program %r" % (said, plain)), "refused"
         if status != 0:
             return "status %d, %r" % (status, said), "failed"
         if not accepted:
@@ -105,7 +106,6 @@ def main():
     parser = argparse.ArgumentParser()
     for name, kind in (("pclmin", str), ("plain", str), ("count", int), ("seed", int)):
         parser.add_argument(name, type=kind)
-    parser.add_argument("--drivers", action="store_true")
     parser.add_argument("--workers", type=int, default=1)
     parser.add_argument("--folder", default="build/fuzz")
     asked = parser.parse_args()
