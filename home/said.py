@@ -4,9 +4,10 @@
     home/said.py PCLMIN
 
 For each kind of DRIVERS.md, "By answer", `explain KIND` has to say the row's text. Then a job of each command, by its name, is
-explained, and where the command or its value is refused the text has to be that of the row which names it, or of the row with a letter
-left open that it fits, or, where there is none, that of the kind. No row may be without a command. The manual page has to have each
-word that the help of a command has, in the synopsis and below. Each difference is printed, and the status is then 1.
+explained by the stated profile, and where the command or its value is refused the text has to be that of the row which names it, or of
+the row with a letter left open that it fits, or, where there is none, that of the kind. No row may be without a command. The manual
+page has to have each word that the help of a command has, in the synopsis and below. Each difference is printed, and the status is then
+1.
 """
 
 import pathlib
@@ -77,7 +78,7 @@ def command_faults(pclmin, kinds, commands):
     """Commands of which `explain` says something else than their rows, and rows of which no command is refused."""
     count, seen = 0, set()
     for name, job in jobs():
-        said = explain(pclmin, job=job)
+        said = explain(pclmin, "--stated", job=job)
         line = LINE.fullmatch(said.split("\n")[0])
         if said == ACCEPTED or line and line["kind"] not in ("UnsupportedCommand", "UnsupportedValue"):
             continue
