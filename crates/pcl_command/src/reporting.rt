@@ -47,7 +47,7 @@ fn shrunk_line(alloc: Global, len: usize, shrunk: &Shrunk) -> Result<Vec<u8>, Al
     let mut line = Vec::from_slice(alloc, b"pclmin: ")?;
     append_number(len, b" bytes in, ", &mut line)?;
     append_number(shrunk.job.len(), b" out, ", &mut line)?;
-    append_number(shrunk.pages, b" pages, ", &mut line)?;
+    append_number(shrunk.pages, after_pages(shrunk.pages), &mut line)?;
     line.extend_from_slice(candidate_name(shrunk.by))?;
     if let Some(doubt) = shrunk.doubt {
         line.extend_from_slice(b", since printers read otherwise ")?;
@@ -68,6 +68,14 @@ fn count_pages(
         Ok(pages) => Ok(Some(pages)),
         Err(JobFault::Refused(_)) => Ok(None),
         Err(JobFault::Memory) => Err(AllocError),
+    }
+}
+
+/// What stands after a number of pages.
+fn after_pages(pages: usize) -> &'static [u8] {
+    match pages {
+        1 => b" page, ",
+        _ => b" pages, ",
     }
 }
 

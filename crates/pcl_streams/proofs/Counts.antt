@@ -34,7 +34,8 @@ counted byte skip (suc n) m h =
     ∙ ap (λ x. black_in_byte byte skip n + x) (bit_is byte (skip + n) m (omega (arith, h)))
 
 -- the bits of a byte after some, moved to its end
-pub set_bits : (byte skip n : ℕ) → skip + n ≤ 8 → ones (byte % (1 * 2 ^ (8 - skip) % 4294967296) / 2 ^ (8 - skip - n)) ≡ black_in_byte byte skip n
+pub set_bits : (byte skip n : ℕ) → skip + n ≤ 8
+    → ones (byte % (1 * 2 ^ (8 - skip) % 4294967296) / 2 ^ (8 - skip - n)) ≡ black_in_byte byte skip n
 set_bits byte skip n h =
     let m : ℕ = 8 - skip - n in
     let all : 8 - skip ≡ n + m = omega (arith, h) in

@@ -15,13 +15,15 @@ pub few_squares : (dots side : ℕ) → 1 ≤ side → dots ≤ 8400 → squares
 few_squares dots side some few =
     let below = div_below (dots + side - 1) side 8401 some (omega (arith, some, few)) in omega (arith, below)
 
-pub pixel_more : (picture : Picture) (side row n : ℕ) (image before : List ℕ) (level : ℕ) → image ≡ before ++ pixels_of_row picture side row n
+pub pixel_more : (picture : Picture) (side row n : ℕ) (image before : List ℕ) (level : ℕ)
+    → image ≡ before ++ pixels_of_row picture side row n
     → level ≡ pixel picture side n row → image ++ level ∷ [] ≡ before ++ pixels_of_row picture side row (n + 1)
 unfolding pixels_of_row
 pixel_more picture side row n image before level is next =
     rw (add-one n, is, next) (append_assoc before (pixels_of_row picture side row n) (pixel picture side n row ∷ []))
 
-pub pixel_row_more : (picture : Picture) (side width n : ℕ) (image before header : List ℕ) → before ≡ header ++ pixels_of picture side width n
+pub pixel_row_more : (picture : Picture) (side width n : ℕ) (image before header : List ℕ)
+    → before ≡ header ++ pixels_of picture side width n
     → image ≡ before ++ pixels_of_row picture side n width → image ≡ header ++ pixels_of picture side width (n + 1)
 unfolding pixels_of
 pixel_row_more picture side width n image before header is next =

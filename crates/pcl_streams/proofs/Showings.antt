@@ -50,7 +50,8 @@ has_shown dpi (sheet ∷ sheets) old new h =
     record {
       pages = h.0 ∷ rest.pages;
       show = (h.2, rest.show);
-      images = rest.images ∙ rw (next_and_later old.form old.choice h.0 rest.pages) (append_assoc old.images (next_image old.form old.choice h.0) _);
+      images = rest.images
+          ∙ rw (next_and_later old.form old.choice h.0 rest.pages) (append_assoc old.images (next_image old.form old.choice h.0) _);
       met = (λ all. rest.met.0 (there.0 all), λ met. there.1 (rest.met.1 met));
     }
 
