@@ -1,6 +1,6 @@
 -- What a job asks for, written around the texts of its pages, one exit or page more.
 use Rattle.std.proofs.Common.{◌≡◌, ◌≢◌, ℕ, suc, ◌+◌, Bool, true, false, ◌==◌, ◌||◌, List, [], ◌∷◌, ◌++◌, length, map, take, get_or, ◌<◌, ◌≤◌, refl, sym, ap, subst, ◌∙◌, append_assoc, append-nil, arith}
-use Rattle.pcl_shrink.proofs.Names.{nat_tests, length-append, length-map, length-take-le, map_more, flat_map-cons, flat_map-append, Asks, Exit, exit_of, Text, least_of, exit_bytes, exit_text, exits_after, is_exit_after, asked_text, side_text, reset_text, asked_before, fitted, asked_at, page_start, asked_pages}
+use Rattle.pcl_shrink.proofs.Names.{nat_tests, length-append, length-map, length-take-le, map_more, flat_map-cons, flat_map-append, Asks, Exit, exit_of, Text, least_of, exit_bytes, exit_text, exits_after, is_exit_after, fitted, asked_at, page_start, asked_pages}
 use Rattle.pcl_page.specs.declared.asks.Exit.{Exit as ExitOfCode}
 
 -- ---- exits
@@ -50,13 +50,6 @@ writes_elsewhere number exits {i} d old mid before lt here so_far stays same =
       rw (stays, so_far.0, more, exits_more number front exit, other_number here, append-nil) refl,
       rw (same, so_far.1, more, found_more number front exit, other_number here) refl,
     )
-
--- ---- what stands before a page
-
-pub starts_page : (asks : Asks) (page : ℕ) (old : List ℕ) {left again asked new : List ℕ} → left ≡ old ++ exits_after page asks.exits
-    → again ≡ left ++ reset_text asks page → asked ≡ again ++ asked_text (asked_before asks page) (asked_at asks page).said
-    → new ≡ asked ++ side_text (asked_at asks page).start.sheet_side → new ≡ old ++ page_start asks page
-starts_page asks page old exits reset said side = rw (side, said, reset, exits) (simp append_assoc)
 
 -- ---- pages
 

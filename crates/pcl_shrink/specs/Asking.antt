@@ -41,15 +41,18 @@ offset_command letter None (Some offset) = 27 ∷ codes "&l" ++ offset_text offs
 offset_command letter (Some before) (Some offset) =
     if int_eq before offset then [] else 27 ∷ codes "&l" ++ offset_text offset ++ letter
 
--- what asks for sides, bins, media, sources and offsets where others are asked for already
+-- what asks for sides, bins, media and sources where others are asked for already
 abbrev pub asked_text : Asked → Asked → List ℕ
 asked_text old new =
     value_text (27 ∷ codes "&l") (codes "S") old.sides new.sides
     ++ value_text (27 ∷ codes "&l") (codes "G") old.output_bin new.output_bin
     ++ value_text (27 ∷ codes "&l") (codes "M") old.media_type new.media_type
     ++ value_text (27 ∷ codes "&l") (codes "H") old.paper_source new.paper_source
-    ++ offset_command (codes "U") old.left_offset new.left_offset
-    ++ offset_command (codes "Z") old.top_offset new.top_offset
+
+-- the same of the offsets of the page
+abbrev pub offsets_text : Asked → Asked → List ℕ
+offsets_text old new =
+    offset_command (codes "U") old.left_offset new.left_offset ++ offset_command (codes "Z") old.top_offset new.top_offset
 
 -- the side of the sheet that the next page is asked for
 abbrev pub side_text : Option ℤ → List ℕ
@@ -110,11 +113,11 @@ reset_text asks number = if has_reset asks number then frame_bytes else []
 abbrev pub asked_before : Asks → ℕ → Asked
 asked_before asks number = if is_reset_before asks number then nothing_asked else (asked_at asks (number - 1)).said
 
--- what stands before the text of the page of this number, from 0
+-- what stands before the text of the page of this number, from 0; offsets last, since printers turn them by the side of the sheet
 abbrev pub page_start : Asks → ℕ → List ℕ
 page_start asks number =
     exits_after number asks.exits ++ reset_text asks number ++ asked_text (asked_before asks number) (asked_at asks number).said
-    ++ side_text (asked_at asks number).start.sheet_side
+    ++ side_text (asked_at asks number).start.sheet_side ++ offsets_text (asked_before asks number) (asked_at asks number).said
 
 -- what stands after the last of this many pages
 abbrev pub job_end : Asks → ℕ → List ℕ

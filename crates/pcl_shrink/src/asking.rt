@@ -14,6 +14,7 @@ ghost use Rattle.pcl_shrink.specs.Asking.{
   value_text,
   offset_command,
   asked_text,
+  offsets_text,
   parameter_text,
   lines_of,
   usual_start,
@@ -55,8 +56,10 @@ pub fn append_page_start(
     let is_left = append_exits(asks, page, out)?;
     let is_reset = page == 0 || (is_left || asked.start.is_first);
     append_reset(page == 0 || (!is_left && asked.start.is_first), out)?;
-    append_asked(asked_already(asks, page, is_reset), asked.said, out)?;
+    let already = asked_already(asks, page, is_reset);
+    append_asked(already, asked.said, out)?;
     append_value(b"\x1b&a", None, asked.start.sheet_side, b"G", out)?;
+    append_offsets(already, asked.said, out)?;
     Ok(is_reset)
 }
 
@@ -130,14 +133,20 @@ fn append_reset(is_wanted: bool, out: &mut Vec<u8>) -> Result<(), AllocError>
     Ok(())
 }
 
-/// Appends what asks for sides, bins, media, sources and offsets, as far as they aren't asked for already.
+/// Appends what asks for sides, bins, media and sources, as far as they aren't asked for already.
 fn append_asked(old: Asked, new: Asked, out: &mut Vec<u8>) -> Result<(), AllocError>
     ensures { OnOk result (out.new.items ≡ out.old.items ++ asked_text old new) }
 {
     append_value(b"\x1b&l", old.sides, new.sides, b"S", out)?;
     append_value(b"\x1b&l", old.output_bin, new.output_bin, b"G", out)?;
     append_value(b"\x1b&l", old.media_type, new.media_type, b"M", out)?;
-    append_value(b"\x1b&l", old.paper_source, new.paper_source, b"H", out)?;
+    append_value(b"\x1b&l", old.paper_source, new.paper_source, b"H", out)
+}
+
+/// Appends what asks for offsets of the page, as far as they aren't asked for already.
+fn append_offsets(old: Asked, new: Asked, out: &mut Vec<u8>) -> Result<(), AllocError>
+    ensures { OnOk result (out.new.items ≡ out.old.items ++ offsets_text old new) }
+{
     append_new_offset(old.left_offset, new.left_offset, b"U", out)?;
     append_new_offset(old.top_offset, new.top_offset, b"Z", out)
 }
