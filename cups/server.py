@@ -48,8 +48,8 @@ DRIVERS = [
     ("gutenprint", "gutenprint.5.3://hp-lj_4_plus/expert", [], True),
     ("hpijs", "drv:///hpijs.drv/hp-laserjet_4050_series-hpijs-pcl3.ppd", [], True),
     ("ljet2p", FOOMATIC + "HP-LaserJet_2P-ljet2p.ppd", [], True),
-    ("ljet4", FOOMATIC + "Generic-PCL_5e_Printer-ljet4.ppd", [], False),
-    ("ljet4d", FOOMATIC + "Generic-PCL_5e_Printer-ljet4d.ppd", [], False),
+    ("ljet4", FOOMATIC + "Generic-PCL_5e_Printer-ljet4.ppd", [], True),
+    ("ljet4d", FOOMATIC + "Generic-PCL_5e_Printer-ljet4d.ppd", [], True),
 ]
 # The driver whose jobs go through a raw queue too, and that makes the jobs that are cancelled.
 RAW = "ljet2p"
