@@ -104,7 +104,7 @@ const FINE_RULE: Case = Case {
     ..RULE
 };
 
-const CASES: [Case; 56] = [
+const CASES: [Case; 57] = [
     LINE,
     Case {
         name: "one letter",
@@ -217,6 +217,31 @@ const CASES: [Case; 56] = [
         name: "lines that are near",
         lines: 40,
         leading: 11,
+        ..LINE
+    },
+    // Most shapes of the second line are the boxes, which end a row lower than the letters: it seems to stand there, and the first line where
+    // its letters end. There are more letters than boxes, so both lines stand where these end: 2, 79, 37 and 38 for the characters, 33, 8,
+    // twice 11 for the lines, 34 for their codes, and 3.
+    Case {
+        name: "boxes that end lower than letters",
+        lines: 2,
+        letters: 10,
+        rectangles: &[
+            [340, 100, 6, 10],
+            [364, 100, 6, 10],
+            [340, 140, 6, 10],
+            [364, 140, 6, 10],
+            [388, 140, 6, 10],
+            [412, 140, 6, 10],
+            [436, 140, 6, 10],
+            [460, 140, 6, 10],
+            [484, 140, 6, 10],
+            [508, 140, 6, 10],
+            [532, 140, 6, 10],
+            [556, 140, 6, 10],
+            [580, 140, 6, 10],
+            [604, 140, 6, 10],
+        ],
         ..LINE
     },
     Case {

@@ -5,6 +5,7 @@
 mod finding;
 mod frequency;
 mod joining;
+mod standing;
 
 pub use finding::find_letters;
 pub use joining::join_shapes;

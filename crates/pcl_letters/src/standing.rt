@@ -1,0 +1,188 @@
+//! How glyphs stand on their lines.
+//!
+//! On which row a line seems to stand differs by a dot with what is on it: bold letters may end a row lower than others do. So patterns are
+//! taken in turn, those with the most shapes first, and each stands as it mostly does beside those before it.
+
+use crate::frequency::{Frequency, count_uses};
+use indexmap::IndexMap;
+use pcl_patterns::number_of_place;
+use pcl_shapes::{Collection, PlacedShape};
+use std::alloc::{AllocError, Global};
+
+/// A shape of a pattern whose shapes are letters. Their order is that of their patterns, those with the most shapes first.
+#[derive(Clone, Copy, PartialEq, Eq, PartialOrd, Ord)]
+struct LetterShape {
+    /// How many shapes of the job have other patterns.
+    others: u32,
+    pattern: u32,
+    /// The number of its line.
+    line: u32,
+    /// Its topmost row.
+    top: u32,
+    /// How far that seems to lie above the row of its line.
+    stand: u32,
+}
+
+/// The rows on which lines stand, as far as they are known.
+#[derive(Drop)]
+struct Lines {
+    rows: Vec<Option<u32>>,
+}
+
+impl Lines {
+    /// How far the topmost row of a shape lies above the row of its line, if that is known.
+    fn top_of(&self, shape: &LetterShape) -> Option<u32> {
+        let row = *self.rows.get(shape.line as usize)?;
+        row?.checked_sub(shape.top)
+    }
+
+    /// Has the line of a shape stand where that shape does, whose topmost row lies so far above, unless it is known.
+    fn add(&mut self, shape: &LetterShape, top: u32) {
+        if let Some(row) = self.rows.get_mut(shape.line as usize) {
+            if row.is_none() {
+                *row = Some(shape.top.saturating_add(top));
+            }
+        }
+    }
+
+    /// Has the lines of shapes stand where these do, unless they are known.
+    fn add_all(&mut self, shapes: &[LetterShape], top: u32) {
+        for shape in shapes {
+            self.add(shape, top);
+        }
+    }
+
+    /// How often the topmost rows of shapes lie so far above the rows of their lines, as far as these are known.
+    fn count_tops(
+        &self,
+        shapes: &[LetterShape],
+        counts: &mut IndexMap<u32, u32>,
+    ) -> Result<(), AllocError> {
+        for shape in shapes {
+            if let Some(top) = self.top_of(shape) {
+                count(top, counts)?;
+            }
+        }
+        Ok(())
+    }
+
+    /// How far the topmost rows of shapes mostly lie above the rows of their lines, or seem to where none of these is known.
+    fn usual_top(&self, alloc: Global, shapes: &[LetterShape]) -> Result<u32, AllocError> {
+        let mut counts = IndexMap::new(alloc);
+        self.count_tops(shapes, &mut counts)?;
+        if counts.is_empty() {
+            count_stands(shapes, &mut counts)?;
+        }
+        Ok(most_frequent(&counts))
+    }
+}
+
+/// For each pattern whose shapes are letters, how far its topmost row lies above the row of its line.
+pub fn find_tops(
+    alloc: Global,
+    collection: &Collection,
+    frequency: &Frequency,
+) -> Result<Vec<u32>, AllocError> {
+    let letters = sorted_letters(alloc, collection, frequency)?;
+    let mut lines = Lines {
+        rows: vec![in alloc; None; collection.placed.len().saturating_add(1)]?,
+    };
+    let mut tops = vec![in alloc; 0u32; collection.patterns.len()]?;
+    let mut rest = letters.as_slice();
+    for _ in 0..tops.len() {
+        let Some(first) = rest.first() else {
+            break;
+        };
+        let pattern = first.pattern;
+        let count = rest.partition_point(|shape| shape.pattern == pattern);
+        let shapes = rest.get(..count).unwrap_or(&[]);
+        let top = lines.usual_top(alloc, shapes)?;
+        lines.add_all(shapes, top);
+        set_top(&mut tops, pattern, top);
+        rest = rest.get(count..).unwrap_or(&[]);
+    }
+    Ok(tops)
+}
+
+/// Sets the number of a pattern.
+fn set_top(tops: &mut [u32], pattern: u32, top: u32) {
+    if let Some(number) = tops.get_mut(pattern as usize) {
+        *number = top;
+    }
+}
+
+/// The shapes that are letters, in order.
+fn sorted_letters(
+    alloc: Global,
+    collection: &Collection,
+    frequency: &Frequency,
+) -> Result<Vec<LetterShape>, AllocError> {
+    let uses = count_uses(alloc, collection)?;
+    let mut letters = Vec::new(alloc);
+    let mut line: u32 = 0;
+    let mut before: Option<&PlacedShape> = None;
+    for shape in collection.placed.iter() {
+        line = line.saturating_add(u32::from(!is_on_line(before, shape)));
+        before = Some(shape);
+        if frequency.is_letter(shape.pattern) {
+            let count = uses.get(shape.pattern as usize).copied().unwrap_or(0);
+            letters.push(letter_of(
+                shape,
+                line,
+                collection.placed.len().saturating_sub(count),
+            ))?;
+        }
+    }
+    letters.sort_unstable();
+    Ok(letters)
+}
+
+/// Whether a shape is on the line of the one before it.
+fn is_on_line(before: Option<&PlacedShape>, shape: &PlacedShape) -> bool {
+    match before {
+        Some(before) => before.page == shape.page && before.baseline == shape.baseline,
+        None => false,
+    }
+}
+
+/// A shape that is a letter on the line of this number, where so many shapes have other patterns.
+fn letter_of(shape: &PlacedShape, line: u32, others: usize) -> LetterShape {
+    LetterShape {
+        others: number_of_place(others),
+        pattern: shape.pattern,
+        line,
+        top: u32::from(shape.top),
+        stand: u32::from(shape.baseline.saturating_sub(shape.top)),
+    }
+}
+
+/// How often the topmost rows of shapes seem to lie so far above the rows of their lines.
+fn count_stands(
+    shapes: &[LetterShape],
+    counts: &mut IndexMap<u32, u32>,
+) -> Result<(), AllocError> {
+    for shape in shapes {
+        count(shape.stand, counts)?;
+    }
+    Ok(())
+}
+
+/// Counts a number.
+fn count(number: u32, counts: &mut IndexMap<u32, u32>) -> Result<(), AllocError> {
+    let count = counts.entry(number)?.or_insert(0u32);
+    *count = count.saturating_add(1);
+    Ok(())
+}
+
+/// The number that is there most often, or 0 where there is none.
+fn most_frequent(counts: &IndexMap<u32, u32>) -> u32 {
+    let mut most: u32 = 0;
+    let mut found: u32 = 0;
+    for (number, count) in counts.iter() {
+        if *count > most {
+            most = *count;
+            found = *number;
+        }
+    }
+    found
+}
