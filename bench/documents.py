@@ -13,10 +13,9 @@ pages of document.tex. The invoice, the table of 40 by 8 cells, the label with a
 here, other documents by clients.py.
 
 Two columns are of image files of the same pages without loss, a file for each page: TIFF with Group 4 coding, as faxes have it, by
-libtiff, and JB2 by cjb2 of DjVu.
+netpbm, and JB2 by cjb2 of DjVu.
 
-Needs the manual page of bash, groff, ghostscript, texlive-binaries, texlive-base, netpbm, libtiff-tools, djvulibre-bin, gzip, xz and GNU
-time.
+Needs the manual page of bash, groff, ghostscript, texlive-binaries, texlive-base, netpbm, djvulibre-bin, gzip, xz and GNU time.
 """
 
 import collections
