@@ -9,9 +9,13 @@ least raster has. With WORDs only documents are made whose names have all of the
 memory is the peak that GNU time tells of one more run: what wait4 tells of a child has in it what this script holds itself.
 
 The manual is that of bash, as groff sets it for Letter paper; dvilj prints docs/LANGUAGE.md in groff's fonts for TeX, and the two
-pages of document.tex. The invoice, the table of 40 by 8 cells and the label with a bar code are written here, other documents by
-clients.py. Needs the manual page of bash, groff, ghostscript, texlive-binaries,
-texlive-base, gzip, xz and GNU time.
+pages of document.tex. The invoice, the table of 40 by 8 cells, the label with a bar code, the spreadsheet and the ten letters are written
+here, other documents by clients.py.
+
+Two columns are of image files of the same pages without loss, a file for each page: TIFF with Group 4 coding, as faxes have it, by
+netpbm, and JB2 by cjb2 of DjVu.
+
+Needs the manual page of bash, groff, ghostscript, texlive-binaries, texlive-base, netpbm, djvulibre-bin, gzip, xz and GNU time.
 """
 
 import collections
@@ -34,6 +38,9 @@ PREPARED = (
     "tex -interaction=batchmode ROOT/bench/document.tex",
     "for name in text document; do dvilj -q -e$name.pcl $name.dvi; done",
 )
+
+# What makes a page an image file.
+IMAGES = ("pnmtotiff -g4 -quiet page.pbm > page.image", "cjb2 page.pbm page.image")
 
 # The command writes the job to standard output.
 Document = collections.namedtuple("Document", "name dpi command")
@@ -95,7 +102,62 @@ def label():
     return lines + [shown(140, 492, "1Z 999 AA1 01 2345 6784"), "showpage"]
 
 
-WRITTEN = {"invoice": invoice, "table": table, "label": label}
+def right_shown(edge, base, text):
+    return "(%s) dup stringwidth pop %d exch sub %d moveto show" % (text, edge, base)
+
+
+def spreadsheet():
+    """56 rows of a name and 9 numbers, with the letters of columns, the numbers of rows, sums, and hairlines between the cells."""
+    lines = [font("Helvetica", 7), "0.25 setlinewidth"]
+    lines += [rule(36, 80 + 11 * row, 576, 80 + 11 * row) for row in range(59)]
+    edges = [36, 56] + [120 + 48 * column for column in range(9)] + [576]
+    lines += [rule(edge, 80, edge, 718) for edge in edges]
+    lines += [shown((left + end) // 2 - 2, 710, chr(65 + place)) for place, (left, end) in enumerate(zip(edges[1:], edges[2:]))]
+    sums = [0] * 9
+    for row in range(56):
+        base = 699 - 11 * row
+        numbers = [(3571 * row + 7919 * column + row * row * column) % 90000 for column in range(1, 10)]
+        sums = [total + number for total, number in zip(sums, numbers)]
+        lines += [right_shown(53, base, str(row + 1)), shown(59, base, "%s %s" % (clients.WORDS[row % 21], clients.WORDS[7 * row % 23]))]
+        lines += [right_shown(edge - 3, base, "%d.%02d" % divmod(number, 100)) for edge, number in zip(edges[3:], numbers)]
+    lines += [font("Helvetica-Bold", 7), right_shown(53, 83, "57"), shown(59, 83, "Total")]
+    return lines + [right_shown(edge - 3, 83, "%d.%02d" % divmod(total, 100)) for edge, total in zip(edges[3:], sums)] + ["showpage"]
+
+
+def letterhead():
+    """The head of a letter with a mark of curves, and its foot."""
+    lines = ["gsave 90 714 translate 1.5 setlinewidth 0 0 26 0 360 arc stroke 0 0 20 30 330 arc fill"]
+    lines += ["1 setgray 0 0 11 0 360 arc fill grestore", font("Times-Bold", 24), shown(126, 714, "Example Trading Company")]
+    lines += [font("Times-Italic", 11), shown(126, 699, "Paper, ink and toner since 1898"), "1 setlinewidth"]
+    lines += [rule(60, 680, 552, 680), font("Helvetica", 7)]
+    for place, text in enumerate(("12 Long Street, 98765 Somewhere", "Telephone 0123 456789", "office@example.com")):
+        lines.append(right_shown(552, 720 - 9 * place, text))
+    lines += ["0.5 setlinewidth", rule(60, 66, 552, 66)]
+    for left, texts in ((60, ("Example Trading Company Ltd.", "Register 12345, Somewhere")),
+                        (230, ("Bank of Example", "Account 99 88 77 66")),
+                        (400, ("Directors: A. Example, B. Sample", "Tax number 11/222/33333"))):
+        lines += [shown(left, 56 - 9 * place, text) for place, text in enumerate(texts)]
+    return lines
+
+
+def letters():
+    """Ten letters of a page, each with the same head and foot and another text."""
+    lines = []
+    for page in range(10):
+        lines += letterhead() + [font("Times-Roman", 11)]
+        name = "%s %s" % (clients.WORDS[page].title(), clients.WORDS[page + 9].title())
+        address = (name, "%d Short Street" % (3 * page + 1), "54321 Elsewhere")
+        lines += [shown(60, 640 - 14 * place, text) for place, text in enumerate(address)]
+        lines += [right_shown(552, 580, "%d November 2026" % (page + 11)), font("Times-Bold", 11)]
+        lines += [shown(60, 550, "Your order %d" % (4711 + 13 * page)), font("Times-Roman", 11)]
+        for line in range(16 + page % 5):
+            words = (clients.WORDS[(11 * line + 5 * word + 7 * page + line * word) % len(clients.WORDS)] for word in range(16))
+            lines.append(shown(60, 526 - 14 * line, " ".join(words)))
+        lines += [shown(60, 190, "Yours faithfully,"), shown(60, 130, "A. Example"), "showpage"]
+    return lines
+
+
+WRITTEN = {"invoice": invoice, "table": table, "label": label, "spreadsheet": spreadsheet, "letters": letters}
 
 
 def painted(dpi, document, options=""):
@@ -116,7 +178,8 @@ def documents():
             name = "manual in TeX's fonts, " + ("%d pages" % count if count > 1 else "1 page")
             yield Document(name, dpi, painted(dpi, "manual-%d" % dpi, pages(count)))
         for name, title in (("form", "form with rules"), ("grey", "grey picture"), ("mixed", "mixed page"), ("invoice", "invoice"),
-                            ("table", "table of 40 by 8 cells"), ("label", "label with a bar code")):
+                            ("table", "table of 40 by 8 cells"), ("label", "label with a bar code"), ("spreadsheet", "spreadsheet"),
+                            ("letters", "ten letters"), ("text", "page of text")):
             yield Document(title, dpi, painted(dpi, name))
         for name, title in (("text", "text by dvilj"), ("document", "TeX by dvilj")):
             yield Document(title, dpi, "cat ../%s.pcl" % name)
@@ -162,6 +225,25 @@ def packed(name):
     return [len(content)] + sizes
 
 
+def page_image(program, dpi, job, page):
+    """A page of a job as PBM, if it has that page."""
+    shown = subprocess.run([program, "pbm", "--page", str(page), "--dpi", str(dpi), job], stdout=subprocess.PIPE, stderr=subprocess.DEVNULL)
+    return shown.stdout if shown.returncode == 0 else None
+
+
+def images(program, folder, dpi, job):
+    """How many bytes the pages of a job have as image files: by Group 4 coding, and by JB2."""
+    sizes, page = [0] * len(IMAGES), 1
+    while (bitmap := page_image(program, dpi, job, page)) is not None:
+        with open(os.path.join(folder, "page.pbm"), "wb") as out:
+            out.write(bitmap)
+        for place, command in enumerate(IMAGES):
+            subprocess.run(["bash", "-c", command], cwd=folder, check=True, stderr=subprocess.DEVNULL)
+            sizes[place] += os.path.getsize(os.path.join(folder, "page.image"))
+        page += 1
+    return sizes
+
+
 def fault_of(program, dpi, job, outs):
     """What doesn't hold, if anything."""
     for how, out in outs.items():
@@ -186,13 +268,15 @@ def measured(program, folder, document):
     sizes = packed(job) + packed(least) + [os.path.getsize(smaller)]
     times = ["%.1f" % (getattr(best["shrink"], what) / max(getattr(best["min"], what), 1e-3)) for what in Run._fields]
     part = "%.1f %%" % (100 * sizes[-1] / sizes[3])
+    sizes += images(program, own, document.dpi, job)
     return [document.name, str(document.dpi)] + sizes + [part] + times, fault_of(program, document.dpi, job, outs)
 
 
 def main(program, *words):
     program, faults = os.path.realpath(program), []
-    clients.row(["Document", "dpi", "As sent", "`gzip`", "`xz`", "`min`", "`gzip`", "`xz`", "`shrink`", "Of `min`", "Time", "Memory"])
-    clients.row(["---"] + ["---:"] * 11)
+    clients.row(["Document", "dpi", "As sent", "`gzip`", "`xz`", "`min`", "`gzip`", "`xz`", "`shrink`", "Group 4", "JB2", "Of `min`",
+                 "Time", "Memory"])
+    clients.row(["---"] + ["---:"] * 13)
     with tempfile.TemporaryDirectory() as folder:
         prepare(folder)
         for document in documents():

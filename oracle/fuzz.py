@@ -4,7 +4,8 @@
     python3 oracle/fuzz.py PCLMIN PLAIN COUNT SEED [--triples | --drivers] [--model] [--workers N] [--seconds N] [--folder FOLDER]
 
 PCLMIN is the program, which is started for each question, or the library, as build/libpclmin.so (`lib/build.sh shared`), which is called
-in this script's own processes and answers far more of them.
+in this script's own processes and answers far more of them. The library shows pages by the drivers' profile, and so does the plain
+program beside it.
 
 Each job is made of random commands of every part of docs/LANGUAGE.md, with values at and near their bounds, and every
 fourth one is then changed in some of its bytes, cut, or joined from two (random_jobs.py). At a resolution that is drawn too, both programs
@@ -139,12 +140,13 @@ class Comparison:
         job = long_job(draw) if draw.random() < LONG_JOBS and not self.has_model else job_of(draw)
         dpi = draw.choice([300] * 5 + [600])
         at = ["--dpi", str(dpi)]
-        (first, pages), (named, _) = yield [(["pbm", "--page", "1"] + at, job), (["names"], job)]
+        (first, pages), (named, _) = yield [self.question(["pbm", "--page", "1"] + at, job), (["names"], job)]
         self.reached.add_job(first, named)
         if first[2].startswith(b"pclmin: refused: "):
             words = draw.choice([["min"], ["pbm", "--page", "1"]]) + at
+            (wanted, _), = yield [self.question(words, job)]
             came = self.pclmin.run(words, job)
-            fault = None if came == first else "%s: pclmin %s, plain %s" % (words[0], told(came), told(first))
+            fault = None if came == wanted else "%s: pclmin %s, plain %s" % (words[0], told(came), told(wanted))
         else:
             fault = yield from self.accepted_fault(number, job, dpi, first, pages, draw)
         if self.has_model:
@@ -154,6 +156,10 @@ class Comparison:
         self.keep(number, job)
         return ["job %d at %d: %s" % (number, dpi, fault)]
 
+    def question(self, words, job):
+        """What the plain program is asked where pclmin is asked with these words."""
+        return words + ["--drivers"] * (words[0] == "pbm" and self.pclmin.shows_by_drivers), job
+
     def accepted_fault(self, number, job, dpi, first, pages, draw):
         """What differs in pages or what is written; of the first page the plain program's answer is there."""
         at = ["--dpi", str(dpi)]
@@ -161,7 +167,7 @@ class Comparison:
         if draw.random() < 0.25:
             wanted.add(min(pages + 1, MOST_PAGES))
         asked = [["pbm", "--page", str(page)] + at for page in sorted(wanted - {1})] + ([["min"] + at] if number % 20 == 0 else [])
-        answers = yield [(words, job) for words in asked]
+        answers = yield [self.question(words, job) for words in asked]
         known = ([(["pbm", "--page", "1"] + at, first)] if 1 in wanted else []) + [
             (words, answer) for words, (answer, _) in zip(asked, answers)]
         for words, answer in known:
@@ -170,7 +176,7 @@ class Comparison:
                 return "%s: pclmin %s, plain %s" % (" ".join(words), told(came), told(answer))
         if number % 20 == 0 and self.pclmin.pages(job, dpi) != pages:
             return "pclmin has %d pages, plain %d" % (self.pclmin.pages(job, dpi), pages)
-        if number % 200 == 0:
+        if number % 200 == 0 and answers[-1][0][0] == 0:
             for form in ("1", "2"):
                 came, certificate = self.pclmin.certified(job, form, dpi)
                 triple = Triple(job, came[1], certificate, dpi)
@@ -181,7 +187,8 @@ class Comparison:
 
     def model_fault(self, number, job, dpi, count, first, draw):
         """What differs from the model, where both programs answer the same."""
-        pages, line = modelled(job, dpi)
+        profile = reference.Profile.DRIVERS if self.pclmin.shows_by_drivers else reference.Profile.STATED
+        pages, line = modelled(job, dpi, profile)
         if pages is None:
             return None if first == (1, b"", line) else "%s, where the model has %s" % (told(first), line)
         if len(pages) != count or first[2].startswith(b"pclmin: refused: "):
@@ -192,8 +199,8 @@ class Comparison:
             if self.pclmin.run(words, job) != (0, image(pages[page - 1], dpi), b""):
                 return "page %d isn't the model's" % page
         if number % 20 == 0:
-            written = self.pclmin.run(["min", "--dpi", str(dpi)], job)[1]
-            if modelled(written, dpi)[0] != pages:
+            status, written, _ = self.pclmin.run(["min", "--dpi", str(dpi)], job)
+            if status == 0 and modelled(written, dpi)[0] != pages:
                 return "the written job has other pages by the model"
         return None
 

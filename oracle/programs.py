@@ -16,6 +16,9 @@ PIPE_BYTES = 1 << 20
 class Program:
     """A program that is started for each question, with its streams in files of memory."""
 
+    # Whether pages are shown by the drivers' profile.
+    shows_by_drivers = False
+
     def __init__(self, path, folder):
         self.path = os.path.abspath(path)
         self.files = [os.memfd_create(name) for name in ("input", "output", "errors")]
@@ -73,7 +76,9 @@ class Program:
 
 
 class Library:
-    """The library, which is asked in this process by lib/pclmin.py, and answers as the program would."""
+    """The library, which is asked in this process by lib/pclmin.py, and answers as the program would, `pbm` as with `--drivers`."""
+
+    shows_by_drivers = True
 
     def __init__(self, path):
         os.environ["PCLMIN_LIBRARY"] = path
