@@ -219,9 +219,9 @@ const CASES: [Case; 57] = [
         leading: 11,
         ..LINE
     },
-    // Most shapes of the second line are the boxes, which end a row lower than the letters: it seems to stand there, and the first line where
-    // its letters end. There are more letters than boxes, so both lines stand where these end: 2, 79, 37 and 38 for the characters, 33, 8,
-    // twice 11 for the lines, 34 for their codes, and 3.
+    // Most shapes of the second line are the boxes, which end a row lower than the letters: it seems to stand there, and the first line
+    // where its letters end. There are more letters than boxes, so both lines stand where these end: 2, 79, 37 and 38 for the
+    // characters, 33, 8, twice 11 for the lines, 34 for their codes, 18 for blanks between letters, since a box is nearer, and 3.
     Case {
         name: "boxes that end lower than letters",
         lines: 2,
