@@ -64,7 +64,8 @@ const READ_OTHERWISE: &str =
 /// The option by which what drivers send besides is read too, and its help.
 const DRIVERS: &str = "drivers";
 
-const READ_AS_SENT: &str = "Read what drivers send besides too, as shrink does: offsets of the page";
+const READ_AS_SENT: &str =
+    "Read what drivers send besides too, as shrink does: offsets of the page";
 
 /// The option by which a job is read as `min` reads it, and its help.
 const STATED: &str = "stated";

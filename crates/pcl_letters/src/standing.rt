@@ -126,11 +126,7 @@ fn sorted_letters(
         before = Some(shape);
         if frequency.is_letter(shape.pattern) {
             let count = uses.get(shape.pattern as usize).copied().unwrap_or(0);
-            letters.push(letter_of(
-                shape,
-                line,
-                collection.placed.len().saturating_sub(count),
-            ))?;
+            letters.push(letter_of(shape, line, collection.placed.len().saturating_sub(count)))?;
         }
     }
     letters.sort_unstable();
@@ -157,10 +153,7 @@ fn letter_of(shape: &PlacedShape, line: u32, others: usize) -> LetterShape {
 }
 
 /// How often the topmost rows of shapes seem to lie so far above the rows of their lines.
-fn count_stands(
-    shapes: &[LetterShape],
-    counts: &mut IndexMap<u32, u32>,
-) -> Result<(), AllocError> {
+fn count_stands(shapes: &[LetterShape], counts: &mut IndexMap<u32, u32>) -> Result<(), AllocError> {
     for shape in shapes {
         count(shape.stand, counts)?;
     }

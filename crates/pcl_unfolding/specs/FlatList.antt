@@ -43,7 +43,7 @@ or_as_before s (Err kind) = s
 abbrev pub returned : Dpi → Situation → Situation → Situation
 returned dpi entered s =
     with_lasting (is_marked s && not (lie_together s.settings.asked entered.settings.asked))
-        (record (end_raster dpi s) { settings = restored (kept entered.settings) (end_raster dpi s).settings })
+    (record (end_raster dpi s) { settings = restored (kept entered.settings) (end_raster dpi s).settings })
 
 -- the newest of some situations, and the one this many items before it
 abbrev pub newest : List Situation → Situation
