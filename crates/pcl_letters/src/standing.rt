@@ -141,7 +141,7 @@ fn is_on_line(before: Option<&PlacedShape>, shape: &PlacedShape) -> bool {
     }
 }
 
-/// A shape that is a letter on the line of this number, where so many shapes have other patterns.
+/// A shape that is a letter on the line of this number, where this many shapes have other patterns.
 fn letter_of(shape: &PlacedShape, line: u32, others: usize) -> LetterShape {
     LetterShape {
         others: number_of_place(others),

@@ -11,12 +11,12 @@ unfoldable pub black_in_row : (row : List ℕ) (x : ℕ) → ℕ → ℕ
 black_in_row row x zero = 0
 black_in_row row x (suc more) = black_in_row row x more + (if dot_of_row row (x + more) then 1 else 0)
 
--- how many dots are black of so many rows of a rectangle whose upper left corner is the dot (x, y)
+-- how many dots are black of this many rows of a rectangle whose upper left corner is the dot (x, y)
 unfoldable pub black_in : (picture : Picture) (x y width : ℕ) → ℕ → ℕ
 black_in picture x y width zero = 0
 black_in picture x y width (suc more) = black_in picture x y width more + black_in_row (row_of picture (y + more)) x width
 
--- the mean of so many dots of which some are black, where black is 0 and white 255, to the nearest number, a half upwards
+-- the mean of this many dots of which some are black, where black is 0 and white 255, to the nearest number, a half upwards
 abbrev pub grey : (dots black : ℕ) → ℕ
 grey dots black = (255 * (dots - black) + dots / 2) / dots
 
@@ -24,17 +24,17 @@ grey dots black = (255 * (dots - black) + dots / 2) / dots
 abbrev pub pixel : Picture → (side column row : ℕ) → ℕ
 pixel picture side column row = grey (side * side) (black_in picture (column * side) (row * side) side side)
 
--- so many pixels of a row, from the left
+-- this many pixels of a row, from the left
 unfoldable pub pixels_of_row : Picture → (side row : ℕ) → ℕ → List ℕ
 pixels_of_row picture side row zero = []
 pixels_of_row picture side row (suc more) = pixels_of_row picture side row more ++ pixel picture side more row ∷ []
 
--- the pixels of so many rows, each of this width, from the top
+-- the pixels of this many rows, each of this width, from the top
 unfoldable pub pixels_of : Picture → (side width : ℕ) → ℕ → List ℕ
 pixels_of picture side width zero = []
 pixels_of picture side width (suc more) = pixels_of picture side width more ++ pixels_of_row picture side more width
 
--- how many squares so many dots need, the last of which may be cut
+-- how many squares this many dots need, the last of which may be cut
 abbrev pub squares_for : (dots side : ℕ) → ℕ
 squares_for dots side = (dots + side - 1) / side
 

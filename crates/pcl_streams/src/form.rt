@@ -23,7 +23,7 @@ pub struct Scale {
 }
 
 impl Scale {
-    /// The scale of so many dots to a side; none where these are 0 or more than 32.
+    /// The scale of this many dots to a side; none where these are 0 or more than 32.
     pub fn new(side: u32) -> Option<Scale>
         ensures { MatchOption result ((side ≡ 0) ⊎ (32 < side)) (λ scale. scale.side ≡ side) }
     {

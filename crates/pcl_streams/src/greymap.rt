@@ -36,7 +36,7 @@ fn header(alloc: Global, side: u32, size: Size, dpi: Dpi) -> Result<Vec<u8>, All
     Ok(header)
 }
 
-/// How many squares so many dots need, the last of which may be cut.
+/// How many squares this many dots need, the last of which may be cut.
 fn squares(dots: u32, side: u32) -> u32
     requires side { (1 ≤ side) × (side ≤ 32) }
     requires dots { dots ≤ 8400 }
@@ -85,7 +85,7 @@ fn mean(bitmap: &Bitmap, side: u32, column: u32, row: u32) -> u8
     )
 }
 
-/// The mean of so many dots of which some are black: black is 0 and white 255.
+/// The mean of this many dots of which some are black: black is 0 and white 255.
 fn grey(dots: u32, black: u32) -> u8
     requires dots { (1 ≤ dots) × (dots ≤ 1024) }
     requires black { black ≤ dots }
@@ -145,7 +145,7 @@ fn byte_at(row: &[u8], place: usize) -> u8
     row.get(place).copied().unwrap_or(0)
 }
 
-/// How many of the bits of a byte are set, after so many from the left.
+/// How many of the bits of a byte are set, after this many from the left.
 fn black_bits(byte: u8, skip: usize, count: usize) -> u32
     requires { skip + count ≤ 8 }
     ensures count { result ≡ black_in_byte byte skip count }
