@@ -5,9 +5,12 @@ use Rattle.pcl_base.specs.declared.name.Name.TheVariants.{Empty, One, Two, Three
 use Rattle.pcl_base.specs.declared.operation.Axis.TheVariants.{Horizontal, Vertical}
 use Rattle.pcl_base.specs.declared.operation.Unit.TheVariants.{PclUnit, Decipoint, Column}
 use Rattle.pcl_base.specs.declared.operation.Side.TheVariants.{Primary, Secondary}
-use Rattle.pcl_base.specs.declared.operation.Asking.TheVariants.{Sides, OutputBin, MediaType, PaperSource, SheetSide, PageLength, LeftOffset, TopOffset}
+use Rattle.pcl_base.specs.declared.operation.Asking.{Asking}
+use Rattle.pcl_base.specs.declared.operation.Asking.TheVariants.{Sides, OutputBin, MediaType, PaperSource, SheetSide, PageLength, LeftOffset, TopOffset, JobSeparation, TextScale, PrintQuality, Shingling, Depletion, RasterQuality}
 use Rattle.pcl_base.specs.declared.operation.Operation.{Operation}
-use Rattle.pcl_base.specs.declared.operation.Operation.TheVariants.{Reset, UniversalExit, ClearMargins, HalfLineFeed, HorizontalTab, LineFeed, FormFeed, CarriageReturn, Shift, PageSize, Copies, VerticalMotionIndex, LineSpacing, TopMargin, TextLength, PerforationSkip, OnlyZero, Ask, UnitOfMeasure, HorizontalMotionIndex, LineTermination, LeftMargin, Move, CursorStack, MacroId, ControlMacros, RectangleSize, FillRectangle, FontId, CharacterCode, ControlFonts, DownloadFont, DownloadCharacter, SelectFont, PrintText, RasterResolution, RasterWidth, RasterHeight, RasterPresentation, StartRaster, EndRaster, EndRasterResetMethod, RasterMethod, RasterOffset, RasterRow, NoEffect}
+use Rattle.pcl_base.specs.declared.operation.Operation.TheVariants.{Reset, UniversalExit, ClearMargins, HalfLineFeed, HorizontalTab, LineFeed, FormFeed, CarriageReturn, Shift, PageSize, Copies, VerticalMotionIndex, LineSpacing, TopMargin, TextLength, PerforationSkip, OnlyZero, Ask, UnitOfMeasure, HorizontalMotionIndex, LineTermination, LeftMargin, Move, CursorStack, MacroId, ControlMacros, RectangleSize, FillRectangle, FontId, CharacterCode, ControlFonts, DownloadFont, DownloadCharacter, SelectFont, PrintText, RasterResolution, RasterWidth, RasterHeight, RasterPresentation, StartRaster, EndRaster, EndRasterResetMethod, RasterMethod, SeedRowSource, RasterOffset, RasterRow, NoEffect}
+use Rattle.pcl_base.specs.declared.profile.Profile.{Profile}
+use Rattle.pcl_base.specs.declared.profile.Profile.TheVariants.{Stated, Drivers}
 
 -- a name from its bytes
 abbrev pub named : List ℕ → Name
@@ -56,6 +59,12 @@ operations =
     (named (codes "&lG"), Ask OutputBin) ∷
     (named (codes "&lM"), Ask MediaType) ∷
     (named (codes "&lP"), Ask PageLength) ∷
+    (named (codes "&lT"), Ask JobSeparation) ∷
+    (named (codes "&kW"), Ask TextScale) ∷
+    (named (codes "*oM"), Ask PrintQuality) ∷
+    (named (codes "*oQ"), Ask Shingling) ∷
+    (named (codes "*oD"), Ask Depletion) ∷
+    (named (codes "*rQ"), Ask RasterQuality) ∷
     (named (codes "&aP"), OnlyZero) ∷
     (named (codes "&aG"), Ask SheetSide) ∷
     (named (codes "&aL"), LeftMargin) ∷
@@ -95,6 +104,7 @@ operations =
     (named (codes "*rB"), EndRaster) ∷
     (named (codes "*rC"), EndRasterResetMethod) ∷
     (named (codes "*bM"), RasterMethod) ∷
+    (named (codes "*bS"), SeedRowSource) ∷
     (named (codes "*bY"), RasterOffset) ∷
     (named (codes "*bW"), RasterRow) ∷
     (named (codes "*vO"), NoEffect) ∷
@@ -125,6 +135,23 @@ operation_in (row ∷ rows) name = if is_name name row.0 then Some row.1 else op
 
 unfoldable pub operation_of : Name → Option Operation
 operation_of name = operation_in operations name
+
+-- what the stated profile doesn't have, of what is asked of the printer
+abbrev pub is_stated : Asking → Bool
+is_stated JobSeparation = false
+is_stated TextScale = false
+is_stated PrintQuality = false
+is_stated Shingling = false
+is_stated Depletion = false
+is_stated RasterQuality = false
+is_stated other = true
+
+-- which operations a profile has
+abbrev pub has : Profile → Operation → Bool
+has Drivers operation = true
+has Stated SeedRowSource = false
+has Stated (Ask what) = is_stated what
+has Stated other = true
 
 -- a parameter of a sequence with data after it
 abbrev pub takes_data : Operation → Bool

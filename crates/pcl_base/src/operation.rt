@@ -1,9 +1,9 @@
 //! The operations of the language, and the names that ask for them.
 
 ghost use Rattle.std.specs.Prelude.{◌≡◌};
-ghost use Rattle.pcl_base.specs.Operation.{operation_of, takes_data};
+ghost use Rattle.pcl_base.specs.Operation.{operation_of, takes_data, has};
 
-use crate::Name;
+use crate::{Name, Profile};
 
 /// The direction of a move or of a size.
 #[derive(Clone, Copy, Debug, PartialEq, Eq)]
@@ -53,6 +53,45 @@ pub enum Asking {
     LeftOffset,
     /// How far the page is moved down on its sheet ("Top Offset Registration").
     TopOffset,
+    /// Whether the printed sheets of the job lie apart from those of the next ("Job Separation").
+    JobSeparation,
+    /// Whether text is scaled, or how a DeskJet's head moves ("Text Scale Mode").
+    TextScale,
+    /// Draft, normal or best quality of printing ("Print Quality").
+    PrintQuality,
+    /// In how many passes a DeskJet prints a row ("Shingling").
+    Shingling,
+    /// How much ink of a picture a DeskJet leaves out ("Depletion").
+    Depletion,
+    /// The quality of rasters ("Raster Graphics Quality").
+    RasterQuality,
+}
+
+impl Asking {
+    ghost use Rattle.std.specs.Prelude.{◌≡◌};
+    ghost use Rattle.pcl_base.specs.Operation.{is_stated};
+
+    /// Whether the stated profile has it.
+    fn is_stated(self) -> bool
+        ensures { result ≡ is_stated self }
+    {
+        match self {
+            Asking::Sides
+            | Asking::OutputBin
+            | Asking::MediaType
+            | Asking::PaperSource
+            | Asking::SheetSide
+            | Asking::PageLength
+            | Asking::LeftOffset
+            | Asking::TopOffset => true,
+            Asking::JobSeparation
+            | Asking::TextScale
+            | Asking::PrintQuality
+            | Asking::Shingling
+            | Asking::Depletion
+            | Asking::RasterQuality => false,
+        }
+    }
 }
 
 /// What a command does. docs/LANGUAGE.md, "Commands", says of each which values it takes.
@@ -145,6 +184,8 @@ pub enum Operation {
     EndRasterResetMethod,
     /// Sets the method of row data ("Set Compression Method").
     RasterMethod,
+    /// Takes 0 alone and does nothing: the seed row is the row before ("Seed Row Source").
+    SeedRowSource,
     /// Skips raster rows ("Raster Y Offset").
     RasterOffset,
     /// Sends a raster row, with its data ("Transfer Raster Data by Row").
@@ -192,6 +233,12 @@ impl Operation {
             Name::Three(b'&', b'l', b'G') => Operation::Ask(Asking::OutputBin),
             Name::Three(b'&', b'l', b'M') => Operation::Ask(Asking::MediaType),
             Name::Three(b'&', b'l', b'P') => Operation::Ask(Asking::PageLength),
+            Name::Three(b'&', b'l', b'T') => Operation::Ask(Asking::JobSeparation),
+            Name::Three(b'&', b'k', b'W') => Operation::Ask(Asking::TextScale),
+            Name::Three(b'*', b'o', b'M') => Operation::Ask(Asking::PrintQuality),
+            Name::Three(b'*', b'o', b'Q') => Operation::Ask(Asking::Shingling),
+            Name::Three(b'*', b'o', b'D') => Operation::Ask(Asking::Depletion),
+            Name::Three(b'*', b'r', b'Q') => Operation::Ask(Asking::RasterQuality),
             Name::Three(b'&', b'a', b'P') => Operation::OnlyZero,
             Name::Three(b'&', b'a', b'G') => Operation::Ask(Asking::SheetSide),
             Name::Three(b'&', b'a', b'L') => Operation::LeftMargin,
@@ -242,6 +289,7 @@ impl Operation {
             Name::Three(b'*', b'r', b'B') => Operation::EndRaster,
             Name::Three(b'*', b'r', b'C') => Operation::EndRasterResetMethod,
             Name::Three(b'*', b'b', b'M') => Operation::RasterMethod,
+            Name::Three(b'*', b'b', b'S') => Operation::SeedRowSource,
             Name::Three(b'*', b'b', b'Y') => Operation::RasterOffset,
             Name::Three(b'*', b'b', b'W') => Operation::RasterRow,
             Name::Three(b'*', b'v', b'O') => Operation::NoEffect,
@@ -250,6 +298,18 @@ impl Operation {
                 Operation::NoEffect,
             _ => return None,
         })
+    }
+
+    /// Whether a profile has the operation: that of drivers has all.
+    pub fn is_in(self, profile: Profile) -> bool
+        ensures { result ≡ has profile self }
+    {
+        match (profile, self) {
+            (Profile::Drivers, _) => true,
+            (Profile::Stated, Operation::SeedRowSource) => false,
+            (Profile::Stated, Operation::Ask(what)) => what.is_stated(),
+            (Profile::Stated, _) => true,
+        }
     }
 
     /// Whether as many bytes of data follow a parameter of a sequence that asks for the operation as its value says.
