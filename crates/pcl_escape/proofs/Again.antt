@@ -1,6 +1,6 @@
 -- All steps: bytes that are whole pieces are read as these, and the first fault is found; so what is read says what the bytes are.
 use Rattle.std.proofs.Common.{◌≡◌, ℕ, zero, suc, ◌+◌, ◌-◌, ◌<◌, List, [], ◌∷◌, ◌++◌, length, Option, Some, None, Result, Ok, Err, refl, ap, ◌⊎◌, inl, inr, ◌∙◌, append_assoc, append-nil, length-append, add-zero, zero-add, ◌&&◌, ◌==◌, not, is_some, false, arith}
-use Rattle.pcl_escape.proofs.Names.{nat_tests, flat_map, AllByRecursion, JobFault, Refused, Memory, Refusal, Prefix, prefix_bytes, joined, Said, Reads, step_at, parameter_at, with_front, and_then, outcome_of, Yields, Parameter, Piece, combined, IsPrefix, IsPiece, ArePieces, IsMiddle, IsReading, parameter_bytes, spelling, command_of, parameter_commands, first_place, commands_from, commands_of, Fails, in_parameter, in_line, IsUngrouped, place_behind, IsFault, IsFaultOf, unknown_control, lone_escape, no_sequence, unknown_two, no_group, bad_group}
+use Rattle.pcl_escape.proofs.Names.{Profile, nat_tests, flat_map, AllByRecursion, JobFault, Refused, Memory, Refusal, Prefix, prefix_bytes, joined, Said, Reads, step_at, parameter_at, with_front, and_then, outcome_of, Yields, Parameter, Piece, combined, IsPrefix, IsPiece, ArePieces, IsMiddle, IsReading, parameter_bytes, spelling, command_of, parameter_commands, first_place, commands_from, commands_of, Fails, in_parameter, in_line, IsUngrouped, place_behind, IsFault, IsFaultOf, unknown_control, lone_escape, no_sequence, unknown_two, no_group, bad_group}
 use Rattle.pcl_escape.specs.inner.Scan.{start_at, sequence_at, prefix_at, outcome, named_at}
 use Rattle.pcl_escape.proofs.Lines.{foreign}
 use Rattle.pcl_escape.proofs.Steps.{Inside, inside_shorter, is_middle, is_end, is_wrong, Stays, parameter_step, parameter_joined, inside_reads, grouped_stays, middle_grouped}
@@ -34,16 +34,16 @@ abbrev pub GoesOn : Option Prefix → List ℕ → Type 0
 GoesOn inside bytes = (length bytes == 0 && not (is_some inside)) ≡ false
 
 -- each step outside a sequence takes a byte
-start_shorter : {at : ℕ} {bytes : List ℕ} {reads : Reads} → Outside at bytes (Ok reads) → length reads.rest < length bytes
-start_shorter (whole_piece piece rest is alone) = let long = piece_long piece rest is in simp length-append (omega arith)
+start_shorter : {profile : Profile} {at : ℕ} {bytes : List ℕ} {reads : Reads} → Outside profile at bytes (Ok reads) → length reads.rest < length bytes
+start_shorter {profile} (whole_piece piece rest is alone) = let long = piece_long profile piece rest is in simp length-append (omega arith)
 start_shorter (sequence prefix more same is n inside stays) = let shorter = inside_shorter inside in simp length-append (omega arith)
 
 -- a step takes a byte
-pub step_shorter : (inside : Option Prefix) (at : ℕ) (bytes : List ℕ) {reads : Reads} → GoesOn inside bytes
-    → step_at inside at bytes ≡ Ok reads → length reads.rest < length bytes
-step_shorter None at [] goes e = absurd cc
-step_shorter None at (byte ∷ bytes) goes e = start_shorter (rw e at (start_step {at = at} {byte = byte} {rest = bytes}))
-step_shorter (Some prefix) at bytes goes e = inside_shorter (rw e at (parameter_step {prefix = prefix} {at = at} {bytes = bytes}))
+pub step_shorter : (profile : Profile) (inside : Option Prefix) (at : ℕ) (bytes : List ℕ) {reads : Reads} → GoesOn inside bytes
+    → step_at profile inside at bytes ≡ Ok reads → length reads.rest < length bytes
+step_shorter profile None at [] goes e = absurd cc
+step_shorter profile None at (byte ∷ bytes) goes e = start_shorter (rw e at (start_step profile {at = at} {byte = byte} {rest = bytes}))
+step_shorter profile (Some prefix) at bytes goes e = inside_shorter (rw e at (parameter_step profile {prefix = prefix} {at = at} {bytes = bytes}))
 
 -- two ways to go on that agree on what the step read
 after_same : (read : Result Reads Refusal) (f g : Reads → Result (List Said) Refusal)
@@ -51,37 +51,37 @@ after_same : (read : Result Reads Refusal) (f g : Reads → Result (List Said) R
 after_same read f g h = grind (arith, h)
 
 -- more steps than there are bytes give what any such number of steps gives
-enough : (n m : ℕ) (inside : Option Prefix) (at : ℕ) (bytes : List ℕ) → length bytes < n → length bytes < m
-    → outcome n inside at bytes ≡ outcome m inside at bytes
+enough : (profile : Profile) (n m : ℕ) (inside : Option Prefix) (at : ℕ) (bytes : List ℕ) → length bytes < n → length bytes < m
+    → outcome profile n inside at bytes ≡ outcome profile m inside at bytes
 unfolding outcome
-enough zero m inside at bytes h k = absurd (omega arith)
-enough (suc n) zero inside at bytes h k = absurd (omega arith)
-enough (suc n) (suc m) None at [] h k = refl
-enough (suc n) (suc m) inside at bytes h k = after_same (step_at inside at bytes) _ _
-    (λ reads e. let shorter = step_shorter inside at bytes (grind (arith, nat_tests)) e in
-    enough n m reads.inside _ reads.rest (omega arith) (omega arith))
+enough profile zero m inside at bytes h k = absurd (omega arith)
+enough profile (suc n) zero inside at bytes h k = absurd (omega arith)
+enough profile (suc n) (suc m) None at [] h k = refl
+enough profile (suc n) (suc m) inside at bytes h k = after_same (step_at profile inside at bytes) _ _
+    (λ reads e. let shorter = step_shorter profile inside at bytes (grind (arith, nat_tests)) e in
+    enough profile n m reads.inside _ reads.rest (omega arith) (omega arith))
 
 -- as many steps as it takes
-abbrev pub all_at : Option Prefix → ℕ → List ℕ → Result (List Said) Refusal
-all_at inside at bytes = outcome (suc (length bytes)) inside at bytes
+abbrev pub all_at : Profile → Option Prefix → ℕ → List ℕ → Result (List Said) Refusal
+all_at profile inside at bytes = outcome profile (suc (length bytes)) inside at bytes
 
 -- the steps after one of the bytes, which begin at a place
-abbrev pub rest_at : ℕ → List ℕ → Reads → Result (List Said) Refusal
-rest_at begin bytes reads = all_at reads.inside (begin + (length bytes - length reads.rest)) reads.rest
+abbrev pub rest_at : Profile → ℕ → List ℕ → Reads → Result (List Said) Refusal
+rest_at profile begin bytes reads = all_at profile reads.inside (begin + (length bytes - length reads.rest)) reads.rest
 
 -- the first step, and then the others
-pub one_step : (inside : Option Prefix) (at : ℕ) (bytes : List ℕ) → GoesOn inside bytes
-    → all_at inside at bytes ≡ and_then (step_at inside at bytes) (rest_at at bytes)
+pub one_step : (profile : Profile) (inside : Option Prefix) (at : ℕ) (bytes : List ℕ) → GoesOn inside bytes
+    → all_at profile inside at bytes ≡ and_then (step_at profile inside at bytes) (rest_at profile at bytes)
 unfolding outcome
-one_step inside at bytes goes =
-    let same = after_same (step_at inside at bytes) _ (rest_at at bytes) (λ reads e. enough (length bytes) (suc (length reads.rest))
-    reads.inside _ reads.rest (step_shorter inside at bytes goes e) (omega arith)) in grind (arith, nat_tests, same)
+one_step profile inside at bytes goes =
+    let same = after_same (step_at profile inside at bytes) _ (rest_at profile at bytes) (λ reads e. enough profile (length bytes) (suc (length reads.rest))
+    reads.inside _ reads.rest (step_shorter profile inside at bytes goes e) (omega arith)) in grind (arith, nat_tests, same)
 
 -- ---- sequences
 
 -- the steps from a parameter on, whose command has the place at; its bytes begin at the place begin
-abbrev steps_in : Prefix → ℕ → ℕ → List ℕ → Result (List Said) Refusal
-steps_in prefix at begin bytes = and_then (parameter_at prefix at bytes) (rest_at begin bytes)
+abbrev steps_in : Profile → Prefix → ℕ → ℕ → List ℕ → Result (List Said) Refusal
+steps_in profile prefix at begin bytes = and_then (parameter_at profile prefix at bytes) (rest_at profile begin bytes)
 
 -- what middle parameters say
 abbrev middle_commands : Prefix → ℕ → ℕ → List Parameter → List Said
@@ -115,41 +115,41 @@ all_commands prefix at begin (parameter ∷ middle) end bytes =
     rw (all_commands prefix (begin + length (parameter_bytes parameter)) (begin + length (parameter_bytes parameter)) middle end bytes) refl
 
 -- the steps from middle parameters on
-middle_on : (prefix : Prefix) (middle : List Parameter) (at begin : ℕ) (bytes : List ℕ) → AllByRecursion (IsMiddle prefix) middle
-    → steps_in prefix at begin (flat_map parameter_bytes middle ++ bytes) ≡ with_front (middle_commands prefix at begin middle)
-    (steps_in prefix (place_from at begin middle) (begin + length (flat_map parameter_bytes middle)) bytes)
-middle_on prefix [] at begin bytes each = rw (add-zero, no_front) refl
-middle_on prefix (parameter ∷ middle) at begin bytes each =
+middle_on : (profile : Profile) (prefix : Prefix) (middle : List Parameter) (at begin : ℕ) (bytes : List ℕ) → AllByRecursion (IsMiddle profile prefix) middle
+    → steps_in profile prefix at begin (flat_map parameter_bytes middle ++ bytes) ≡ with_front (middle_commands prefix at begin middle)
+    (steps_in profile prefix (place_from at begin middle) (begin + length (flat_map parameter_bytes middle)) bytes)
+middle_on profile prefix [] at begin bytes each = rw (add-zero, no_front) refl
+middle_on profile prefix (parameter ∷ middle) at begin bytes each =
     let next = begin + length (parameter_bytes parameter) in
     let behind = flat_map parameter_bytes middle ++ bytes in
-    let on = one_step (Some prefix) next behind (grind (arith, nat_tests)) in
+    let on = one_step profile (Some prefix) next behind (grind (arith, nat_tests)) in
     rw (append_assoc (parameter_bytes parameter), inside_reads (is_middle parameter behind each.0))
-    (rw (place_of begin (parameter_bytes parameter), on, middle_on prefix middle next next bytes each.1, with_fronts, place_further) refl)
+    (rw (place_of begin (parameter_bytes parameter), on, middle_on profile prefix middle next next bytes each.1, with_fronts, place_further) refl)
 
 -- the steps from ESC on are those from the first parameter on, whose command has the place of ESC
-first_on : (prefix : Prefix) (at : ℕ) {bytes : List ℕ} {read : Result Reads Refusal} → IsPrefix prefix → IsUngrouped prefix.group bytes
-    → Inside prefix at bytes read → Stays read
-    → all_at None at (27 ∷ (prefix_bytes prefix ++ bytes)) ≡ steps_in prefix at (first_place at prefix) bytes
-first_on prefix at {bytes} {read} is apart inside stays =
-    rw (one_step None at (27 ∷ (prefix_bytes prefix ++ bytes)) (grind (arith, nat_tests)))
+first_on : (profile : Profile) (prefix : Prefix) (at : ℕ) {bytes : List ℕ} {read : Result Reads Refusal} → IsPrefix prefix → IsUngrouped prefix.group bytes
+    → Inside profile prefix at bytes read → Stays read
+    → all_at profile None at (27 ∷ (prefix_bytes prefix ++ bytes)) ≡ steps_in profile prefix at (first_place at prefix) bytes
+first_on profile prefix at {bytes} {read} is apart inside stays =
+    rw (one_step profile None at (27 ∷ (prefix_bytes prefix ++ bytes)) (grind (arith, nat_tests)))
     (rw (inside_again prefix.parameterized prefix.group is apart inside stays, inside_reads inside)
     (after_same read _ _ (λ reads f. rw (place_in at prefix bytes (inside_shorter (rw f at inside))) refl)))
 
 -- a sequence begins with a middle parameter, or with what is behind these
-sequence_on : {prefix : Prefix} (at : ℕ) (middle : List Parameter) {bytes : List ℕ} {read : Result Reads Refusal} → IsPrefix prefix
-    → IsUngrouped prefix.group bytes → AllByRecursion (IsMiddle prefix) middle
-    → Inside prefix (place_from at (first_place at prefix) middle) bytes read → Stays read
-    → all_at None at (27 ∷ (prefix_bytes prefix ++ (flat_map parameter_bytes middle ++ bytes)))
+sequence_on : (profile : Profile) {prefix : Prefix} (at : ℕ) (middle : List Parameter) {bytes : List ℕ} {read : Result Reads Refusal} → IsPrefix prefix
+    → IsUngrouped prefix.group bytes → AllByRecursion (IsMiddle profile prefix) middle
+    → Inside profile prefix (place_from at (first_place at prefix) middle) bytes read → Stays read
+    → all_at profile None at (27 ∷ (prefix_bytes prefix ++ (flat_map parameter_bytes middle ++ bytes)))
     ≡ with_front (middle_commands prefix at (first_place at prefix) middle)
-    (and_then read (rest_at (first_place at prefix + length (flat_map parameter_bytes middle)) bytes))
-sequence_on {prefix} at [] is apart each inside stays =
-    rw (first_on prefix at is apart inside stays, inside_reads inside, add-zero, no_front) refl
-sequence_on {prefix} at (parameter ∷ middle) {bytes} is apart each inside stays =
+    (and_then read (rest_at profile (first_place at prefix + length (flat_map parameter_bytes middle)) bytes))
+sequence_on profile {prefix} at [] is apart each inside stays =
+    rw (first_on profile prefix at is apart inside stays, inside_reads inside, add-zero, no_front) refl
+sequence_on profile {prefix} at (parameter ∷ middle) {bytes} is apart each inside stays =
     let grouped = middle_grouped each.0 in
     let first = is_middle parameter (flat_map parameter_bytes middle ++ bytes) each.0 in
-    let on = middle_on prefix (parameter ∷ middle) at (first_place at prefix) bytes each in
+    let on = middle_on profile prefix (parameter ∷ middle) at (first_place at prefix) bytes each in
     rw (append_assoc (parameter_bytes parameter))
-    (first_on prefix at is (grouped_any prefix.group _ grouped) first (grouped_stays grouped first))
+    (first_on profile prefix at is (grouped_any prefix.group _ grouped) first (grouped_stays grouped first))
     ∙ rw (append_assoc (parameter_bytes parameter), inside_reads inside) at on
 
 -- what holds where there is no group character holds where there may be one
@@ -157,11 +157,11 @@ ungrouped_front : (group : Option ℕ) (bytes : List ℕ) → IsUngrouped None b
 ungrouped_front group bytes n = grind arith
 
 -- the steps from a sequence on
-combined_on : (prefix : Prefix) (at : ℕ) (middle : List Parameter) (end : Parameter) (sent bytes : List ℕ)
-    → IsPiece (combined prefix middle end sent) bytes
-    → all_at None at (spelling (combined prefix middle end sent) ++ bytes) ≡ with_front (commands_from at (combined prefix middle end sent))
-    (all_at None (at + length (spelling (combined prefix middle end sent))) bytes)
-combined_on prefix at middle end sent bytes is =
+combined_on : (profile : Profile) (prefix : Prefix) (at : ℕ) (middle : List Parameter) (end : Parameter) (sent bytes : List ℕ)
+    → IsPiece profile (combined prefix middle end sent) bytes
+    → all_at profile None at (spelling (combined prefix middle end sent) ++ bytes) ≡ with_front (commands_from at (combined prefix middle end sent))
+    (all_at profile None (at + length (spelling (combined prefix middle end sent))) bytes)
+combined_on profile prefix at middle end sent bytes is =
     let field = end.field in
     let apart = parts_apart field.sign field.whole field.fraction end.letter (sent ++ bytes) is.2.field.0 is.2.letter in
     let begins = ungrouped_front prefix.group (parameter_bytes end ++ (sent ++ bytes))
@@ -173,38 +173,38 @@ combined_on prefix at middle end sent bytes is =
     ≡ 27 ∷ (prefix_bytes prefix ++ (flat_map parameter_bytes middle ++ (parameter_bytes end ++ (sent ++ bytes)))) =
     rw (append_assoc (prefix_bytes prefix), append_assoc (flat_map parameter_bytes middle), append_assoc (parameter_bytes end) sent) refl in
     let last = is_end end sent bytes (record { field = is.2.field; letter = is.2.letter; checks = is.2.checks }) in
-    ap (all_at None at) whole ∙ sequence_on at middle is.0 begins is.1 last is.2.stays
+    ap (all_at profile None at) whole ∙ sequence_on profile at middle is.0 begins is.1 last is.2.stays
     ∙ rw (place, with_fronts, all_commands prefix at first middle end sent) refl
 
 -- ---- pieces
 
 -- the steps from any piece on
-piece_again : (piece : Piece) (at : ℕ) (bytes : List ℕ) → IsPiece piece bytes
-    → all_at None at (spelling piece ++ bytes) ≡ with_front (commands_from at piece) (all_at None (at + length (spelling piece)) bytes)
-piece_again (combined prefix middle end sent) at bytes is = combined_on prefix at middle end sent bytes is
-piece_again piece at bytes is =
-    let long = piece_long piece bytes is in
+piece_again : (profile : Profile) (piece : Piece) (at : ℕ) (bytes : List ℕ) → IsPiece profile piece bytes
+    → all_at profile None at (spelling piece ++ bytes) ≡ with_front (commands_from at piece) (all_at profile None (at + length (spelling piece)) bytes)
+piece_again profile (combined prefix middle end sent) at bytes is = combined_on profile prefix at middle end sent bytes is
+piece_again profile piece at bytes is =
+    let long = piece_long profile piece bytes is in
     let some : 0 < length (spelling piece ++ bytes) = simp length-append (omega arith) in
-    rw (one_step None at (spelling piece ++ bytes) (grind (arith, nat_tests)), piece_step piece at bytes is tt)
+    rw (one_step profile None at (spelling piece ++ bytes) (grind (arith, nat_tests)), piece_step profile piece at bytes is tt)
     (rw (place_of at (spelling piece) bytes) refl)
 
 -- pieces are read so
-pieces_again : (pieces : List Piece) (at : ℕ) (behind : List ℕ) → ArePieces pieces behind
-    → all_at None at (flat_map spelling pieces ++ behind)
-    ≡ with_front (commands_of at pieces) (all_at None (at + length (flat_map spelling pieces)) behind)
-pieces_again [] at behind each = rw (add-zero, no_front) refl
-pieces_again (piece ∷ pieces) at behind each =
-    rw (append_assoc (spelling piece), piece_again piece at (flat_map spelling pieces ++ behind) each.0)
-    (rw (pieces_again pieces (at + length (spelling piece)) behind each.1, with_fronts, place_further) refl)
+pieces_again : (profile : Profile) (pieces : List Piece) (at : ℕ) (behind : List ℕ) → ArePieces profile pieces behind
+    → all_at profile None at (flat_map spelling pieces ++ behind)
+    ≡ with_front (commands_of at pieces) (all_at profile None (at + length (flat_map spelling pieces)) behind)
+pieces_again profile [] at behind each = rw (add-zero, no_front) refl
+pieces_again profile (piece ∷ pieces) at behind each =
+    rw (append_assoc (spelling piece), piece_again profile piece at (flat_map spelling pieces ++ behind) each.0)
+    (rw (pieces_again profile pieces (at + length (spelling piece)) behind each.1, with_fronts, place_further) refl)
 
 -- the fault at a place outside sequences is found
-fault_found : {at : ℕ} {bytes : List ℕ} {refusal : Refusal} → Fails at bytes refusal → all_at None at bytes ≡ Err refusal
+fault_found : {profile : Profile} {at : ℕ} {bytes : List ℕ} {refusal : Refusal} → Fails profile at bytes refusal → all_at profile None at bytes ≡ Err refusal
 unfolding outcome start_at sequence_at prefix_at named_at
-fault_found {at} (in_parameter prefix middle is apart each f) =
-    rw (sequence_on at middle is apart each (is_wrong (rw (← place_in_sequence at prefix middle) at f)) tt) refl
-fault_found {at} (in_line {bytes = rest} field lines line f x e each ends l p) =
+fault_found {profile} {at} (in_parameter prefix middle is apart each f) =
+    rw (sequence_on profile at middle is apart each (is_wrong (rw (← place_in_sequence at prefix middle) at f)) tt) refl
+fault_found {profile} {at} (in_line {bytes = rest} field lines line f x e each ends l p) =
     let bytes = joined lines ++ (line ++ rest) in
-    rw (← parameter_joined field 88 bytes, exit_first at field bytes f x e (foreign lines line rest each ends l p)) refl
+    rw (← parameter_joined field 88 bytes, exit_first profile at field bytes f x e (foreign lines line rest each ends l p)) refl
 fault_found (unknown_control c s o) = grind (arith, nat_tests)
 fault_found lone_escape = refl
 fault_found (no_sequence t p) = rw (t, p) refl
@@ -215,39 +215,39 @@ fault_found (bad_group p u g) = grind (arith, nat_tests)
 -- ---- whole jobs
 
 -- a reading of the job is what is read
-pub reading_again : {job : List ℕ} {commands : List Said} → IsReading job commands → outcome_of job ≡ Ok commands
+pub reading_again : {profile : Profile} {job : List ℕ} {commands : List Said} → IsReading profile job commands → outcome_of profile job ≡ Ok commands
 unfolding outcome
-reading_again r = rw (r.spelled, r.said) (simp append-nil at (pieces_again r.pieces 0 [] r.each))
+reading_again {profile} r = rw (r.spelled, r.said) (simp append-nil at (pieces_again profile r.pieces 0 [] r.each))
 
 -- a first fault of the job is what is found
-pub fault_found_of : {job : List ℕ} {fault : Refusal} → IsFault job fault → outcome_of job ≡ Err fault
-fault_found_of f = rw (f.spelled, pieces_again f.front 0 f.behind f.each, zero-add, fault_found f.fails) refl
+pub fault_found_of : {profile : Profile} {job : List ℕ} {fault : Refusal} → IsFault profile job fault → outcome_of profile job ≡ Err fault
+fault_found_of {profile} f = rw (f.spelled, pieces_again profile f.front 0 f.behind f.each, zero-add, fault_found f.fails) refl
 
 -- each job has the one or the other
-known : {job : List ℕ} → Reading 0 job → ((commands : List Said) × IsReading job commands) ⊎ ((fault : Refusal) × IsFault job fault)
+known : {profile : Profile} {job : List ℕ} → Reading profile 0 job → ((commands : List Said) × IsReading profile job commands) ⊎ ((fault : Refusal) × IsFault profile job fault)
 known (reading pieces behind each no_more) =
     inl (commands_of 0 pieces, record { pieces = pieces; each = each; spelled = append-nil (flat_map spelling pieces); said = refl })
 known (reading pieces behind each (first_fault fault f)) =
     inr (fault, record { front = pieces; each = each; behind = behind; spelled = refl; fails = rw zero-add at f })
 
-pub job_known : (job : List ℕ) → ((commands : List Said) × IsReading job commands) ⊎ ((fault : Refusal) × IsFault job fault)
-job_known job = known (is_read (suc (length job)) 0 job (omega arith))
+pub job_known : (profile : Profile) (job : List ℕ) → ((commands : List Said) × IsReading profile job commands) ⊎ ((fault : Refusal) × IsFault profile job fault)
+job_known profile job = known (is_read profile (suc (length job)) 0 job (omega arith))
 
 -- so what is read says what the job is
-pub reading_of : {job : List ℕ} {commands : List Said} → outcome_of job ≡ Ok commands → IsReading job commands
-reading_of {job} {commands} e = elim (job_known job) [
+pub reading_of : {profile : Profile} {job : List ℕ} {commands : List Said} → outcome_of profile job ≡ Ok commands → IsReading profile job commands
+reading_of {profile} {job} {commands} e = elim (job_known profile job) [
   | inl r ↦ let same : r.0 ≡ commands = (let again = reading_again r.1 in cc) in rw same at r.1
   | inr f ↦ absurd (let found = fault_found_of f.1 in cc)
 ]
 
-pub fault_of : (job : List ℕ) (fault : Refusal) → outcome_of job ≡ Err fault → IsFault job fault
-fault_of job fault e = elim (job_known job) [
+pub fault_of : {profile : Profile} (job : List ℕ) (fault : Refusal) → outcome_of profile job ≡ Err fault → IsFault profile job fault
+fault_of {profile} job fault e = elim (job_known profile job) [
   | inl r ↦ absurd (let again = reading_again r.1 in cc)
   | inr f ↦ let same : f.0 ≡ fault = (let found = fault_found_of f.1 in cc) in rw same at f.1
 ]
 
 -- what yields a fault finds the first one
-pub fault_of_scan : (job : List ℕ) (fault : JobFault) (commands : List Said) → Yields (Err fault) commands (outcome_of job)
-    → IsFaultOf job fault
-fault_of_scan job (Refused fault) commands y = fault_of job fault y
-fault_of_scan job Memory commands y = tt
+pub fault_of_scan : (profile : Profile) (job : List ℕ) (fault : JobFault) (commands : List Said) → Yields (Err fault) commands (outcome_of profile job)
+    → IsFaultOf profile job fault
+fault_of_scan profile job (Refused fault) commands y = fault_of job fault y
+fault_of_scan profile job Memory commands y = tt

@@ -1,6 +1,7 @@
 -- How many data bytes a command takes, by the whole part that the code has as a signed number.
 use Rattle.std.proofs.Common.{◌≡◌, ℕ, zero, suc, ℤ, pos, nat_abs, int_lt, ◌<◌, ◌≢◌, true, false, ◌&&◌, nat_lt, if◌then◌else◌, Option, Some, Result, Ok, Err, refl, sym, ap, ◌∙◌}
-use Rattle.pcl_escape.proofs.Names.{ne_eqb, to_z-of_z, w32, cast_signed, cast_unsigned, mag, Kind, Truncated, BadSequence, Operation, Sign, Minus, Value, takes_data, with_sign, signed_whole, whole_of, is_minus, is_below_zero, goes_on, operation_checks}
+use Rattle.pcl_base.specs.Operation.{has}
+use Rattle.pcl_escape.proofs.Names.{Profile, ne_eqb, to_z-of_z, w32, cast_signed, cast_unsigned, mag, Kind, Truncated, BadSequence, Operation, Sign, Minus, Value, takes_data, with_sign, signed_whole, whole_of, is_minus, is_below_zero, goes_on, operation_checks}
 
 -- the value counts this many bytes
 pub record Counts (value : Value) (n : ℕ) : Type 0 where
@@ -31,6 +32,6 @@ abbrev pub counted_checks : ℕ → ℕ → ℕ → Result ℕ Kind
 counted_checks letter n left = if goes_on letter then Err BadSequence else (if nat_lt left n then Err Truncated else Ok n)
 
 -- they are the checks of a command that takes data
-pub counted : {named : Option Operation} {operation : Operation} {value : Value} {n : ℕ} (letter left : ℕ) → Some operation ≡ named
-    → takes_data operation ≡ true → Counts value n → n ≢ 0 → operation_checks named letter value left ≡ counted_checks letter n left
-counted {n = n} letter left e t c some = rw (← e, t, c.not_below, c.whole, ne_eqb n 0 some) refl
+pub counted : (profile : Profile) {named : Option Operation} {operation : Operation} {value : Value} {n : ℕ} (letter left : ℕ) → Some operation ≡ named
+    → has profile operation ≡ true → takes_data operation ≡ true → Counts value n → n ≢ 0 → operation_checks profile named letter value left ≡ counted_checks letter n left
+counted profile {n = n} letter left e h t c some = rw (← e, h, t, c.not_below, c.whole, ne_eqb n 0 some) refl

@@ -1,13 +1,13 @@
 -- What a step of the code reads inside a sequence, by what it found: no letter, a fault of the checks, or a parameter.
 use Rattle.std.proofs.Common.{◌≡◌, ℕ, Bool, true, false, if◌then◌else◌, List, length, Some, None, Err, arith}
-use Rattle.pcl_escape.proofs.Names.{then_some, Truncated, Value, refusal, Prefix, prefix_name, Spelled, field_at}
+use Rattle.pcl_escape.proofs.Names.{Profile, then_some, Truncated, Value, refusal, Prefix, prefix_name, Spelled, field_at}
 use Rattle.pcl_escape.specs.inner.Scan.{parameter_at}
 
 -- nothing is after the field at the front
-pub nothing_behind : (prefix : Prefix) (at : ℕ) (bytes : List ℕ) {field : Spelled} (rest : List ℕ) → (field, rest) ≡ field_at bytes
-    → length rest ≡ 0 → parameter_at prefix at bytes ≡ Err (refusal Truncated at (prefix_name prefix))
+pub nothing_behind : (profile : Profile) (prefix : Prefix) (at : ℕ) (bytes : List ℕ) {field : Spelled} (rest : List ℕ) → (field, rest) ≡ field_at bytes
+    → length rest ≡ 0 → parameter_at profile prefix at bytes ≡ Err (refusal Truncated at (prefix_name prefix))
 unfolding parameter_at
-nothing_behind prefix at bytes rest e z = rw (← e) (grind arith)
+nothing_behind profile prefix at bytes rest e z = rw (← e) (grind arith)
 
 -- a value that isn't given is out of range
 pub not_given : (value : Value) (within : Bool) → None ≡ (if within then Some value else None) → within ≡ false

@@ -1,6 +1,6 @@
 -- The data of a command stand in the job right before what is left after its step.
 use Rattle.std.proofs.Common.{◌≡◌, ℕ, ◌-◌, true, false, ◌==◌, if◌then◌else◌, List, [], ◌∷◌, ◌++◌, length, take_at, drop_at, Option, Some, None, Result, Ok, Err, refl, ap, append_assoc, length-append, arith}
-use Rattle.pcl_escape.proofs.Names.{nat_tests, IfSome, Name, Refusal, name_bytes, Prefix, goes_on, is_last, is_letter, may_go_on, name_with_letter, parameter_name, prefix_bytes, field_bytes, parameter_bytes, silent, control, text, two_character, combined, exit, name_with, Said, Reads, step_at, IsPlaced}
+use Rattle.pcl_escape.proofs.Names.{Profile, nat_tests, IfSome, Name, Refusal, name_bytes, Prefix, goes_on, is_last, is_letter, may_go_on, name_with_letter, parameter_name, prefix_bytes, field_bytes, parameter_bytes, silent, control, text, two_character, combined, exit, name_with, Said, Reads, step_at, IsPlaced}
 use Rattle.pcl_escape.specs.inner.Scan.{start_at}
 use Rattle.pcl_escape.proofs.Steps.{Inside, is_middle, is_end, is_wrong, parameter_step}
 use Rattle.pcl_escape.proofs.Starts.{Outside, whole_piece, sequence, wrong, start_step}
@@ -40,7 +40,7 @@ parameter_told prefix letter l =
     elim prefix.group as (λ group. IsTold (name_with_letter prefix.parameterized group upper)) [ None ↦ rw some refl | _ ↦ rw some refl ]
 
 -- inside a sequence
-inside_stands : {prefix : Prefix} {at : ℕ} {bytes : List ℕ} {read : Result Reads Refusal} → Inside prefix at bytes read → Stands bytes read
+inside_stands : {profile : Profile} {prefix : Prefix} {at : ℕ} {bytes : List ℕ} {read : Result Reads Refusal} → Inside profile prefix at bytes read → Stands bytes read
 inside_stands {prefix} (is_middle parameter rest is) =
     let goes : may_go_on prefix parameter.letter ≡ true = is.letter in
     record { front = parameter_bytes parameter; joined = refl; told = parameter_told prefix parameter.letter (grind arith) }
@@ -50,7 +50,7 @@ inside_stands {prefix} (is_end parameter sent rest is) =
 inside_stands (is_wrong f) = tt
 
 -- outside sequences
-outside_stands : {at : ℕ} {bytes : List ℕ} {read : Result Reads Refusal} → Outside at bytes read → Stands bytes read
+outside_stands : {profile : Profile} {at : ℕ} {bytes : List ℕ} {read : Result Reads Refusal} → Outside profile at bytes read → Stands bytes read
 outside_stands (whole_piece (silent byte) rest is alone) = record { front = byte ∷ []; joined = refl; told = tt }
 outside_stands (whole_piece (control code) rest is alone) = record { front = code ∷ []; joined = refl; told = refl }
 outside_stands (whole_piece (text bytes) rest is alone) = record { front = []; joined = refl; told = refl }
@@ -61,11 +61,11 @@ outside_stands (whole_piece (exit field lines) rest is alone) =
 outside_stands (sequence prefix bytes read is n inside s) = further (27 ∷ prefix_bytes prefix) bytes read (inside_stands inside)
 outside_stands (wrong f) = tt
 
-step_stands : (inside : Option Prefix) (at : ℕ) (bytes : List ℕ) → Stands bytes (step_at inside at bytes)
+step_stands : (profile : Profile) (inside : Option Prefix) (at : ℕ) (bytes : List ℕ) → Stands bytes (step_at profile inside at bytes)
 unfolding start_at
-step_stands None at [] = record { front = []; joined = refl; told = tt }
-step_stands None at (byte ∷ bytes) = outside_stands {at = at} (start_step {at = at} {byte = byte} {rest = bytes})
-step_stands (Some prefix) at bytes = inside_stands parameter_step
+step_stands profile None at [] = record { front = []; joined = refl; told = tt }
+step_stands profile None at (byte ∷ bytes) = outside_stands {at = at} (start_step profile {at = at} {byte = byte} {rest = bytes})
+step_stands profile (Some prefix) at bytes = inside_stands (parameter_step profile)
 
 -- ---- in the job
 
@@ -88,10 +88,10 @@ place_of_data {job} before rest (Some said) e t =
     }
 
 -- what a step reads of an end of the job, and what is left
-pub step_placed : {job bytes : List ℕ} (inside : Option Prefix) (at : ℕ) (reads : Reads) → IsEndOf job bytes
-    → step_at inside at bytes ≡ Ok reads → IfSome reads.said (IsPlaced job (length reads.rest)) × IsEndOf job reads.rest
-step_placed {job} {bytes} inside at reads is e =
-    let s : StandsIn bytes reads = rw e at (step_stands inside at bytes) in
+pub step_placed : (profile : Profile) {job bytes : List ℕ} (inside : Option Prefix) (at : ℕ) (reads : Reads) → IsEndOf job bytes
+    → step_at profile inside at bytes ≡ Ok reads → IfSome reads.said (IsPlaced job (length reads.rest)) × IsEndOf job reads.rest
+step_placed profile {job} {bytes} inside at reads is e =
+    let s : StandsIn bytes reads = rw e at (step_stands profile inside at bytes) in
     let before = is.read ++ s.front in
     let whole : job ≡ before ++ (data_of reads.said ++ reads.rest) = simp append_assoc (let a = is.joined in let b = s.joined in cc) in
     let left : IsEndOf job reads.rest = record { read = before ++ data_of reads.said; joined = rw append_assoc whole } in

@@ -5,8 +5,9 @@ use Rattle.pcl_base.specs.declared.name.Name.TheVariants.{Two}
 use Rattle.pcl_base.specs.declared.kind.Kind.{Kind}
 use Rattle.pcl_base.specs.declared.kind.Kind.TheVariants.{Truncated, BadSequence, ValueRange, UnsupportedCommand}
 use Rattle.pcl_base.specs.declared.operation.Operation.{Operation}
+use Rattle.pcl_base.specs.declared.profile.Profile.{Profile}
 use Rattle.pcl_base.specs.declared.value.Value.{Value}
-use Rattle.pcl_base.specs.Operation.{operation_of, takes_data, is_name}
+use Rattle.pcl_base.specs.Operation.{operation_of, takes_data, has, is_name}
 use Rattle.pcl_base.specs.Value.{whole_of, is_minus, is_below_zero}
 use Rattle.pcl_escape.specs.Letter.{goes_on}
 use Rattle.pcl_escape.specs.Field.{in_range}
@@ -19,15 +20,16 @@ data_checks letter value left =
     else (if goes_on letter then Err BadSequence
     else (if nat_lt left (whole_of value) then Err Truncated else Ok (whole_of value))))
 
--- a name that is performed, and then its data
-abbrev pub operation_checks : Option Operation → ℕ → Value → ℕ → Result ℕ Kind
-operation_checks None letter value left = Err UnsupportedCommand
-operation_checks (Some operation) letter value left = if takes_data operation then data_checks letter value left else Ok 0
+-- a name that the profile has, and then its data
+abbrev pub operation_checks : Profile → Option Operation → ℕ → Value → ℕ → Result ℕ Kind
+operation_checks profile None letter value left = Err UnsupportedCommand
+operation_checks profile (Some operation) letter value left =
+    if has profile operation then (if takes_data operation then data_checks letter value left else Ok 0) else Err UnsupportedCommand
 
 -- the count of the data bytes of a parameter, or the kind of the first check that fails
-unfoldable pub parameter_checks : Name → ℕ → Value → ℕ → Result ℕ Kind
-parameter_checks name letter value left =
-    if in_range value then operation_checks (operation_of name) letter value left else Err ValueRange
+unfoldable pub parameter_checks : Profile → Name → ℕ → Value → ℕ → Result ℕ Kind
+parameter_checks profile name letter value left =
+    if in_range value then operation_checks profile (operation_of name) letter value left else Err ValueRange
 
 -- ---- the universal exit
 

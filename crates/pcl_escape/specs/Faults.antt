@@ -4,6 +4,7 @@ use Rattle.std.specs.List.{flat_map, AllByRecursion}
 use Rattle.pcl_base.specs.declared.name.Name.TheVariants.{Empty, One}
 use Rattle.pcl_base.specs.declared.kind.Kind.{Kind}
 use Rattle.pcl_base.specs.declared.kind.Kind.TheVariants.{Truncated, BadSequence, UnsupportedCommand, NotPcl}
+use Rattle.pcl_base.specs.declared.profile.Profile.{Profile}
 use Rattle.pcl_base.specs.declared.refusal.Refusal.{Refusal}
 use Rattle.pcl_base.specs.declared.fault.JobFault.{JobFault}
 use Rattle.pcl_base.specs.declared.fault.JobFault.TheVariants.{Refused, Memory}
@@ -36,16 +37,16 @@ extends field byte = is_digit byte || (byte == 46 && is_none field.fraction) || 
 -- ---- what fails
 
 -- what first fails in a parameter: it isn't whole, another byte stands in the place of its letter, or a check fails
-pub data FailsParameter : Prefix → ℕ → List ℕ → Refusal → Type 0 where
+pub data FailsParameter (profile : Profile) : Prefix → ℕ → List ℕ → Refusal → Type 0 where
   cut : {prefix : Prefix} {at : ℕ} (field : Spelled) → IsField field
-      → FailsParameter prefix at (field_bytes field) (refusal Truncated at (prefix_name prefix))
+      → FailsParameter profile prefix at (field_bytes field) (refusal Truncated at (prefix_name prefix))
   no_letter : {prefix : Prefix} {at : ℕ} (field : Spelled) (byte : ℕ) (bytes : List ℕ)
       → IsField field → extends field byte ≡ false → is_letter prefix byte ≡ false
-      → FailsParameter prefix at (field_bytes field ++ byte ∷ bytes) (refusal BadSequence at (prefix_name prefix))
+      → FailsParameter profile prefix at (field_bytes field ++ byte ∷ bytes) (refusal BadSequence at (prefix_name prefix))
   check : {prefix : Prefix} {at : ℕ} (field : Spelled) (letter : ℕ) (bytes : List ℕ) (kind : Kind)
       → IsField field → IsTrue (is_letter prefix letter)
-      → parameter_checks (parameter_name prefix letter) letter (field_value field) (length bytes) ≡ Err kind
-      → FailsParameter prefix at (field_bytes field ++ letter ∷ bytes) (refusal kind at (parameter_name prefix letter))
+      → parameter_checks profile (parameter_name prefix letter) letter (field_value field) (length bytes) ≡ Err kind
+      → FailsParameter profile prefix at (field_bytes field ++ letter ∷ bytes) (refusal kind at (parameter_name prefix letter))
 
 -- the place of the parameter after these: of the first one, the place of ESC
 abbrev pub place_behind : ℕ → Prefix → List Parameter → ℕ
@@ -59,37 +60,37 @@ IsUngrouped None [] = Unit {0}
 IsUngrouped None (byte ∷ bytes) = is_group byte ≡ false
 
 -- what first fails in the bytes, which begin at a place outside sequences
-pub data Fails : ℕ → List ℕ → Refusal → Type 0 where
+pub data Fails (profile : Profile) : ℕ → List ℕ → Refusal → Type 0 where
   unknown_control : {at code : ℕ} {bytes : List ℕ} → IsTrue (is_control code) → is_silent code ≡ false → IsNone (operation_of (One code))
-      → Fails at (code ∷ bytes) (refusal UnsupportedCommand at (One code))
-  lone_escape : {at : ℕ} → Fails at (27 ∷ []) (refusal Truncated at Empty)
+      → Fails profile at (code ∷ bytes) (refusal UnsupportedCommand at (One code))
+  lone_escape : {at : ℕ} → Fails profile at (27 ∷ []) (refusal Truncated at Empty)
   no_sequence : {at byte : ℕ} {bytes : List ℕ} → is_two_character byte ≡ false → is_parameterized byte ≡ false
-      → Fails at (27 ∷ byte ∷ bytes) (refusal BadSequence at Empty)
+      → Fails profile at (27 ∷ byte ∷ bytes) (refusal BadSequence at Empty)
   unknown_two : {at byte : ℕ} {bytes : List ℕ} → IsTrue (is_two_character byte) → IsNone (operation_of (One byte))
-      → Fails at (27 ∷ byte ∷ bytes) (refusal UnsupportedCommand at (One byte))
+      → Fails profile at (27 ∷ byte ∷ bytes) (refusal UnsupportedCommand at (One byte))
   no_group : {at byte : ℕ} → IsTrue (is_parameterized byte) → is_ungrouped byte ≡ false
-      → Fails at (27 ∷ byte ∷ []) (refusal Truncated at (One byte))
+      → Fails profile at (27 ∷ byte ∷ []) (refusal Truncated at (One byte))
   bad_group : {at byte group : ℕ} {bytes : List ℕ} → IsTrue (is_parameterized byte) → is_ungrouped byte ≡ false → is_group group ≡ false
-      → Fails at (27 ∷ byte ∷ group ∷ bytes) (refusal BadSequence at (One byte))
+      → Fails profile at (27 ∷ byte ∷ group ∷ bytes) (refusal BadSequence at (One byte))
   in_parameter : {at : ℕ} {bytes : List ℕ} {fault : Refusal} (prefix : Prefix) (middle : List Parameter)
-      → IsPrefix prefix → IsUngrouped prefix.group bytes → AllByRecursion (IsMiddle prefix) middle
-      → FailsParameter prefix (place_behind at prefix middle) bytes fault
-      → Fails at (27 ∷ (prefix_bytes prefix ++ (flat_map parameter_bytes middle ++ bytes))) fault
+      → IsPrefix prefix → IsUngrouped prefix.group bytes → AllByRecursion (IsMiddle profile prefix) middle
+      → FailsParameter profile prefix (place_behind at prefix middle) bytes fault
+      → Fails profile at (27 ∷ (prefix_bytes prefix ++ (flat_map parameter_bytes middle ++ bytes))) fault
   in_line : {at : ℕ} {bytes : List ℕ} (field : Spelled) (lines : List (List ℕ)) (line : List ℕ)
-      → IsField field → IsTrue (is_exit exit_name (field_value field)) → parameter_checks exit_name 88 (field_value field) 0 ≡ Ok 0
+      → IsField field → IsTrue (is_exit exit_name (field_value field)) → parameter_checks profile exit_name 88 (field_value field) 0 ≡ Ok 0
       → AreOtherLines lines (line ++ bytes) → IsLine line bytes → IsTrue (names_language line) → names_pcl line ≡ false
-      → Fails at (27 ∷ 37 ∷ (field_bytes field ++ 88 ∷ (joined lines ++ (line ++ bytes))))
+      → Fails profile at (27 ∷ 37 ∷ (field_bytes field ++ 88 ∷ (joined lines ++ (line ++ bytes))))
       (refusal NotPcl (at + 3 + length (field_bytes field) + length (joined lines)) exit_name)
 
--- the first fault of a job: after a prefix of whole pieces something fails
-pub record IsFault (job : List ℕ) (fault : Refusal) : Type 0 where
+-- the first fault of a job by a profile: after a prefix of whole pieces something fails
+pub record IsFault (profile : Profile) (job : List ℕ) (fault : Refusal) : Type 0 where
   pub front : List Piece
   pub behind : List ℕ
-  pub each : ArePieces front behind
+  pub each : ArePieces profile front behind
   pub spelled : job ≡ flat_map spelling front ++ behind
-  pub fails : Fails (length (flat_map spelling front)) behind fault
+  pub fails : Fails profile (length (flat_map spelling front)) behind fault
 
 -- a fault of a call that reads the job: out of memory is no fault of the job
-abbrev pub IsFaultOf : List ℕ → JobFault → Type 0
-IsFaultOf job (Refused fault) = IsFault job fault
-IsFaultOf job Memory = Unit {0}
+abbrev pub IsFaultOf : Profile → List ℕ → JobFault → Type 0
+IsFaultOf profile job (Refused fault) = IsFault profile job fault
+IsFaultOf profile job Memory = Unit {0}

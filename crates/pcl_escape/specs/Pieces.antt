@@ -3,6 +3,7 @@ use Rattle.std.specs.Prelude.{◌≡◌, ℕ, ◌+◌, false, IsTrue, List, [], 
 use Rattle.std.specs.List.{flat_map, AllByRecursion}
 use Rattle.pcl_base.specs.declared.name.Name.{Name}
 use Rattle.pcl_base.specs.declared.name.Name.TheVariants.{One}
+use Rattle.pcl_base.specs.declared.profile.Profile.{Profile}
 use Rattle.pcl_base.specs.Operation.{operation_of}
 use Rattle.pcl_base.specs.Value.{zero_value}
 use Rattle.pcl_escape.specs.declared.step.Prefix.{Prefix}
@@ -60,22 +61,22 @@ abbrev pub IsPrefix : Prefix → Type 0
 IsPrefix prefix = IsPrefixOf prefix.parameterized prefix.group
 
 -- a parameter that passes the checks with these data after it
-abbrev pub PassesChecks : Prefix → Parameter → List ℕ → Type 0
-PassesChecks prefix parameter bytes =
+abbrev pub PassesChecks : Profile → Prefix → Parameter → List ℕ → Type 0
+PassesChecks profile prefix parameter bytes =
     let name = parameter_name prefix parameter.letter in
-    parameter_checks name parameter.letter (field_value parameter.field) (length bytes) ≡ Ok (length bytes)
+    parameter_checks profile name parameter.letter (field_value parameter.field) (length bytes) ≡ Ok (length bytes)
 
 -- a parameter after which the sequence goes on has no data
-pub record IsMiddle (prefix : Prefix) (parameter : Parameter) : Type 0 where
+pub record IsMiddle (profile : Profile) (prefix : Prefix) (parameter : Parameter) : Type 0 where
   pub field : IsField parameter.field
   pub letter : IsTrue (may_go_on prefix parameter.letter)
-  pub checks : PassesChecks prefix parameter []
+  pub checks : PassesChecks profile prefix parameter []
 
 -- a last parameter with its data, which is no universal exit
-pub record IsEnd (prefix : Prefix) (parameter : Parameter) (bytes : List ℕ) : Type 0 where
+pub record IsEnd (profile : Profile) (prefix : Prefix) (parameter : Parameter) (bytes : List ℕ) : Type 0 where
   pub field : IsField parameter.field
   pub letter : IsTrue (is_last parameter.letter)
-  pub checks : PassesChecks prefix parameter bytes
+  pub checks : PassesChecks profile prefix parameter bytes
   pub stays : is_exit (parameter_name prefix parameter.letter) (field_value parameter.field) ≡ false
 
 -- a command of this name is performed
@@ -93,25 +94,25 @@ IsRun [] behind = ⊥
 IsRun (byte ∷ bytes) behind = AllByRecursion (λ byte. IsTrue (is_text byte)) (byte ∷ bytes) × IsNoText behind
 
 -- a universal exit, before the bytes that stand after its lines
-pub record IsExit (field : Spelled) (lines : List (List ℕ)) (behind : List ℕ) : Type 0 where
+pub record IsExit (profile : Profile) (field : Spelled) (lines : List (List ℕ)) (behind : List ℕ) : Type 0 where
   pub field_is : IsField field
   pub leaves : IsTrue (is_exit exit_name (field_value field))
-  pub checks : parameter_checks exit_name 88 (field_value field) 0 ≡ Ok 0
+  pub checks : parameter_checks profile exit_name 88 (field_value field) 0 ≡ Ok 0
   pub lines_are : AreLines lines behind
 
--- a piece, before the bytes that stand after it
-abbrev pub IsPiece : Piece → List ℕ → Type 0
-IsPiece (silent byte) behind = IsTrue (is_silent byte)
-IsPiece (control code) behind = IsTrue (is_control code) × (is_silent code ≡ false) × IsNamed (One code)
-IsPiece (text bytes) behind = IsRun bytes behind
-IsPiece (two_character byte) behind = IsTrue (is_two_character byte) × IsNamed (One byte)
-IsPiece (combined prefix middle end bytes) behind = IsPrefix prefix × AllByRecursion (IsMiddle prefix) middle × IsEnd prefix end bytes
-IsPiece (exit field lines) behind = IsExit field lines behind
+-- a piece by a profile, before the bytes that stand after it
+abbrev pub IsPiece : Profile → Piece → List ℕ → Type 0
+IsPiece profile (silent byte) behind = IsTrue (is_silent byte)
+IsPiece profile (control code) behind = IsTrue (is_control code) × (is_silent code ≡ false) × IsNamed (One code)
+IsPiece profile (text bytes) behind = IsRun bytes behind
+IsPiece profile (two_character byte) behind = IsTrue (is_two_character byte) × IsNamed (One byte)
+IsPiece profile (combined prefix middle end bytes) behind = IsPrefix prefix × AllByRecursion (IsMiddle profile prefix) middle × IsEnd profile prefix end bytes
+IsPiece profile (exit field lines) behind = IsExit profile field lines behind
 
 -- pieces one after the other, and what stands after the last
-abbrev pub ArePieces : List Piece → List ℕ → Type 0
-ArePieces [] behind = Unit {0}
-ArePieces (piece ∷ pieces) behind = IsPiece piece (flat_map spelling pieces ++ behind) × ArePieces pieces behind
+abbrev pub ArePieces : Profile → List Piece → List ℕ → Type 0
+ArePieces profile [] behind = Unit {0}
+ArePieces profile (piece ∷ pieces) behind = IsPiece profile piece (flat_map spelling pieces ++ behind) × ArePieces profile pieces behind
 
 -- ---- what each piece says
 
@@ -160,9 +161,9 @@ commands_of at (piece ∷ pieces) = commands_from at piece ++ commands_of (at + 
 
 -- ---- a reading
 
--- a reading of a job: whole pieces from its first byte to its last, and their commands
-pub record IsReading (job : List ℕ) (commands : List Said) : Type 0 where
+-- a reading of a job by a profile: whole pieces from its first byte to its last, and their commands
+pub record IsReading (profile : Profile) (job : List ℕ) (commands : List Said) : Type 0 where
   pub pieces : List Piece
-  pub each : ArePieces pieces []
+  pub each : ArePieces profile pieces []
   pub spelled : job ≡ flat_map spelling pieces
   pub said : commands ≡ commands_of 0 pieces

@@ -1,6 +1,7 @@
 //! Whole jobs.
 
 ghost use Rattle.std.specs.Prelude.{◌≡◌, ◌++◌, ◌⊎◌, [], List, ℕ, IfSome, IfOk, IfErr, OnOk};
+ghost use Rattle.pcl_base.specs.declared.profile.Profile.{Profile};
 ghost use Rattle.pcl_base.specs.declared.refusal.Refusal.{Refusal};
 ghost use Rattle.pcl_escape.specs.Said.{Said, views};
 ghost use Rattle.pcl_escape.specs.Pieces.{IsReading};
@@ -11,19 +12,23 @@ use crate::item::Item;
 use crate::step::read_step;
 use crate::store::CommandStore;
 use crate::{Command, Commands};
-use pcl_base::JobFault;
+use pcl_base::{JobFault, Profile};
 use std::alloc::{AllocError, Global};
 
-/// The commands of a job, or its first fault. A fault has kind, place and name; the other one is out
+/// The commands of a job by a profile, or its first fault. A fault has kind, place and name; the other one is out
 /// of memory. The data of a command are a slice of the job (docs/LANGUAGE.md, "Reading").
-pub fn read_job<'a>(alloc: Global, job: &'a [u8]) -> Result<Vec<Command<'a>>, JobFault>
+pub fn read_job<'a>(
+    alloc: Global,
+    profile: Profile,
+    job: &'a [u8],
+) -> Result<Vec<Command<'a>>, JobFault>
     // The commands are those of a reading of the job.
-    ensures reading { IfOk result (λ commands. IsReading job.now (views commands.items)) }
+    ensures reading { IfOk result (λ commands. IsReading profile job.now (views commands.items)) }
     // A refusal is the first fault of the job.
-    ensures fault { IfErr result (λ fault. IsFaultOf job.now fault) }
+    ensures fault { IfErr result (λ fault. IsFaultOf profile job.now fault) }
 {
     let mut commands: Vec<Command<'a>> = Vec::new(alloc);
-    match scan(job, &mut commands) {
+    match scan(profile, job, &mut commands) {
         Ok(()) => Ok(commands),
         Err(fault) => Err(fault),
     }
@@ -31,40 +36,52 @@ pub fn read_job<'a>(alloc: Global, job: &'a [u8]) -> Result<Vec<Command<'a>>, Jo
 
 /// The commands of a job as [`read_job`] gives them, in half of the memory. Each is made anew where it is asked for. A job of
 /// 4,294,967,296 bytes or more, whose places need more than 32 bits, is out of memory.
-pub fn read_commands<'a>(alloc: Global, job: &'a [u8]) -> Result<Commands<'a>, JobFault>
-    ensures reading { IfOk result (λ commands. IsReading job.now commands) }
-    ensures fault { IfErr result (λ fault. IsFaultOf job.now fault) }
+pub fn read_commands<'a>(
+    alloc: Global,
+    profile: Profile,
+    job: &'a [u8],
+) -> Result<Commands<'a>, JobFault>
+    ensures reading { IfOk result (λ commands. IsReading profile job.now commands) }
+    ensures fault { IfErr result (λ fault. IsFaultOf profile job.now fault) }
 {
     let mut items: Vec<Item> = Vec::new(alloc);
-    match scan(job, &mut items) {
+    match scan(profile, job, &mut items) {
         Ok(()) => Ok(Commands::new(job, items)),
         Err(fault) => Err(fault),
     }
 }
 
-/// A job has one reading at most, and one first fault at most, and never both. So with memory enough
+/// By a profile a job has one reading at most, and one first fault at most, and never both. So with memory enough
 /// `read_job` gives the reading exactly where there is one. A law: the call does nothing.
 pub fn one_outcome()
-    ensures reading { (job : List ℕ) (commands others : List Said) → IsReading job commands → IsReading job others → commands ≡ others }
-    ensures fault { (job : List ℕ) (fault other : Refusal) → IsFault job fault → IsFault job other → fault ≡ other }
-    ensures apart { (job : List ℕ) (commands : List Said) (fault : Refusal) → IsReading job commands → IsFault job fault → ⊥ }
+    ensures reading { (profile : Profile) (job : List ℕ) (commands others : List Said) → IsReading profile job commands
+        → IsReading profile job others → commands ≡ others }
+    ensures fault { (profile : Profile) (job : List ℕ) (fault other : Refusal) → IsFault profile job fault → IsFault profile job other
+        → fault ≡ other }
+    ensures apart { (profile : Profile) (job : List ℕ) (commands : List Said) (fault : Refusal) → IsReading profile job commands
+        → IsFault profile job fault → ⊥ }
 {}
 
-/// A job has a reading or a first fault, whatever its bytes are. A law: the call does nothing.
+/// By a profile a job has a reading or a first fault, whatever its bytes are. A law: the call does nothing.
 pub fn some_outcome()
-    ensures { (job : List ℕ) → ((commands : List Said) × IsReading job commands) ⊎ ((fault : Refusal) × IsFault job fault) }
+    ensures { (profile : Profile) (job : List ℕ)
+        → ((commands : List Said) × IsReading profile job commands) ⊎ ((fault : Refusal) × IsFault profile job fault) }
 {}
 
 /// Appends the commands of a job to an empty store, step by step, up to its first fault.
-fn scan<'a, S: CommandStore<'a>>(job: &'a [u8], store: &mut S) -> Result<(), JobFault>
+fn scan<'a, S: CommandStore<'a>>(
+    profile: Profile,
+    job: &'a [u8],
+    store: &mut S,
+) -> Result<(), JobFault>
     requires { S.kept job.now store.old ≡ [] }
-    ensures { Yields result (S.kept job.now store.new) (outcome_of job.now) }
+    ensures { Yields result (S.kept job.now store.new) (outcome_of profile job.now) }
 {
     let mut rest = job;
     let mut inside = None;
     while !rest.is_empty() || inside.is_some() {
         let at = job.len() - rest.len();
-        let step = match read_step(inside, at, rest) {
+        let step = match read_step(profile, inside, at, rest) {
             Ok(step) => step,
             Err(refusal) => return Err(JobFault::Refused(refusal)),
         };

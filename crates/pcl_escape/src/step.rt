@@ -13,7 +13,7 @@ ghost use Rattle.pcl_escape.specs.inner.Scan.{Gives, step_view, before_rest, ste
 use crate::Command;
 use crate::exit::skip_lines;
 use crate::field::read_field;
-use pcl_base::{Kind, Name, Operation, Refusal, Value};
+use pcl_base::{Kind, Name, Operation, Profile, Refusal, Value};
 
 /// The byte that begins a sequence.
 const ESC: u8 = 27;
@@ -41,36 +41,37 @@ pub struct Progress<'a> {
     pub inside: Option<Prefix>,
 }
 
-/// Reads what stands at the front of the bytes, inside a combined sequence or outside. `at` is the
+/// Reads what stands at the front of the bytes by a profile, inside a combined sequence or outside. `at` is the
 /// place of the front.
 // Inlined, as `read_parameter`, in each loop that reads.
 #[inline(always)]
 pub fn read_step<'a>(
+    profile: Profile,
     inside: Option<Prefix>,
     at: usize,
     bytes: &'a [u8],
 ) -> Result<Progress<'a>, Refusal>
     requires { at + length bytes.now ≤ 18446744073709551615 }
-    ensures { Gives result (step_at inside at bytes.now) }
+    ensures { Gives result (step_at profile inside at bytes.now) }
 {
     match inside {
-        Some(prefix) => read_parameter(prefix, at, bytes),
-        None => read_start(at, bytes),
+        Some(prefix) => read_parameter(profile, prefix, at, bytes),
+        None => read_start(profile, at, bytes),
     }
 }
 
 /// Reads what stands at the front of the bytes, outside sequences.
 #[tactic(auto, unfolding(crate::specs::inner::Scan::start_at))]
-fn read_start<'a>(at: usize, bytes: &'a [u8]) -> Result<Progress<'a>, Refusal>
+fn read_start<'a>(profile: Profile, at: usize, bytes: &'a [u8]) -> Result<Progress<'a>, Refusal>
     requires { at + length bytes.now ≤ 18446744073709551615 }
-    ensures { Gives result (start_at at bytes.now) }
+    ensures { Gives result (start_at profile at bytes.now) }
 {
     let Some((&first, after)) = bytes.split_first() else {
         return Ok(silent(bytes));
     };
     match first {
         0 | 7 | 11 => Ok(silent(after)),
-        ESC => read_sequence(at, after),
+        ESC => read_sequence(profile, at, after),
         8..=15 => read_named(at, first, after),
         _ => read_text(at, bytes),
     }
@@ -79,25 +80,30 @@ fn read_start<'a>(at: usize, bytes: &'a [u8]) -> Result<Progress<'a>, Refusal>
 /// Reads the sequence whose ESC stands before the bytes, up to its first parameter. `at` is the place of
 /// ESC.
 #[tactic(auto, unfolding(crate::specs::inner::Scan::sequence_at))]
-fn read_sequence<'a>(at: usize, bytes: &'a [u8]) -> Result<Progress<'a>, Refusal>
+fn read_sequence<'a>(profile: Profile, at: usize, bytes: &'a [u8]) -> Result<Progress<'a>, Refusal>
     requires { at + 1 + length bytes.now ≤ 18446744073709551615 }
-    ensures { Gives result (sequence_at at bytes.now) }
+    ensures { Gives result (sequence_at profile at bytes.now) }
 {
     let Some((&first, after)) = bytes.split_first() else {
         return refused(Kind::Truncated, at, Name::Empty);
     };
     match first {
         48..=126 => read_named(at, first, after),
-        33..=47 => read_prefix(at, first, after),
+        33..=47 => read_prefix(profile, at, first, after),
         _ => refused(Kind::BadSequence, at, Name::Empty),
     }
 }
 
 /// Reads the group character of a sequence, if it has one, and its first parameter.
 #[tactic(auto, unfolding(crate::specs::inner::Scan::prefix_at))]
-fn read_prefix<'a>(at: usize, parameterized: u8, bytes: &'a [u8]) -> Result<Progress<'a>, Refusal>
+fn read_prefix<'a>(
+    profile: Profile,
+    at: usize,
+    parameterized: u8,
+    bytes: &'a [u8],
+) -> Result<Progress<'a>, Refusal>
     requires { at + 2 + length bytes.now ≤ 18446744073709551615 }
-    ensures { Gives result (prefix_at at parameterized bytes.now) }
+    ensures { Gives result (prefix_at profile at parameterized bytes.now) }
 {
     let Some((&group, after)) = bytes.split_first() else {
         return refused(Kind::Truncated, at, Name::One(parameterized));
@@ -107,10 +113,10 @@ fn read_prefix<'a>(at: usize, parameterized: u8, bytes: &'a [u8]) -> Result<Prog
             parameterized,
             group: Some(group),
         };
-        return read_parameter(prefix, at, after);
+        return read_parameter(profile, prefix, at, after);
     }
     match parameterized {
-        b'(' | b')' | b'%' => read_ungrouped(at, parameterized, bytes),
+        b'(' | b')' | b'%' => read_ungrouped(profile, at, parameterized, bytes),
         _ => refused(Kind::BadSequence, at, Name::One(parameterized)),
     }
 }
@@ -118,18 +124,19 @@ fn read_prefix<'a>(at: usize, parameterized: u8, bytes: &'a [u8]) -> Result<Prog
 /// Reads the parameter of a sequence without a group character, and the lines after a universal exit.
 #[tactic(auto, unfolding(crate::specs::inner::Scan::ungrouped_at))]
 fn read_ungrouped<'a>(
+    profile: Profile,
     at: usize,
     parameterized: u8,
     bytes: &'a [u8],
 ) -> Result<Progress<'a>, Refusal>
     requires { at + 2 + length bytes.now ≤ 18446744073709551615 }
-    ensures { Gives result (ungrouped_at at parameterized bytes.now) }
+    ensures { Gives result (ungrouped_at profile at parameterized bytes.now) }
 {
     let prefix = Prefix {
         parameterized,
         group: None,
     };
-    let step = read_parameter(prefix, at, bytes)?;
+    let step = read_parameter(profile, prefix, at, bytes)?;
     match step.command {
         Some(command) if is_exit(command.name, command.value) => {
             let place = at + 2 + (bytes.len() - step.rest.len());
@@ -220,8 +227,13 @@ fn text_len(bytes: &[u8]) -> usize
 // Inlined, so that a step of each command isn't passed on through memory.
 #[inline(always)]
 #[tactic(auto, unfolding(crate::specs::inner::Scan::parameter_at, crate::specs::Checks::parameter_checks))]
-fn read_parameter<'a>(prefix: Prefix, at: usize, bytes: &'a [u8]) -> Result<Progress<'a>, Refusal>
-    ensures { Gives result (parameter_at prefix at bytes.now) }
+fn read_parameter<'a>(
+    profile: Profile,
+    prefix: Prefix,
+    at: usize,
+    bytes: &'a [u8],
+) -> Result<Progress<'a>, Refusal>
+    ensures { Gives result (parameter_at profile prefix at bytes.now) }
 {
     let (field, rest) = read_field(bytes);
     let Some((&letter, after)) = rest.split_first() else {
@@ -234,7 +246,7 @@ fn read_parameter<'a>(prefix: Prefix, at: usize, bytes: &'a [u8]) -> Result<Prog
     let Some(value) = field.value() else {
         return refused(Kind::ValueRange, at, name);
     };
-    let len = match data_len(name, letter, value, after.len()) {
+    let len = match data_len(profile, name, letter, value, after.len()) {
         Err(kind) => return refused(kind, at, name),
         Ok(len) => len,
     };
@@ -255,12 +267,19 @@ fn read_parameter<'a>(prefix: Prefix, at: usize, bytes: &'a [u8]) -> Result<Prog
 /// How many bytes of data follow a parameter, of those that are left; or what is wrong.
 // Inlined, as `read_parameter`.
 #[inline(always)]
-fn data_len(name: Name, letter: u8, value: Value, left: usize) -> Result<usize, Kind>
-    ensures checks { result ≡ operation_checks (operation_of name) letter value left }
+fn data_len(
+    profile: Profile,
+    name: Name,
+    letter: u8,
+    value: Value,
+    left: usize,
+) -> Result<usize, Kind>
+    ensures checks { result ≡ operation_checks profile (operation_of name) letter value left }
     ensures within { IfOk result (λ len. len ≤ left) }
 {
     match Operation::with_name(name) {
         None => Err(Kind::UnsupportedCommand),
+        Some(operation) if !operation.is_in(profile) => Err(Kind::UnsupportedCommand),
         Some(operation) if !operation.takes_data() => Ok(0),
         Some(_) if value.whole() < 0 => Err(Kind::ValueRange),
         Some(_) => match value.whole() as usize {

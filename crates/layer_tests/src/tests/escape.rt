@@ -1,5 +1,5 @@
 use super::assert_gives;
-use pcl_base::{Name, Sign, Value};
+use pcl_base::{JobFault, Kind, Name, Profile, Refusal, Sign, Value};
 use pcl_escape::{Command, CommandList, one_outcome, read_commands, read_job, some_outcome};
 use std::alloc::Global;
 use std::process::Abort;
@@ -42,8 +42,8 @@ fn assert_commands(
     job: &[u8],
     expected: &[Parts],
 ) -> Result<(), Fail> {
-    let commands = read_job(alloc, job)?;
-    let list = read_commands(alloc, job)?;
+    let commands = read_job(alloc, Profile::Stated, job)?;
+    let list = read_commands(alloc, Profile::Stated, job)?;
     assert_gives(rt, &job, &commands.len(), &expected.len());
     for (place, (command, wanted)) in commands.iter().zip(expected).enumerate() {
         assert_command(rt, job, Some(*command), wanted);
@@ -188,7 +188,7 @@ fn reads_sequences(rt: HostRuntime) -> Result<(), Fail> {
 
 fn assert_sequences(rt: &impl Abort, alloc: Global, sequences: &[Sequence]) -> Result<(), Fail> {
     for (job, expected) in sequences {
-        let commands = read_job(alloc, job)?;
+        let commands = read_job(alloc, Profile::Stated, job)?;
         assert_names(rt, job, &commands, expected);
     }
     Ok(())
@@ -199,6 +199,31 @@ fn assert_names(rt: &impl Abort, job: &[u8], commands: &[Command<'_>], expected:
     for (command, wanted) in commands.iter().zip(expected) {
         assert_gives(rt, &job, &(command.at, command.name), wanted);
     }
+}
+
+/// Commands of the drivers' profile, and their names.
+const OF_DRIVERS: [(&[u8], Name); 7] = [
+    (b"\x1b&l1T", Name::Three(b'&', b'l', b'T')),
+    (b"\x1b&k1W", Name::Three(b'&', b'k', b'W')),
+    (b"\x1b*o-1M", Name::Three(b'*', b'o', b'M')),
+    (b"\x1b*o2Q", Name::Three(b'*', b'o', b'Q')),
+    (b"\x1b*o3D", Name::Three(b'*', b'o', b'D')),
+    (b"\x1b*r2Q", Name::Three(b'*', b'r', b'Q')),
+    (b"\x1b*b0S", Name::Three(b'*', b'b', b'S')),
+];
+
+// The stated profile doesn't have them.
+#[test]
+fn reads_by_profile(rt: HostRuntime) -> Result<(), Fail> {
+    for (job, name) in OF_DRIVERS {
+        let commands = read_job(rt.alloc(), Profile::Drivers, job)?;
+        assert_names(&rt, job, &commands, &[(0, name)]);
+        let refusal = Refusal::new(Kind::UnsupportedCommand, 0, name);
+        let stated = read_job(rt.alloc(), Profile::Stated, job);
+        let fault = stated.err();
+        assert_gives(&rt, &job, &fault, &Some(JobFault::Refused(refusal)));
+    }
+    Ok(())
 }
 
 // The laws do nothing.

@@ -8,6 +8,7 @@ use Rattle.pcl_base.specs.declared.fault.JobFault.TheVariants.{Refused, Memory}
 use Rattle.pcl_base.specs.declared.name.Name.{Name}
 use Rattle.pcl_base.specs.declared.name.Name.TheVariants.{Empty, One}
 use Rattle.pcl_base.specs.declared.operation.Operation.{Operation}
+use Rattle.pcl_base.specs.declared.profile.Profile.{Profile}
 use Rattle.pcl_base.specs.declared.value.Value.{Value}
 use Rattle.pcl_base.specs.Name.{name_bytes}
 use Rattle.pcl_base.specs.Operation.{operation_of}
@@ -63,16 +64,16 @@ checked_at prefix at letter value bytes (Ok len) =
 checked_at prefix at letter value bytes (Err kind) = refuse kind at (parameter_name prefix letter)
 
 -- the byte after a value field, and then the checks
-abbrev pub letter_at : Prefix → ℕ → Spelled → List ℕ → Result Reads Refusal
-letter_at prefix at field [] = refuse Truncated at (prefix_name prefix)
-letter_at prefix at field (letter ∷ bytes) =
-    let checks = parameter_checks (parameter_name prefix letter) letter (field_value field) (length bytes) in
+abbrev pub letter_at : Profile → Prefix → ℕ → Spelled → List ℕ → Result Reads Refusal
+letter_at profile prefix at field [] = refuse Truncated at (prefix_name prefix)
+letter_at profile prefix at field (letter ∷ bytes) =
+    let checks = parameter_checks profile (parameter_name prefix letter) letter (field_value field) (length bytes) in
     if is_letter prefix letter then checked_at prefix at letter (field_value field) bytes checks
     else refuse BadSequence at (prefix_name prefix)
 
 -- a parameter with its data
-unfoldable pub parameter_at : Prefix → ℕ → List ℕ → Result Reads Refusal
-parameter_at prefix at bytes = let field = field_at bytes in letter_at prefix at field.0 field.1
+unfoldable pub parameter_at : Profile → Prefix → ℕ → List ℕ → Result Reads Refusal
+parameter_at profile prefix at bytes = let field = field_at bytes in letter_at profile prefix at field.0 field.1
 
 -- the command is a universal exit
 abbrev pub leaves : Option Said → Bool
@@ -100,36 +101,36 @@ with_lines begin len (Ok reads) =
 with_lines begin len (Err fault) = Err fault
 
 -- the parameter of a sequence without a group character, which begins at a place
-unfoldable pub ungrouped_at : ℕ → ℕ → List ℕ → Result Reads Refusal
-ungrouped_at at parameterized bytes =
-    with_lines (at + 2) (length bytes) (parameter_at (record { parameterized = parameterized; group = None }) at bytes)
+unfoldable pub ungrouped_at : Profile → ℕ → ℕ → List ℕ → Result Reads Refusal
+ungrouped_at profile at parameterized bytes =
+    with_lines (at + 2) (length bytes) (parameter_at profile (record { parameterized = parameterized; group = None }) at bytes)
 
 -- the group character or none, and the first parameter
-unfoldable pub prefix_at : ℕ → ℕ → List ℕ → Result Reads Refusal
-prefix_at at parameterized [] = refuse Truncated at (One parameterized)
-prefix_at at parameterized (group ∷ bytes) =
-    if is_group group then parameter_at (record { parameterized = parameterized; group = Some group }) at bytes
-    else (if is_ungrouped parameterized then ungrouped_at at parameterized (group ∷ bytes) else refuse BadSequence at (One parameterized))
+unfoldable pub prefix_at : Profile → ℕ → ℕ → List ℕ → Result Reads Refusal
+prefix_at profile at parameterized [] = refuse Truncated at (One parameterized)
+prefix_at profile at parameterized (group ∷ bytes) =
+    if is_group group then parameter_at profile (record { parameterized = parameterized; group = Some group }) at bytes
+    else (if is_ungrouped parameterized then ungrouped_at profile at parameterized (group ∷ bytes) else refuse BadSequence at (One parameterized))
 
 -- the byte after ESC, and so on
-unfoldable pub sequence_at : ℕ → List ℕ → Result Reads Refusal
-sequence_at at [] = refuse Truncated at Empty
-sequence_at at (byte ∷ bytes) =
+unfoldable pub sequence_at : Profile → ℕ → List ℕ → Result Reads Refusal
+sequence_at profile at [] = refuse Truncated at Empty
+sequence_at profile at (byte ∷ bytes) =
     if is_two_character byte then named_at at byte bytes
-    else (if is_parameterized byte then prefix_at at byte bytes else refuse BadSequence at Empty)
+    else (if is_parameterized byte then prefix_at profile at byte bytes else refuse BadSequence at Empty)
 
 -- bytes outside sequences
-unfoldable pub start_at : ℕ → List ℕ → Result Reads Refusal
-start_at at [] = Ok record { said = None; rest = []; inside = None }
-start_at at (byte ∷ bytes) =
+unfoldable pub start_at : Profile → ℕ → List ℕ → Result Reads Refusal
+start_at profile at [] = Ok record { said = None; rest = []; inside = None }
+start_at profile at (byte ∷ bytes) =
     if is_silent byte then Ok record { said = None; rest = bytes; inside = None }
-    else (if byte == 27 then sequence_at at bytes
+    else (if byte == 27 then sequence_at profile at bytes
     else (if is_control byte then named_at at byte bytes else text_at at (byte ∷ bytes)))
 
 -- a step inside a sequence or outside
-abbrev pub step_at : Option Prefix → ℕ → List ℕ → Result Reads Refusal
-step_at None at bytes = start_at at bytes
-step_at (Some prefix) at bytes = parameter_at prefix at bytes
+abbrev pub step_at : Profile → Option Prefix → ℕ → List ℕ → Result Reads Refusal
+step_at profile None at bytes = start_at profile at bytes
+step_at profile (Some prefix) at bytes = parameter_at profile prefix at bytes
 
 -- ---- a step of the code
 
@@ -165,18 +166,18 @@ and_then (Ok reads) go_on = with_front (commands_said reads.said) (go_on reads)
 and_then (Err fault) go_on = Err fault
 
 -- what the reading of the bytes gives, in at most this many steps; the bytes begin at a place
-unfoldable pub outcome : ℕ → Option Prefix → ℕ → List ℕ → Result (List Said) Refusal
-outcome zero inside at bytes = Ok []
-outcome (suc steps) None at [] = Ok []
-outcome (suc steps) None at (byte ∷ bytes) =
-    and_then (step_at None at (byte ∷ bytes))
-    (λ reads. outcome steps reads.inside (at + (length (byte ∷ bytes) - length reads.rest)) reads.rest)
-outcome (suc steps) (Some prefix) at bytes =
-    and_then (step_at (Some prefix) at bytes) (λ reads. outcome steps reads.inside (at + (length bytes - length reads.rest)) reads.rest)
+unfoldable pub outcome : Profile → ℕ → Option Prefix → ℕ → List ℕ → Result (List Said) Refusal
+outcome profile zero inside at bytes = Ok []
+outcome profile (suc steps) None at [] = Ok []
+outcome profile (suc steps) None at (byte ∷ bytes) =
+    and_then (step_at profile None at (byte ∷ bytes))
+    (λ reads. outcome profile steps reads.inside (at + (length (byte ∷ bytes) - length reads.rest)) reads.rest)
+outcome profile (suc steps) (Some prefix) at bytes =
+    and_then (step_at profile (Some prefix) at bytes) (λ reads. outcome profile steps reads.inside (at + (length bytes - length reads.rest)) reads.rest)
 
 -- each step but the last takes a byte
-abbrev pub outcome_of : List ℕ → Result (List Said) Refusal
-outcome_of job = outcome (suc (length job)) None 0 job
+abbrev pub outcome_of : Profile → List ℕ → Result (List Said) Refusal
+outcome_of profile job = outcome profile (suc (length job)) None 0 job
 
 -- what a function returned is the outcome, with the commands that it gave, unless memory ran out
 abbrev pub Yields : Result (Unit {0}) JobFault → List Said → Result (List Said) Refusal → Type 0

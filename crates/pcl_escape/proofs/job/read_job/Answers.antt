@@ -5,4 +5,4 @@ pub returns-in-Ok-clause-reading : goal.returns-in-Ok-clause-reading
 returns-in-Ok-clause-reading c = reading_of c.in-Ok.ensures
 
 pub returns-clause-fault : goal.returns-clause-fault
-returns-clause-fault c = fault_of_scan c.args.job.now c.in-Err.fault _ c.in-Err.ensures
+returns-clause-fault c = fault_of_scan c.args.profile c.args.job.now c.in-Err.fault _ c.in-Err.ensures

@@ -17,34 +17,34 @@ more_to_read g c = elim c.if-not-is_empty.branch [
 pub returns-in-Err : goal.returns-in-Err
 returns-in-Err g c =
     let goes = more_to_read g (goal.at.returns-in-Err g c).After-read_step in
-    sym c.loop-inside.invariant.same ∙ stops_at (g.S.CommandStore.kept c.args.job.now c.loop-inside.store)
+    sym c.loop-inside.invariant.same ∙ stops_at c.args.profile (g.S.CommandStore.kept c.args.job.now c.loop-inside.store)
     (length c.args.job.now) c.loop-inside.inside c.loop-inside.rest.now goes c.in-Err.ensures
 
 pub loop-inside-smaller : goal.loop-inside-smaller
 loop-inside-smaller g c =
     let goes = more_to_read g (goal.at.loop-inside-smaller g c).After-read_step in
-    step_shorter c.loop-inside.inside (length c.args.job.now - length c.loop-inside.rest.now) c.loop-inside.rest.now goes c.in-Ok.ensures
+    step_shorter c.args.profile c.loop-inside.inside (length c.args.job.now - length c.loop-inside.rest.now) c.loop-inside.rest.now goes c.in-Ok.ensures
 
 pub append-requires : goal.append-requires
 append-requires g c =
-    let placed = step_placed c.loop-inside.inside _ (step_view c.in-Ok.step) c.loop-inside.invariant.is_end c.in-Ok.ensures in
+    let placed = step_placed c.args.profile c.loop-inside.inside _ (step_view c.in-Ok.step) c.loop-inside.invariant.is_end c.in-Ok.ensures in
     λ _. ((refl, tt), placed.0)
 
 pub loop-inside-preserved : goal.loop-inside-preserved
 loop-inside-preserved g c =
     let goes = more_to_read g (goal.at.loop-inside-preserved g c).After-read_step in
-    let shorter = step_shorter c.loop-inside.inside _ c.loop-inside.rest.now goes c.in-Ok.ensures in
+    let shorter = step_shorter c.args.profile c.loop-inside.inside _ c.loop-inside.rest.now goes c.in-Ok.ensures in
     let within = c.loop-inside.invariant.within in
     let read = step_view c.in-Ok.step in
     record {
       within = omega arith;
-      same = rw c.in_ok-append.ensures (one_more (g.S.CommandStore.kept c.args.job.now c.loop-inside.store) (length c.args.job.now)
+      same = rw c.in_ok-append.ensures (one_more c.args.profile (g.S.CommandStore.kept c.args.job.now c.loop-inside.store) (length c.args.job.now)
           c.loop-inside.inside c.loop-inside.rest.now read within goes c.in-Ok.ensures ∙ c.loop-inside.invariant.same);
-      is_end = (step_placed c.loop-inside.inside _ read c.loop-inside.invariant.is_end c.in-Ok.ensures).1;
+      is_end = (step_placed c.args.profile c.loop-inside.inside _ read c.loop-inside.invariant.is_end c.in-Ok.ensures).1;
     }
 
 pub returns : goal.returns
-returns g c = sym c.loop-inside.invariant.same ∙ is_done (g.S.CommandStore.kept c.args.job.now c.loop-inside.store)
+returns g c = sym c.loop-inside.invariant.same ∙ is_done c.args.profile (g.S.CommandStore.kept c.args.job.now c.loop-inside.store)
     (length c.args.job.now) c.loop-inside.inside c.loop-inside.rest.now c.if-not-is_empty.ensures c.if-is_some.ensures
 
 pub read_step-requires : goal.read_step-requires

@@ -7,16 +7,16 @@ use Rattle.pcl_escape.proofs.step.read_parameter.Goals as goal
 use Rattle.pcl_escape.proofs.step.read_parameter.Goals.{After-parameter_name-name}
 
 -- a letter was found after the field, and then come the checks
-checked : (c : After-parameter_name-name) → parameter_at c.args.prefix c.args.at c.args.bytes.now
+checked : (c : After-parameter_name-name) → parameter_at c.args.profile c.args.prefix c.args.at c.args.bytes.now
     ≡ checked_at c.args.prefix c.args.at c.in-Some.field-0-0.now (field_value (spelled c.read_field.result.0)) c.in-Some.after.now
-    (parameter_checks c.parameter_name-name.result c.in-Some.field-0-0.now (field_value (spelled c.read_field.result.0))
+    (parameter_checks c.args.profile c.parameter_name-name.result c.in-Some.field-0-0.now (field_value (spelled c.read_field.result.0))
     (length c.in-Some.after.now))
 unfolding parameter_at
 checked c = rw (← c.read_field.ensures, c.in-Some.ensures.cases.0, ← c.if-not-is_letter.ensures, c.parameter_name-name.ensures) refl
 
 pub returns-in_default : goal.returns-in_default
 returns-in_default c = rw (c.refused.ensures, c.name.ensures)
-    (nothing_behind c.args.prefix c.args.at c.args.bytes.now c.read_field.result.1.now c.read_field.ensures c.in_default.ensures.cases)
+    (nothing_behind c.args.profile c.args.prefix c.args.at c.args.bytes.now c.read_field.result.1.now c.read_field.ensures c.in_default.ensures.cases)
 
 pub returns-then-not-is_letter : goal.returns-then-not-is_letter
 unfolding parameter_at

@@ -5,10 +5,10 @@ use Rattle.pcl_escape.proofs.Steps.{parameter_shorter}
 use Rattle.pcl_escape.proofs.step.read_ungrouped.Goals as goal
 
 pub overflow_sub-place : goal.overflow_sub-place
-overflow_sub-place c = omega (arith, parameter_shorter _ c.args.at c.args.bytes.now c.in_ok-step.ensures)
+overflow_sub-place c = omega (arith, parameter_shorter c.args.profile _ c.args.at c.args.bytes.now c.in_ok-step.ensures)
 
 pub skip_lines-requires : goal.skip_lines-requires
-skip_lines-requires c = omega (arith, parameter_shorter _ c.args.at c.args.bytes.now c.in_ok-step.ensures)
+skip_lines-requires c = omega (arith, parameter_shorter c.args.profile _ c.args.at c.args.bytes.now c.in_ok-step.ensures)
 
 pub returns-in-Err : goal.returns-in-Err
 unfolding ungrouped_at
