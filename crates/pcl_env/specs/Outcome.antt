@@ -13,7 +13,7 @@ use Rattle.pcl_base.specs.declared.operation.Axis.TheVariants.{Horizontal, Verti
 use Rattle.pcl_base.specs.declared.operation.Unit.{Unit as Measure}
 use Rattle.pcl_base.specs.declared.operation.Unit.TheVariants.{PclUnit, Decipoint, Column}
 use Rattle.pcl_base.specs.declared.operation.Operation.{Operation}
-use Rattle.pcl_base.specs.declared.operation.Operation.TheVariants.{Reset, UniversalExit, ClearMargins, HalfLineFeed, HorizontalTab, LineFeed, FormFeed, CarriageReturn, Shift, PageSize, Copies, VerticalMotionIndex, LineSpacing, TopMargin, TextLength, PerforationSkip, OnlyZero, Ask, UnitOfMeasure, HorizontalMotionIndex, LineTermination, LeftMargin, Move, CursorStack, MacroId, RectangleSize, FontId, CharacterCode, DownloadFont, DownloadCharacter, SelectFont, PrintText, RasterResolution, RasterWidth, RasterHeight, RasterPresentation, StartRaster, EndRasterResetMethod, RasterMethod, RasterOffset, RasterRow}
+use Rattle.pcl_base.specs.declared.operation.Operation.TheVariants.{Reset, UniversalExit, ClearMargins, HalfLineFeed, HorizontalTab, LineFeed, FormFeed, CarriageReturn, Shift, PageSize, Copies, VerticalMotionIndex, LineSpacing, TopMargin, TextLength, PerforationSkip, OnlyZero, Ask, UnitOfMeasure, HorizontalMotionIndex, LineTermination, LeftMargin, Move, CursorStack, MacroId, RectangleSize, FontId, CharacterCode, DownloadFont, DownloadCharacter, SelectFont, PrintText, RasterResolution, RasterWidth, RasterHeight, RasterPresentation, StartRaster, EndRasterResetMethod, RasterMethod, SeedRowSource, RasterOffset, RasterRow}
 use Rattle.pcl_base.specs.declared.profile.Profile.{Profile}
 use Rattle.pcl_base.specs.declared.profile.Profile.TheVariants.{Stated, Drivers}
 use Rattle.pcl_base.specs.declared.size.Size.{Size}
@@ -236,6 +236,7 @@ outcome dpi RasterPresentation v m s = one_of (0 ∷ 3 ∷ []) v s
 outcome dpi StartRaster v m s = up_to 1 v s
 outcome dpi EndRasterResetMethod v m s = stays (record s { method = Plain })
 outcome dpi RasterMethod v m s = by_count v (λ n. set_method (method_with_code n) s)
+outcome dpi SeedRowSource v m s = stays_if (whole_of v == 0) s
 outcome dpi RasterOffset v m s = from_zero v s
 outcome dpi RasterRow v m s = from_zero v s
 outcome dpi other v m s = stays s

@@ -4,7 +4,7 @@ use Rattle.std.specs.Ordering.{int_eq}
 use Rattle.pcl_base.specs.declared.method.Method.{Method}
 use Rattle.pcl_base.specs.declared.method.Method.TheVariants.{Plain}
 use Rattle.pcl_base.specs.declared.operation.Asking.{Asking}
-use Rattle.pcl_base.specs.declared.operation.Asking.TheVariants.{Sides, OutputBin, MediaType, PaperSource, SheetSide, PageLength, LeftOffset, TopOffset}
+use Rattle.pcl_base.specs.declared.operation.Asking.TheVariants.{Sides, OutputBin, MediaType, PaperSource, SheetSide, PageLength, LeftOffset, TopOffset, JobSeparation, TextScale, PrintQuality, Shingling, Depletion, RasterQuality}
 use Rattle.pcl_base.specs.declared.operation.Side.{Side}
 use Rattle.pcl_base.specs.declared.operation.Side.TheVariants.{Primary, Secondary}
 use Rattle.pcl_base.specs.declared.profile.Profile.{Profile}
@@ -107,10 +107,15 @@ nothing_asked = record {
   paper_source = None;
   left_offset = None;
   top_offset = None;
+  text_scale = None;
+  print_quality = None;
+  shingling = None;
+  depletion = None;
+  raster_quality = None;
 }
 
 -- The last value of each asking counts, with this line spacing. A page length is this many lines; paper source 0 ejects the page and leaves
--- the source as it is; a side of the sheet is asked of the next page alone (pcl_page).
+-- the source as it is; a side of the sheet is asked of the next page alone, and jobs are separated at once (pcl_page).
 abbrev pub asked_with : Asking → Value → ℕ → Asked → Asked
 asked_with Sides v vmi asked = record asked { sides = Some (signed_whole v) }
 asked_with OutputBin v vmi asked = record asked { output_bin = Some (signed_whole v) }
@@ -120,6 +125,12 @@ asked_with SheetSide v vmi asked = asked
 asked_with PageLength v vmi asked = record asked { page_length = Some (signed_whole v *ℤ pos vmi) }
 asked_with LeftOffset v vmi asked = record asked { left_offset = Some (page_offset v) }
 asked_with TopOffset v vmi asked = record asked { top_offset = Some (page_offset v) }
+asked_with JobSeparation v vmi asked = asked
+asked_with TextScale v vmi asked = record asked { text_scale = Some (signed_whole v) }
+asked_with PrintQuality v vmi asked = record asked { print_quality = Some (signed_whole v) }
+asked_with Shingling v vmi asked = record asked { shingling = Some (signed_whole v) }
+asked_with Depletion v vmi asked = record asked { depletion = Some (signed_whole v) }
+asked_with RasterQuality v vmi asked = record asked { raster_quality = Some (signed_whole v) }
 
 abbrev pub copies_said : ℕ → Asked → Asked
 copies_said copies asked = record asked { copies = Some (pos copies) }

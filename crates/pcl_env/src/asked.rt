@@ -32,6 +32,16 @@ pub struct Asked {
     pub left_offset: Option<i64>,
     /// How far it is moved down, `&lZ`, in the same.
     pub top_offset: Option<i64>,
+    /// Whether text is scaled, or how a DeskJet's head moves, `&kW`.
+    pub text_scale: Option<i64>,
+    /// Draft, normal or best quality, `*oM`.
+    pub print_quality: Option<i64>,
+    /// In how many passes a DeskJet prints a row, `*oQ`.
+    pub shingling: Option<i64>,
+    /// How much ink of a picture a DeskJet leaves out, `*oD`.
+    pub depletion: Option<i64>,
+    /// The quality of rasters, `*rQ`.
+    pub raster_quality: Option<i64>,
 }
 
 impl Asked {
@@ -46,10 +56,15 @@ impl Asked {
         paper_source: None,
         left_offset: None,
         top_offset: None,
+        text_scale: None,
+        print_quality: None,
+        shingling: None,
+        depletion: None,
+        raster_quality: None,
     };
 
-    /// The same, but with this value of what is asked, where lines are spaced so, in units of 1/7200 inch. The side of a sheet changes
-    /// nothing here: it is asked of the next page alone.
+    /// The same, but with this value of what is asked, where lines are spaced so, in units of 1/7200 inch. The side of a sheet and
+    /// the separation of jobs change nothing here: the one is asked of the next page alone, the other at once.
     pub fn with(self, what: Asking, value: Value, line_spacing: u32) -> Asked
         ensures { result ≡ asked_with what value line_spacing self }
     {
@@ -68,7 +83,7 @@ impl Asked {
                 ..self
             },
             Asking::PaperSource => self.with_source(whole),
-            Asking::SheetSide => self,
+            Asking::SheetSide | Asking::JobSeparation => self,
             Asking::PageLength => Asked {
                 page_length: Some(whole * i64::from(line_spacing)),
                 ..self
@@ -79,6 +94,26 @@ impl Asked {
             },
             Asking::TopOffset => Asked {
                 top_offset: Some(page_offset(value)),
+                ..self
+            },
+            Asking::TextScale => Asked {
+                text_scale: Some(whole),
+                ..self
+            },
+            Asking::PrintQuality => Asked {
+                print_quality: Some(whole),
+                ..self
+            },
+            Asking::Shingling => Asked {
+                shingling: Some(whole),
+                ..self
+            },
+            Asking::Depletion => Asked {
+                depletion: Some(whole),
+                ..self
+            },
+            Asking::RasterQuality => Asked {
+                raster_quality: Some(whole),
                 ..self
             },
         }

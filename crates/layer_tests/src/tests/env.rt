@@ -222,6 +222,8 @@ const STEPS: [Step; 133] = [
     ),
     (OnlyZero, Minus, 9999, Some((STAY, 0, 4500))),
     (OnlyZero, Absent, 10_000, Some((REFUSED, 0, 4500))),
+    (SeedRowSource, Minus, 9999, Some((STAY, 0, 4500))),
+    (SeedRowSource, Absent, 10_000, Some((REFUSED, 0, 4500))),
     (
         Ask(Asking::PaperSource),
         Minus,
@@ -293,6 +295,12 @@ fn askings(rt: HostRuntime) {
         say(&mut env, Ask(Asking::PaperSource), 0),
         say(&mut env, Ask(Asking::SheetSide), 1),
         say(&mut env, Ask(Asking::PageLength), 66),
+        say(&mut env, Ask(Asking::JobSeparation), 6),
+        say(&mut env, Ask(Asking::TextScale), 7),
+        say(&mut env, Ask(Asking::PrintQuality), 8),
+        say(&mut env, Ask(Asking::Shingling), 9),
+        say(&mut env, Ask(Asking::Depletion), 10),
+        say(&mut env, Ask(Asking::RasterQuality), 11),
     );
     let wanted = (
         STAY,
@@ -302,6 +310,12 @@ fn askings(rt: HostRuntime) {
         EJECT_MARKED,
         EJECT_MARKED,
         EJECT_MARKED,
+        STAY,
+        STAY,
+        STAY,
+        STAY,
+        STAY,
+        STAY,
         STAY,
     );
     assert_gives(&rt, &"answers", &answers, &wanted);
@@ -315,6 +329,11 @@ fn askings(rt: HostRuntime) {
         paper_source: Some(5),
         left_offset: None,
         top_offset: None,
+        text_scale: Some(7),
+        print_quality: Some(8),
+        shingling: Some(9),
+        depletion: Some(10),
+        raster_quality: Some(11),
     };
     assert_gives(&rt, &"asked", &env.asked(), &asked);
     let _answer = say(&mut env, Reset, 0);

@@ -39,7 +39,7 @@ impl Env {
             Operation::TopMargin => self.set_top_margin(value, is_marked),
             Operation::TextLength => self.set_text_length(value),
             Operation::PerforationSkip => self.set_perforation_skip(value),
-            Operation::OnlyZero => stay_if(value.whole() == 0),
+            Operation::OnlyZero | Operation::SeedRowSource => stay_if(value.whole() == 0),
             Operation::Ask(what) => self.ask(what, value, is_marked),
             Operation::UnitOfMeasure => self.set_unit_of_measure(value),
             Operation::HorizontalMotionIndex => self.set_horizontal_motion_index(value),

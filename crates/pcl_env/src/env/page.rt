@@ -91,7 +91,13 @@ impl Env {
             | Asking::MediaType
             | Asking::PageLength
             | Asking::LeftOffset
-            | Asking::TopOffset => Effect::Stay,
+            | Asking::TopOffset
+            | Asking::JobSeparation
+            | Asking::TextScale
+            | Asking::PrintQuality
+            | Asking::Shingling
+            | Asking::Depletion
+            | Asking::RasterQuality => Effect::Stay,
             Asking::PaperSource | Asking::SheetSide => Effect::EjectMarked,
         })
     }
@@ -113,7 +119,13 @@ impl Env {
             | Asking::MediaType
             | Asking::PaperSource
             | Asking::SheetSide
-            | Asking::PageLength => true,
+            | Asking::PageLength
+            | Asking::JobSeparation
+            | Asking::TextScale
+            | Asking::PrintQuality
+            | Asking::Shingling
+            | Asking::Depletion
+            | Asking::RasterQuality => true,
         }
     }
 
