@@ -1,5 +1,5 @@
 -- What a job asks of the printer besides dots.
-use Rattle.std.specs.Prelude.{ℕ, ℤ, Bool, true, false, ◌||◌, if◌then◌else◌, List, [], ◌∷◌, ◌++◌, map, Some, None}
+use Rattle.std.specs.Prelude.{ℕ, ℤ, Bool, true, false, ◌||◌, is_some, if◌then◌else◌, List, [], ◌∷◌, ◌++◌, map, Option, Some, None}
 use Rattle.pcl_env.specs.declared.asked.Asked.{Asked}
 use Rattle.pcl_page.specs.declared.asks.Asks.{Asks as AsksOfCode}
 use Rattle.pcl_page.specs.declared.asks.AskedPage.{AskedPage}
@@ -11,12 +11,14 @@ pub record Exit : Type 0 where
   pub pages : ℕ
   pub lines : List ℕ
 
--- What each ejected page was asked with and the universal exits that were performed, both in order; how the next page would begin; whether
--- something counts on what stays in the printer, changes it, or ejects a page on some printers; and where that is so, the bytes of the job.
+-- What each ejected page was asked with and the universal exits that were performed, both in order; how the next page would begin; how the
+-- job is separated from the next, where that is said after its last page; whether something counts on what stays in the printer, changes it,
+-- ejects a page on some printers, or separates jobs elsewhere; and where that is so, the bytes of the job.
 pub record Asks : Type 0 where
   pub pages : List AskedPage
   pub exits : List Exit
   pub next : PageStart
+  pub separation : Option ℤ
   pub lasts : Bool
   pub whole : List ℕ
 
@@ -28,11 +30,15 @@ abbrev pub next_page : PageStart
 next_page = record { is_first = false; sheet_side = None }
 
 abbrev pub no_asks : Asks
-no_asks = record { pages = []; exits = []; next = first_page; lasts = false; whole = [] }
+no_asks = record { pages = []; exits = []; next = first_page; separation = None; lasts = false; whole = [] }
 
--- one page more, of which this was said
+-- one page more, of which this was said; a separation that was said before it wasn't said after the last page
 abbrev pub with_page : Asked → Asks → Asks
-with_page said asks = record asks { pages = asks.pages ++ record { said = said; start = asks.next } ∷ []; next = next_page }
+with_page said asks = record asks {
+  pages = asks.pages ++ record { said = said; start = asks.next } ∷ [];
+  next = next_page;
+  lasts = asks.lasts || is_some asks.separation;
+}
 
 -- one universal exit more
 abbrev pub with_exit : Exit → Asks → Asks
@@ -46,7 +52,12 @@ restarted asks = record asks { next = first_page }
 abbrev pub with_side : ℤ → Asks → Asks
 with_side side asks = record asks { next = record asks.next { sheet_side = Some side } }
 
--- something counts on what stays in the printer, changes it, or ejects a page on some printers, where the test holds
+-- jobs are separated by this value: once, and before the printer is put back after a page
+abbrev pub with_separation : ℤ → Asks → Asks
+with_separation value asks =
+    record asks { separation = Some value; lasts = asks.lasts || (asks.next.is_first || is_some asks.separation) }
+
+-- something counts on what stays in the printer, changes it, ejects a page on some printers, or separates jobs elsewhere, where the test holds
 abbrev pub lasting_if : Bool → Asks → Asks
 lasting_if test asks = record asks { lasts = asks.lasts || test }
 
@@ -64,6 +75,7 @@ asks_of asks = record {
   pages = asks.pages.items;
   exits = map exit_of asks.exits.items;
   next = asks.next;
+  separation = asks.separation;
   lasts = asks.lasts;
   whole = asks.whole.now;
 }

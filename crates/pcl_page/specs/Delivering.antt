@@ -35,12 +35,12 @@ HandsOver {S} takes dpi done (Err Memory) old new =
 -- the job is read, and the performing by this profile refuses it
 pub record IsStopped (profile : Profile) (dpi : Dpi) (job : List ℕ) (refusal : Refusal) : Type 0 where
   pub commands : List Said
-  pub reading : IsReading job commands
+  pub reading : IsReading profile job commands
   pub refused : (performance_of profile dpi job commands).refusal ≡ Some refusal
 
 -- the refusal of a job by a profile: its first fault, or else that of the first command that is refused
 abbrev pub IsRefusalBy : Profile → Dpi → List ℕ → Refusal → Type 0
-IsRefusalBy profile dpi job refusal = IsFault job refusal ⊎ IsStopped profile dpi job refusal
+IsRefusalBy profile dpi job refusal = IsFault profile job refusal ⊎ IsStopped profile dpi job refusal
 
 -- the same by the stated profile
 abbrev pub IsRefusal : Dpi → List ℕ → Refusal → Type 0
@@ -50,7 +50,7 @@ IsRefusal dpi job refusal = IsRefusalBy Stated dpi job refusal
 pub record IsPerformed {S : Type 0} (takes : S → Page → S → Type 0) (profile : Profile) (dpi : Dpi) (job : List ℕ)
     (result : Result (Unit {0}) JobFault) (old new : S) : Type 0 where
   pub commands : List Said
-  pub reading : IsReading job commands
+  pub reading : IsReading profile job commands
   pub handed : HandsOver takes dpi (performance_of profile dpi job commands) result old new
 
 -- The sink takes the pages of an accepted job, in order; those before the refused command; or the first of these where
@@ -58,7 +58,7 @@ pub record IsPerformed {S : Type 0} (takes : S → Page → S → Type 0) (profi
 abbrev pub DeliversBy : {S : Type 0} → (S → Page → S → Type 0) → Profile → Dpi → List ℕ → Result (Unit {0}) JobFault → S → S → Type 0
 DeliversBy {S} takes profile dpi job (Ok unit) old new = IsPerformed takes profile dpi job (Ok unit) old new
 DeliversBy {S} takes profile dpi job (Err (Refused refusal)) old new =
-    (IsFault job refusal × (new ≡ old)) ⊎ IsPerformed takes profile dpi job (Err (Refused refusal)) old new
+    (IsFault profile job refusal × (new ≡ old)) ⊎ IsPerformed takes profile dpi job (Err (Refused refusal)) old new
 DeliversBy {S} takes profile dpi job (Err Memory) old new = (new ≡ old) ⊎ IsPerformed takes profile dpi job (Err Memory) old new
 
 -- the same by the stated profile

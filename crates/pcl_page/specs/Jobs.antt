@@ -16,14 +16,14 @@ performance_of profile dpi job commands = performance profile dpi (length job) c
 -- the job is accepted by a profile, and these are its pages
 pub record HasPagesBy (profile : Profile) (dpi : Dpi) (job : List ℕ) (pages : List Sheet) : Type 0 where
   pub commands : List Said
-  pub reading : IsReading job commands
+  pub reading : IsReading profile job commands
   pub accepted : (performance_of profile dpi job commands).refusal ≡ None
   pub ejected : pages ≡ pages_of (performance_of profile dpi job commands)
 
 -- the job is accepted by a profile, and this is what it asks of the printer besides dots
 pub record HasAsksBy (profile : Profile) (dpi : Dpi) (job : List ℕ) (asks : Asks) : Type 0 where
   pub commands : List Said
-  pub reading : IsReading job commands
+  pub reading : IsReading profile job commands
   pub accepted : (performance_of profile dpi job commands).refusal ≡ None
   pub asked : asks ≡ of_job job (asks_among (performance_of profile dpi job commands))
 

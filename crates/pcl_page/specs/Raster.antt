@@ -2,7 +2,7 @@
 use Rattle.std.specs.Prelude.{ℕ, ◌+◌, ◌-◌, ◌*◌, ◌/◌, ◌^◌, Bool, true, false, not, ◌&&◌, nat_lt, min, max, unwrap_or, List, [], ◌∷◌, replicate, Option, Some, None}
 use Rattle.pcl_base.specs.declared.dpi.Dpi.{Dpi}
 use Rattle.pcl_base.specs.declared.operation.Operation.{Operation}
-use Rattle.pcl_base.specs.declared.operation.Operation.TheVariants.{RasterResolution, RasterWidth, RasterHeight, RasterPresentation, StartRaster, RasterMethod, RasterOffset, RasterRow}
+use Rattle.pcl_base.specs.declared.operation.Operation.TheVariants.{RasterResolution, RasterWidth, RasterHeight, RasterPresentation, StartRaster, RasterMethod, SeedRowSource, RasterOffset, RasterRow}
 use Rattle.pcl_base.specs.declared.method.Method.{Method}
 use Rattle.pcl_base.specs.Dpi.{dots_per_inch}
 use Rattle.pcl_base.specs.Size.{page_width}
@@ -106,6 +106,7 @@ is_ignored_in_raster other = false
 -- all other commands but those of raster rows end the raster that has begun
 abbrev pub ends_raster : Operation → Bool
 ends_raster RasterMethod = false
+ends_raster SeedRowSource = false
 ends_raster RasterOffset = false
 ends_raster RasterRow = false
 ends_raster other = not (is_ignored_in_raster other)

@@ -5,7 +5,7 @@ use Rattle.pcl_base.specs.declared.dpi.Dpi.{Dpi}
 use Rattle.pcl_base.specs.declared.kind.Kind.{Kind}
 use Rattle.pcl_base.specs.declared.kind.Kind.TheVariants.{UnsupportedCommand, UnsupportedValue, TooManyCommands, TooManyPages}
 use Rattle.pcl_base.specs.declared.operation.Asking.{Asking}
-use Rattle.pcl_base.specs.declared.operation.Asking.TheVariants.{Sides, MediaType, SheetSide}
+use Rattle.pcl_base.specs.declared.operation.Asking.TheVariants.{Sides, MediaType, SheetSide, JobSeparation}
 use Rattle.pcl_base.specs.declared.operation.Operation.{Operation}
 use Rattle.pcl_base.specs.declared.operation.Operation.TheVariants.{Reset, UniversalExit, Ask, FillRectangle, ControlFonts, DownloadFont, DownloadCharacter, SelectFont, PrintText, StartRaster, RasterOffset, RasterRow}
 use Rattle.pcl_base.specs.declared.profile.Profile.{Profile}
@@ -13,7 +13,7 @@ use Rattle.pcl_base.specs.declared.size.Size.{Size}
 use Rattle.pcl_base.specs.declared.value.Value.{Value}
 use Rattle.pcl_base.specs.Dpi.{units_per_dot}
 use Rattle.pcl_base.specs.Limits.{command_limit, page_limit}
-use Rattle.pcl_base.specs.Operation.{operation_of}
+use Rattle.pcl_base.specs.Operation.{operation_of, is_stated}
 use Rattle.pcl_base.specs.Value.{whole_of, signed_whole, count_of}
 use Rattle.pcl_bitmap.specs.declared.ink.Ink.{Ink}
 use Rattle.pcl_bitmap.specs.declared.ink.Ink.TheVariants.{Black, White}
@@ -29,7 +29,7 @@ use Rattle.pcl_fonts.specs.Fields.{Font, Character}
 use Rattle.pcl_fonts.specs.History.{FontEvent, header, character, control, font_after, has_permanent as is_font_permanent}
 use Rattle.pcl_macros.specs.History.{MacroEvent, has_permanent as is_macro_permanent}
 use Rattle.pcl_macros.specs.Table.{Begun}
-use Rattle.pcl_page.specs.Asks.{Asks, no_asks, with_page, with_exit, restarted, with_side, lasting_if}
+use Rattle.pcl_page.specs.Asks.{Asks, no_asks, with_page, with_exit, restarted, with_side, with_separation, lasting_if}
 use Rattle.pcl_page.specs.Marks.{Mark, are_marked, dot_at, dots_of}
 use Rattle.pcl_page.specs.Text.{selected_font, control_of, select_by_id, header_refusal, character_refusal, text_refusal, prints, character_mark, is_proportional, behind_character, behind_blank}
 use Rattle.pcl_page.specs.Raster.{Raster, raster_from, skipped, row_sent, with_row, row_mark, is_ignored_in_raster, ends_raster}
@@ -205,12 +205,14 @@ exited lines s = record s { asks = with_exit (record { pages = length s.pages; l
 abbrev pub put_back : Situation → Situation
 put_back s = without_temporary (record s { asks = restarted s.asks })
 
--- the next page is asked for on this side of a sheet; sides and a media type eject a marked page on some printers
+-- the next page is asked for on this side of a sheet; sides and a media type eject a marked page on some printers, and what only drivers
+-- ask holds for all of a page
 abbrev pub asked_for : Asking → Value → Situation → Situation
 asked_for SheetSide value s = record s { asks = with_side (signed_whole value) s.asks }
+asked_for JobSeparation value s = with_lasting (is_marked s) (record s { asks = with_separation (signed_whole value) s.asks })
 asked_for Sides value s = with_lasting (is_marked s) s
 asked_for MediaType value s = with_lasting (is_marked s) s
-asked_for other value s = s
+asked_for other value s = if is_stated other then s else with_lasting (is_marked s) s
 
 -- ---- what a command draws
 

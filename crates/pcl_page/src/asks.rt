@@ -1,7 +1,7 @@
 //! What a job asks of the printer besides dots.
 
 ghost use Rattle.std.specs.Prelude.{◌≡◌, OnOk};
-ghost use Rattle.pcl_page.specs.Asks.{no_asks, with_page, with_exit, restarted, with_side, lasting_if, of_job, asks_of};
+ghost use Rattle.pcl_page.specs.Asks.{no_asks, with_page, with_exit, restarted, with_side, with_separation, lasting_if, of_job, asks_of};
 
 use pcl_env::Asked;
 use std::alloc::{AllocError, Global};
@@ -56,8 +56,10 @@ pub struct Asks<'a> {
     pub exits: Vec<Exit<'a>>,
     /// How the next page would begin.
     pub next: PageStart,
-    /// Whether a command counts on fonts or macros that stay in the printer, or changes these, or ejects a page on some printers
-    /// (docs/LANGUAGE.md, "What stays in the printer").
+    /// How the job is separated from the next, `&lT`, where that is said once, after the last page and before a reset.
+    pub separation: Option<i64>,
+    /// Whether a command counts on fonts or macros that stay in the printer, or changes these, ejects a page on some printers, or
+    /// separates jobs elsewhere (docs/LANGUAGE.md, "What stays in the printer").
     pub lasts: bool,
     /// Where it does, the bytes of the job, as far as these are known; else none.
     pub whole: &'a [u8],
@@ -72,6 +74,7 @@ impl<'a> Asks<'a> {
             pages: Vec::new(alloc),
             exits: Vec::new(alloc),
             next: PageStart::FIRST,
+            separation: None,
             lasts: false,
             whole: &[],
         }
@@ -86,6 +89,8 @@ impl<'a> Asks<'a> {
             start: self.next,
         })?;
         self.next = PageStart::NEXT;
+        let is_separated = self.separation.is_some();
+        self.last_if(is_separated);
         Ok(())
     }
 
@@ -111,7 +116,17 @@ impl<'a> Asks<'a> {
         self.next.sheet_side = Some(side);
     }
 
-    /// Where the test holds, a command counts on what stays in the printer, or changes it, or ejects a page on some printers.
+    /// Jobs are separated by this value. That is kept where it is said once, before the printer is put back after a page.
+    pub(crate) fn separate(&mut self, value: i64)
+        ensures { asks_of self.new ≡ with_separation value (asks_of self.old) }
+    {
+        let is_elsewhere = self.next.is_first || self.separation.is_some();
+        self.last_if(is_elsewhere);
+        self.separation = Some(value);
+    }
+
+    /// Where the test holds, a command counts on what stays in the printer, or changes it, ejects a page on some printers, or separates
+    /// jobs elsewhere.
     pub(crate) fn last_if(&mut self, test: bool)
         ensures { asks_of self.new ≡ lasting_if test (asks_of self.old) }
     {

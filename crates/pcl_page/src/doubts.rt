@@ -46,6 +46,8 @@ pub enum Doubt {
     Ejection,
     /// Ink past the left or the right edge of the page, half a dot past its lower one, or past the edge to which the page is moved.
     Edge,
+    /// A text scale that isn't 0, which may scale letters, or is the print mode of a DeskJet, which may not know soft fonts.
+    TextScale,
     /// Sides, the side of the sheet or a paper source that is asked for after a page of a sheet that may have a back, with an offset.
     Back,
 }
@@ -157,6 +159,8 @@ impl Doubts {
             Operation::LineFeed | Operation::HalfLineFeed => self.row = self.row.or(self.spacing),
             Operation::CursorStack => self.note_stack(value),
             Operation::Ask(what) => {
+                let is_scaled = what == Asking::TextScale && value.whole() != 0;
+                self.note_if(is_scaled, Doubt::TextScale);
                 self.note_back(what, value, environment.asked(), is_marked);
                 self.note_asking(what, environment, is_marked, dpi);
             }
@@ -281,7 +285,13 @@ impl Doubts {
     /// Looks at what is asked: on a marked page it may eject that, on an unmarked one it may take the cursor to the first line.
     fn note_asking(&mut self, what: Asking, environment: &Env, is_marked: bool, dpi: Dpi) {
         match what {
-            Asking::OutputBin => {}
+            Asking::OutputBin
+            | Asking::JobSeparation
+            | Asking::TextScale
+            | Asking::PrintQuality
+            | Asking::Shingling
+            | Asking::Depletion
+            | Asking::RasterQuality => {}
             Asking::LeftOffset => self.note_offset(environment.asked().left_offset, dpi),
             Asking::TopOffset => self.note_offset(environment.asked().top_offset, dpi),
             Asking::Sides | Asking::MediaType | Asking::PageLength if is_marked => {

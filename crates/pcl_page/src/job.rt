@@ -144,7 +144,7 @@ fn perform_with<'a, S: PageSink>(
 ) -> Result<Asks<'a>, JobFault>
     ensures { DeliversAsked S.takes profile dpi job.now result sink.old sink.new }
 {
-    let commands = read_commands(alloc, job)?;
+    let commands = read_commands(alloc, profile, job)?;
     let asks = run_list(alloc, &commands, job.len(), profile, dpi, doubts, sink)?;
     Ok(asks.of_job(job))
 }

@@ -293,12 +293,26 @@ impl<'a> Performer<'a> {
             Asking::SheetSide => self.asks.ask_side(i64::from(value.whole())),
             Asking::Sides => self.last_if(self.is_marked),
             Asking::MediaType => self.last_if(self.is_marked),
+            Asking::JobSeparation => self.separate(value),
+            Asking::TextScale
+            | Asking::PrintQuality
+            | Asking::Shingling
+            | Asking::Depletion
+            | Asking::RasterQuality => self.last_if(self.is_marked),
             Asking::OutputBin
             | Asking::PaperSource
             | Asking::PageLength
             | Asking::LeftOffset
             | Asking::TopOffset => {}
         }
+    }
+
+    /// Separates jobs; on a marked page that isn't the job's end.
+    fn separate(&mut self, value: Value)
+        ensures { (dpi : Dpi) (s : Situation) → IsIn dpi s self.old → IsIn dpi (asked_for JobSeparation value s) self.new }
+    {
+        self.asks.separate(i64::from(value.whole()));
+        self.last_if(self.is_marked);
     }
 
     /// Does what a universal exit with these lines does but for the reset of the settings.

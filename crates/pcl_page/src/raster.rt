@@ -206,7 +206,10 @@ pub fn ends_raster(operation: Operation) -> bool
 {
     let goes_on = matches!(
         operation,
-        Operation::RasterMethod | Operation::RasterOffset | Operation::RasterRow
+        Operation::RasterMethod
+            | Operation::SeedRowSource
+            | Operation::RasterOffset
+            | Operation::RasterRow
     );
     !goes_on && !is_ignored_in_raster(operation)
 }

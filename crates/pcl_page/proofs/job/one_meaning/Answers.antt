@@ -4,12 +4,12 @@ use Rattle.pcl_page.proofs.job.one_meaning.Goals as goal
 
 pub returns-clause-pages : goal.returns-clause-pages
 returns-clause-pages c = λ profile dpi job pages others p q.
-    let same = c.one_outcome.ensures.reading job p.commands q.commands p.reading q.reading in
+    let same = c.one_outcome.ensures.reading profile job p.commands q.commands p.reading q.reading in
     p.ejected ∙ rw same (sym q.ejected)
 
 pub returns-clause-asks : goal.returns-clause-asks
 returns-clause-asks c = λ profile dpi job asks others p q.
-    let same = c.one_outcome.ensures.reading job p.commands q.commands p.reading q.reading in
+    let same = c.one_outcome.ensures.reading profile job p.commands q.commands p.reading q.reading in
     p.asked ∙ rw same (sym q.asked)
 
 same_stop : {profile : Profile} {dpi : Dpi} {job : List ℕ} {refusal other : Refusal} (p : IsStopped profile dpi job refusal)
@@ -21,20 +21,20 @@ pub returns-clause-refusal : goal.returns-clause-refusal
 returns-clause-refusal c = λ profile dpi job refusal other p q.
     elim p [
       | inl f ↦ elim q [
-        | inl k ↦ c.one_outcome.ensures.fault job refusal other f k
-        | inr s ↦ absurd (c.one_outcome.ensures.apart job s.commands refusal s.reading f)
+        | inl k ↦ c.one_outcome.ensures.fault profile job refusal other f k
+        | inr s ↦ absurd (c.one_outcome.ensures.apart profile job s.commands refusal s.reading f)
       ]
       | inr s ↦ elim q [
-        | inl k ↦ absurd (c.one_outcome.ensures.apart job s.commands other s.reading k)
-        | inr t ↦ same_stop s t (c.one_outcome.ensures.reading job s.commands t.commands s.reading t.reading)
+        | inl k ↦ absurd (c.one_outcome.ensures.apart profile job s.commands other s.reading k)
+        | inr t ↦ same_stop s t (c.one_outcome.ensures.reading profile job s.commands t.commands s.reading t.reading)
       ]
     ]
 
 pub returns-clause-apart : goal.returns-clause-apart
 returns-clause-apart c = λ profile dpi job pages refusal p r.
     elim r [
-      | inl f ↦ c.one_outcome.ensures.apart job p.commands refusal p.reading f
+      | inl f ↦ c.one_outcome.ensures.apart profile job p.commands refusal p.reading f
       | inr s ↦
-          let n = rw (c.one_outcome.ensures.reading job p.commands s.commands p.reading s.reading) at p.accepted in
+          let n = rw (c.one_outcome.ensures.reading profile job p.commands s.commands p.reading s.reading) at p.accepted in
           let t = s.refused in absurd cc
     ]

@@ -4,7 +4,7 @@ use Rattle.pcl_page.proofs.Names.{Dpi, Profile, Refusal, Said, Sheet, IsRefusalB
 use Rattle.pcl_page.proofs.laws.some_meaning.Goals as goal
 
 -- performing a job that is read refuses it, or gives its pages
-performed : {profile : Profile} {dpi : Dpi} {job : List ℕ} {commands : List Said} (why : Option Refusal) → IsReading job commands
+performed : {profile : Profile} {dpi : Dpi} {job : List ℕ} {commands : List Said} (why : Option Refusal) → IsReading profile job commands
     → (performance_of profile dpi job commands).refusal ≡ why
     → ((pages : List Sheet) × HasPagesBy profile dpi job pages) ⊎ ((refusal : Refusal) × IsRefusalBy profile dpi job refusal)
 performed {profile} {dpi} {job} {commands} None r e =
@@ -12,7 +12,7 @@ performed {profile} {dpi} {job} {commands} None r e =
 performed {commands = commands} (Some refusal) r e = inr (refusal, inr (record { commands = commands; reading = r; refused = e }))
 
 pub returns : goal.returns
-returns c = λ profile dpi job. elim (c.some_outcome.ensures job) [
+returns c = λ profile dpi job. elim (c.some_outcome.ensures profile job) [
   | inl r ↦ performed (performance_of profile dpi job r.0).refusal r.1 refl
   | inr f ↦ inr (f.0, inl f.1)
 ]
