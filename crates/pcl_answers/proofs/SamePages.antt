@@ -7,7 +7,8 @@ use Rattle.pcl_answers.proofs.Names.{Profile, Stated, Drivers, slice_get, length
 
 -- ---- a job has one list of pages
 
-same_commands : {job : List ℕ} {commands others : List Said} → IsReading job commands → IsReading job others → commands ≡ others
+same_commands : {profile : Profile} {job : List ℕ} {commands others : List Said} → IsReading profile job commands
+    → IsReading profile job others → commands ≡ others
 same_commands r s = let a = reading_again r in let b = reading_again s in cc
 
 same_pages : {profile : Profile} {dpi : Dpi} {job : List ℕ} {pages others : List Sheet} → HasPagesBy profile dpi job pages → HasPagesBy profile dpi job others → pages ≡ others

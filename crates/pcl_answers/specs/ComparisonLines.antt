@@ -16,7 +16,7 @@ use Rattle.pcl_same.specs.declared.comparison.ExitDifference.TheVariants as exit
 use Rattle.pcl_same.specs.declared.comparison.AskedDifference.{AskedDifference}
 use Rattle.pcl_same.specs.declared.comparison.AskedDifference.TheVariants as asked
 use Rattle.pcl_same.specs.declared.comparison.Setting.{Setting}
-use Rattle.pcl_same.specs.declared.comparison.Setting.TheVariants.{Copies, PageSize, PageLength, Sides, OutputBin, MediaType, PaperSource, LeftOffset, TopOffset, SheetSide}
+use Rattle.pcl_same.specs.declared.comparison.Setting.TheVariants.{Copies, PageSize, PageLength, Sides, OutputBin, MediaType, PaperSource, LeftOffset, TopOffset, TextScale, PrintQuality, Shingling, Depletion, RasterQuality, SheetSide}
 use Rattle.pcl_same.specs.declared.comparison.SettingDifference.{SettingDifference}
 use Rattle.pcl_same.specs.declared.comparison.Difference.{Difference}
 use Rattle.pcl_same.specs.declared.comparison.Difference.TheVariants as difference
@@ -58,6 +58,11 @@ setting_label MediaType = codes "media "
 setting_label PaperSource = codes "source "
 setting_label LeftOffset = codes "left offset "
 setting_label TopOffset = codes "top offset "
+setting_label TextScale = codes "text scale "
+setting_label PrintQuality = codes "print quality "
+setting_label Shingling = codes "shingling "
+setting_label Depletion = codes "depletion "
+setting_label RasterQuality = codes "raster quality "
 setting_label SheetSide = codes "side "
 
 -- an offset in decipoints with its decimals, all others as whole numbers
@@ -87,6 +92,7 @@ abbrev pub asks_text : AsksDifference → List ℕ
 asks_text (asks.Page number difference) = page_text (codes "not the same: page ") number ++ asked_text difference
 asks_text (asks.ExitCount first second) = pair_text (codes "not the same: exit count ") (decimal first) (decimal second)
 asks_text (asks.Exit number difference) = page_text (codes "not the same: exit ") number ++ exit_text difference
+asks_text asks.Separation = codes "not the same: job separation"
 asks_text asks.Lasting = codes "not the same: what the printer keeps or ejects"
 
 -- ---- the line on standard output, and the status

@@ -75,6 +75,7 @@ fn append_asks(difference: AsksDifference, line: &mut Vec<u8>) -> Result<(), All
             append_page(b"not the same: exit ", number, line)?;
             append_exit(difference, line)
         }
+        AsksDifference::Separation => line.extend_from_slice(b"not the same: job separation"),
         AsksDifference::Lasting => {
             line.extend_from_slice(b"not the same: what the printer keeps or ejects")
         }
@@ -124,6 +125,11 @@ fn append_number(setting: Setting, value: i64, line: &mut Vec<u8>) -> Result<(),
         | Setting::OutputBin
         | Setting::MediaType
         | Setting::PaperSource
+        | Setting::TextScale
+        | Setting::PrintQuality
+        | Setting::Shingling
+        | Setting::Depletion
+        | Setting::RasterQuality
         | Setting::SheetSide => line.extend_from_slice(Buffer::new().format(value).as_bytes()),
     }
 }
@@ -142,6 +148,11 @@ fn setting_label(setting: Setting) -> &'static [u8]
         Setting::PaperSource => b"source ",
         Setting::LeftOffset => b"left offset ",
         Setting::TopOffset => b"top offset ",
+        Setting::TextScale => b"text scale ",
+        Setting::PrintQuality => b"print quality ",
+        Setting::Shingling => b"shingling ",
+        Setting::Depletion => b"depletion ",
+        Setting::RasterQuality => b"raster quality ",
         Setting::SheetSide => b"side ",
     }
 }

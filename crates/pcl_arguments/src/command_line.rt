@@ -65,7 +65,7 @@ const READ_OTHERWISE: &str =
 const DRIVERS: &str = "drivers";
 
 const READ_AS_SENT: &str =
-    "Read what drivers send besides too, as shrink does: offsets of the page";
+    "Read what drivers send besides too, as shrink does: offsets of the page, and how well to print";
 
 /// The option by which a job is read as `min` reads it, and its help.
 const STATED: &str = "stated";

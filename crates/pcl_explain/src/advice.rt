@@ -47,11 +47,11 @@ fn page_control(name: Name) -> Option<&'static str> {
         Name::Three(b'&', b'l', b'O') =>
             "orientation: portrait (0) alone is known; let the program or the driver turn the page",
         Name::Three(b'&', b'l', b'U') =>
-            "left offset: shrink, same, pages and batch know it on a page without marks; min, check and pbm know 0 alone",
+            "left offset: shrink, same, pages and batch know it on a page without marks, and pbm and pgm with --drivers; min and check know 0 alone",
         Name::Three(b'&', b'l', b'Z') =>
-            "top offset: shrink, same, pages and batch know it on a page without marks; min, check and pbm know 0 alone",
+            "top offset: shrink, same, pages and batch know it on a page without marks, and pbm and pgm with --drivers; min and check know 0 alone",
         Name::Three(b'&', b'l', b'T') =>
-            "job separation: Brother's hl1250 and Apache FOP send it; choose ljet2p, or laserjet for 75 to 300 dots per inch",
+            "job separation: shrink, same, pages and batch know it, and pbm and pgm with --drivers; min and check don't",
         Name::Three(b'&', b'l', b'X') => "copies: 1 to 99 are known",
         Name::Three(b'&', b'l', b'D') =>
             "lines per inch: 1, 2, 3, 4, 6, 8, 12, 16, 24 and 48 are known",
@@ -62,14 +62,20 @@ fn page_control(name: Name) -> Option<&'static str> {
 /// The same of graphics.
 fn graphics(name: Name) -> Option<&'static str> {
     Some(match name {
+        Name::Three(b'*', b'o', b'M' | b'Q' | b'D') =>
+            "print quality: shrink, same, pages and batch know it, and pbm and pgm with --drivers; min and check don't",
         Name::Three(b'*', b'o', _) =>
-            "print quality: drivers for inkjets (hpcups, hpijs for DeskJets) send it; choose a LaserJet driver",
+            "driver configuration: drivers for colour send it; choose black and white",
+        Name::Three(b'*', b'b', b'S') =>
+            "seed row source: 0 alone is known, by shrink, same, pages and batch, and by pbm and pgm with --drivers",
         Name::Three(b'*', b'b', b'M') =>
             "compression of rows: methods 0 to 3 are known; drivers for DeskJets and PCL 5e with method 5 or 9 send others",
         Name::Three(b'*', b'b', _) =>
             "raster data in planes or strips: drivers for inkjets and colour send it; choose a LaserJet driver",
         Name::Three(b'*', b'g', _) | Name::Three(b'*', b'i', _) =>
             "raster configuration: drivers for inkjets and colour send it; choose a LaserJet driver",
+        Name::Three(b'*', b'r', b'Q') =>
+            "raster quality: shrink, same, pages and batch know it, and pbm and pgm with --drivers; min and check don't",
         Name::Three(b'*', b'r', b'U') =>
             "planes of colour: drivers for colour send it; choose black and white",
         Name::Three(b'*', b't', b'R') =>
@@ -96,7 +102,7 @@ fn other_command(name: Name) -> Option<&'static str> {
         Name::Two(b'%', b'B') =>
             "HP-GL/2 pictures: aren't known; let the driver send graphics as a raster",
         Name::Three(b'&', b'k', b'W') =>
-            "text scale, or the mode of a DeskJet: ghostscript's deskjet sends it; choose ljet2p",
+            "text scale, or the mode of a DeskJet: shrink, same, pages and batch know it, and pbm and pgm with --drivers; min and check don't",
         Name::Three(b'&', b'k', b'S') =>
             "pitch of the printer's own fonts: isn't known; let the driver send fonts or graphics",
         Name::Three(b'&', b'f', b'X') =>

@@ -65,7 +65,7 @@ fn findings_from(
 ) -> Result<Findings, AllocError>
     ensures { IfOk result (λ findings. findings.first.refusal ≡ refusal) }
 {
-    match read_job(alloc, job) {
+    match read_job(alloc, read_as.profile, job) {
         Ok(mut commands) => {
             let first = leave_out(&mut commands, refusal);
             let with_first = leave_out_values(alloc, &mut commands, &first, read_as)?;
@@ -115,7 +115,7 @@ fn read_on(
             return Ok(unread);
         }
         let start = blank_sequence(&mut bytes, refused.at);
-        match next_fault(alloc, &bytes, start)? {
+        match next_fault(alloc, &bytes, start, read_as.profile)? {
             Some(refusal) => refused = refusal,
             None => {
                 unread.later = findings_of(alloc, &bytes, read_as, unread.later)?;
@@ -132,8 +132,13 @@ fn read_on(
 }
 
 /// The next fault of reading from a place on at which a sequence begins, if there is one: what stands before isn't read again.
-fn next_fault(alloc: Global, bytes: &[u8], from: usize) -> Result<Option<Refusal>, AllocError> {
-    match read_job(alloc, bytes.get(from..).unwrap_or(&[])) {
+fn next_fault(
+    alloc: Global,
+    bytes: &[u8],
+    from: usize,
+    profile: Profile,
+) -> Result<Option<Refusal>, AllocError> {
+    match read_job(alloc, profile, bytes.get(from..).unwrap_or(&[])) {
         Ok(_) => Ok(None),
         Err(JobFault::Refused(refusal)) => {
             let at = refusal.at.saturating_add(from);
@@ -150,7 +155,7 @@ fn findings_of(
     read_as: ReadAs,
     findings: Vec<Finding>,
 ) -> Result<Vec<Finding>, AllocError> {
-    match read_job(alloc, job) {
+    match read_job(alloc, read_as.profile, job) {
         Ok(commands) => later_findings(alloc, commands, job.len(), read_as, findings),
         Err(JobFault::Refused(_)) => Ok(findings),
         Err(JobFault::Memory) => Err(AllocError),

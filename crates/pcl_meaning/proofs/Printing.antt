@@ -1,9 +1,10 @@
 -- Performing the deeds of a page text prints its page.
-use Rattle.std.proofs.Common.{◌≡◌, ℕ, zero, suc, ◌+◌, ◌-◌, ◌*◌, ◌/◌, ◌<◌, ◌≤◌, Bool, true, false, cond, ◌||◌, ◌==◌, nat_le, List, [], ◌∷◌, ◌++◌, length, drop, replicate, Option, Some, None, refl, ◌∙◌, length-append, arith, Ok}
+use Rattle.std.proofs.Common.{◌≡◌, ℕ, zero, suc, ◌+◌, ◌-◌, ◌*◌, ◌/◌, ◌<◌, ◌≤◌, Bool, true, false, cond, ◌||◌, ◌==◌, nat_le, List, [], ◌∷◌, ◌++◌, length, drop, replicate, Option, Some, None, refl, ap, ◌∙◌, length-append, arith, Ok}
 use Rattle.std.specs.Prelude.{pos}
 use Rattle.pcl_meaning.proofs.Names.{not, nat_lt, AllByRecursion, length-replicate, map-append, or-false, nat_tests, Dpi, Profile, Dpi300, Dpi600, Method, Plain, Horizontal, Vertical, PclUnit, Operation, FormFeed, PageSize, Copies, TopMargin, Move, RasterResolution, RasterWidth, StartRaster, EndRasterResetMethod, RasterMethod, RasterOffset, RasterRow, Size, Executive, Value, dots_per_inch, method_code, code_of, page_width, units_high, zero_value, Effect, Settings, put, put_x, put_y, to_first_line, copies_said, size_said, defaults, with_size, before_feed, return_carriage, Temporary, FontEvent, control, MacroEvent, Asked, pages_fit, with_page, Mark, is_black, dot_at, Raster, ends_raster, scale_of, raster_from, bytes_of_width, row_sent, row_mark, IsRowData, decoded_is, Token, opening, method, skip, send, IsRowOf, IsPageText, PageStart, Asks, first_page, next_page, sheet_said, page_said, said_for, dot_of_rows}
 use Rattle.pcl_env.specs.declared.effect.Effect.TheVariants as page
 use Rattle.pcl_env.specs.Outcome.{outcome}
+use Rattle.pcl_env.specs.Settings.{nothing_asked}
 use Rattle.pcl_macros.specs.declared.table.MacroControl.TheVariants as macros
 use Rattle.pcl_macros.specs.History.{control as macro_control}
 use Rattle.pcl_page.specs.Situation.{Sheet, Situation, ◌|>◌, below, ejects, end_raster, drawn_on, after}
@@ -18,13 +19,9 @@ use Rattle.pcl_meaning.proofs.Pads.{cleared_is}
 -- ---- between texts
 
 -- no more is asked than what page texts say, and a page length
-pub record AsksForLittle (asked : Asked) : Type 0 where
-  pub sides : asked.sides ≡ None
-  pub bin : asked.output_bin ≡ None
-  pub media : asked.media_type ≡ None
-  pub source : asked.paper_source ≡ None
-  pub left : asked.left_offset ≡ None
-  pub top : asked.top_offset ≡ None
+abbrev pub AsksForLittle : Asked → Type 0
+AsksForLittle asked =
+    asked ≡ record nothing_asked { copies = asked.copies; page_size = asked.page_size; page_length = asked.page_length }
 
 -- the settings between texts: the first row of a raster is plain, no height is set, and little is asked besides dots
 pub record IsBetween (t : Settings) : Type 0 where
@@ -33,26 +30,12 @@ pub record IsBetween (t : Settings) : Type 0 where
   pub asked : AsksForLittle t.asked
 
 pub begins_between : (profile : Profile) → IsBetween (defaults profile)
-begins_between profile = record {
-  method = refl;
-  height = refl;
-  asked = record { sides = refl; bin = refl; media = refl; source = refl; left = refl; top = refl };
-}
+begins_between profile = record { method = refl; height = refl; asked = refl }
 
 -- what is asked once a page text has said its copies and its size
 said_then : (size : Size) (copies : ℕ) (asked : Asked) (marks : List Mark) → AsksForLittle asked
     → size_said size (copies_said copies asked) ≡ sheet_said (record { size = size; copies = copies; marks = marks })
-said_then size copies asked marks little = λ i. record {
-  copies = Some (pos copies);
-  page_size = Some (pos (code_of size));
-  page_length = None;
-  sides = little.sides i;
-  output_bin = little.bin i;
-  media_type = little.media i;
-  paper_source = little.source i;
-  left_offset = little.left i;
-  top_offset = little.top i;
-}
+said_then size copies asked marks little = ap (λ (said : Asked). size_said size (copies_said copies said)) little
 
 -- what a job of page texts does to fonts: the reset at its start deletes the temporary ones
 abbrev pub reset_fonts : List FontEvent
@@ -366,8 +349,7 @@ text_taken {dpi} {size} {copies} {rows} text {t} {pages} {n} b few =
     let start = start_leads size dpi copies pages n b text.some_copies text.few_copies (omega arith) in
     elim (body_printed false text.tokens u rows 0 [] pages m text.prints text.rows_are (length-replicate _ 0) (omega arith)) [
       | is_printed last k seed inked count body black ↦
-          let little : AsksForLittle u.asked =
-          record { sides = b.asked.sides; bin = b.asked.bin; media = b.asked.media; source = b.asked.source; left = b.asked.left; top = b.asked.top } in
+          let little : AsksForLittle u.asked = ap (λ (said : Asked). size_said size (copies_said copies said)) b.asked in
           let end = end_leads size dpi u last k seed inked pages count b.height little (said_then size copies t.asked inked b.asked) few in
           record {
             settings = _;

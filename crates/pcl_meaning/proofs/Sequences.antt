@@ -72,11 +72,11 @@ tokens_read false (opening ∷ tokens) current seed rows p few =
     tokens_read true tokens current seed rows p few [] [] (begin_inside (refl, refl))
 tokens_read true (method digits next ends ∷ tokens) current seed rows p few =
     let small : method_code next ≤ 65535 = grind arith in
-    set_read 77 ends tokens (setting p.0 small refl refl refl) (setting p.0 small refl refl refl) refl refl
+    set_read 77 ends tokens (setting p.0 small refl refl refl refl) (setting p.0 small refl refl refl refl) refl refl
     (tokens_read (not ends) tokens next seed rows p.1 few)
 tokens_read true (skip digits count ends ∷ tokens) current seed rows p few =
     let small : count ≤ 65535 = omega (arith, p.2) in
-    set_read 89 ends tokens (setting p.0 small refl refl refl) (setting p.0 small refl refl refl) refl refl
+    set_read 89 ends tokens (setting p.0 small refl refl refl refl) (setting p.0 small refl refl refl refl) refl refl
     (tokens_read (not ends) tokens current _ (drop count rows) p.4 (omega (arith, length-drop count rows)))
 tokens_read true (send digits bytes ∷ tokens) current seed (first ∷ rest) p few = λ before deeds r.
     let sent = end_inside r (row_end p.0 p.1.fits) (row_meant digits p.0) in
@@ -96,18 +96,18 @@ start_read dpi {copies} size le =
     let sizes : code_of size ≤ 65535 = grind arith in
     let dots : dots_per_inch dpi ≤ 65535 = grind arith in
     let wide : page_width size dpi ≤ 65535 = omega (arith, width_small size dpi) in
-    let c : IsSetting (prefix 38 108) 120 (decimal copies) copies Copies = setting (decimal_spelled _ (omega arith)) le refl refl refl in
+    let c : IsSetting (prefix 38 108) 120 (decimal copies) copies Copies = setting (decimal_spelled _ (omega arith)) le refl refl refl refl in
     let s : IsSetting (prefix 38 108) 97 (decimal (code_of size)) (code_of size) PageSize =
-    setting (decimal_spelled _ (omega arith)) sizes refl refl refl in
-    let margin : IsSetting (prefix 38 108) 69 (48 ∷ []) 0 TopMargin = setting ((refl, tt), refl) (lit≤ tt) refl refl refl in
+    setting (decimal_spelled _ (omega arith)) sizes refl refl refl refl in
+    let margin : IsSetting (prefix 38 108) 69 (48 ∷ []) 0 TopMargin = setting ((refl, tt), refl) (lit≤ tt) refl refl refl refl in
     let across : IsSetting (prefix 42 112) 120 (48 ∷ []) 0 (Move Horizontal PclUnit) =
-    setting ((refl, tt), refl) (lit≤ tt) refl refl refl in
-    let down : IsSetting (prefix 42 112) 89 (48 ∷ []) 0 (Move Vertical PclUnit) = setting ((refl, tt), refl) (lit≤ tt) refl refl refl in
+    setting ((refl, tt), refl) (lit≤ tt) refl refl refl refl in
+    let down : IsSetting (prefix 42 112) 89 (48 ∷ []) 0 (Move Vertical PclUnit) = setting ((refl, tt), refl) (lit≤ tt) refl refl refl refl in
     let fine : IsSetting (prefix 42 116) 82 (decimal (dots_per_inch dpi)) (dots_per_inch dpi) RasterResolution =
-    setting (decimal_spelled _ (omega arith)) dots refl refl refl in
+    setting (decimal_spelled _ (omega arith)) dots refl refl refl refl in
     let width : IsSetting (prefix 42 114) 115 (decimal (page_width size dpi)) (page_width size dpi) RasterWidth =
-    setting (decimal_spelled _ (omega arith)) wide refl refl refl in
-    let start : IsSetting (prefix 42 114) 65 (48 ∷ []) 0 StartRaster = setting ((refl, tt), refl) (lit≤ tt) refl refl refl in
+    setting (decimal_spelled _ (omega arith)) wide refl refl refl refl in
+    let start : IsSetting (prefix 42 114) 65 (48 ∷ []) 0 StartRaster = setting ((refl, tt), refl) (lit≤ tt) refl refl refl refl in
     let r = reads_joined (set_last (set_inside (set_inside (begin_inside (refl, refl)) c refl) s refl) margin refl)
     (reads_joined (set_last (set_inside (begin_inside (refl, refl)) across refl) down refl)
     (reads_joined (set_last (begin_inside (refl, refl)) fine refl)
@@ -117,10 +117,10 @@ start_read dpi {copies} size le =
 pub end_read : ReadsAs end_bytes end_deeds
 unfolding operation_of
 end_read =
-    let end : IsSetting (prefix 42 114) 67 [] 0 EndRasterResetMethod = setting (tt, refl) (lit≤ tt) refl refl refl in
+    let end : IsSetting (prefix 42 114) 67 [] 0 EndRasterResetMethod = setting (tt, refl) (lit≤ tt) refl refl refl refl in
     reads_joined (set_last (begin_inside (refl, refl)) end refl)
-    (reads_piece (control 12) (λ behind. (refl, refl, refl)) (λ at. ((refl, refl, refl), tt)))
+    (reads_piece (control 12) (λ profile behind. (refl, refl, refl)) (λ at. ((refl, refl, refl), tt)))
 
 pub frame_read : ReadsAs frame_bytes (reset ∷ [])
 unfolding operation_of
-frame_read = reads_piece (two_character 69) (λ behind. (refl, refl)) (λ at. ((refl, refl, refl), tt))
+frame_read = reads_piece (two_character 69) (λ profile behind. (refl, refl)) (λ at. ((refl, refl, refl), tt))

@@ -94,6 +94,16 @@ pub struct PageFacts {
     pub left_offset: Option<i64>,
     /// How far it is moved down, where the job says so (`&lZ`), in the same.
     pub top_offset: Option<i64>,
+    /// Whether text is scaled, or how a DeskJet's head moves, where the job asks for it (`&kW`).
+    pub text_scale: Option<i64>,
+    /// Draft, normal or best quality, where the job asks for it (`*oM`).
+    pub print_quality: Option<i64>,
+    /// In how many passes a DeskJet prints a row, where the job asks for it (`*oQ`).
+    pub shingling: Option<i64>,
+    /// How much ink of a picture a DeskJet leaves out, where the job asks for it (`*oD`).
+    pub depletion: Option<i64>,
+    /// The quality of rasters, where the job asks for it (`*rQ`).
+    pub raster_quality: Option<i64>,
     pub dots: u64,
     pub black_dots: u64,
     /// The bytes of its least page text (docs/OUTPUT.md).
@@ -119,6 +129,11 @@ impl PageFacts {
             sheet_side: None,
             left_offset: None,
             top_offset: None,
+            text_scale: None,
+            print_quality: None,
+            shingling: None,
+            depletion: None,
+            raster_quality: None,
             dots: u64::from(page.size.width(page.dpi)) * u64::from(page.size.height(page.dpi)),
             black_dots: black_dots(page),
             bytes: text.len(),
@@ -136,6 +151,11 @@ impl PageFacts {
             sheet_side: asked.start.sheet_side,
             left_offset: units_of(asked.said.left_offset),
             top_offset: units_of(asked.said.top_offset),
+            text_scale: asked.said.text_scale,
+            print_quality: asked.said.print_quality,
+            shingling: asked.said.shingling,
+            depletion: asked.said.depletion,
+            raster_quality: asked.said.raster_quality,
             ..self
         }
     }
@@ -207,6 +227,8 @@ pub struct JobFacts {
     pub pages: Vec<PageFacts>,
     /// The universal exits, in order.
     pub exits: Vec<ExitFacts>,
+    /// How the job is separated from the next, where it says so after its last page (`&lT`).
+    pub separation: Option<i64>,
     pub total: Total,
 }
 
@@ -222,6 +244,7 @@ impl JobFacts {
         Ok(JobFacts {
             dpi: dpi.dots(),
             exits: exits_of(alloc, &asks.exits)?,
+            separation: asks.separation,
             pages,
             total,
         })

@@ -2,7 +2,7 @@
 use Rattle.std.proofs.Common.{◌≡◌, ℕ, suc, ◌+◌, ◌<◌, List, length, map, take, drop, get_or, Option, Some, None, refl, arith}
 use Rattle.pcl_same.proofs.Names.{MatchOption, option_or, take-append-drop, length-take-le, length-map, take_more_same, get_or-map, drop-cons, AskedPage, exit_of, ExitDifference, Setting, SettingDifference, DifferAt, HaveSameSettings, setting_of, order_of, IsFirstSetting, ExitsDifferBy, IsSettingDifference, IsExitDifference}
 use Rattle.pcl_page.specs.declared.asks.Exit.{Exit as ExitOfCode}
-use Rattle.pcl_same.specs.declared.comparison.Setting.TheVariants.{Copies, PageSize, PageLength, Sides, OutputBin, MediaType, PaperSource, LeftOffset, TopOffset, SheetSide}
+use Rattle.pcl_same.specs.declared.comparison.Setting.TheVariants.{Copies, PageSize, PageLength, Sides, OutputBin, MediaType, PaperSource, LeftOffset, TopOffset, TextScale, PrintQuality, Shingling, Depletion, RasterQuality, SheetSide}
 use Rattle.pcl_same.specs.declared.comparison.AsksDifference.TheVariants as exits
 
 -- ---- settings
@@ -45,12 +45,12 @@ then_setting one other setting None None below here = one_more one other setting
 pub none_below : (one other : AskedPage) → SaysBelow one other 0 None
 none_below one other setting lt = absurd (omega arith)
 
-pub all_same : (one other : AskedPage) (found : Option SettingDifference) → SaysBelow one other 10 found
+pub all_same : (one other : AskedPage) (found : Option SettingDifference) → SaysBelow one other 15 found
     → MatchOption found (HaveSameSettings one other) (IsFirstSetting one other)
 all_same one other (Some d) says = says
 all_same one other None says = λ setting. says setting (small setting)
   where
-    small : (setting : Setting) → order_of setting < 10
+    small : (setting : Setting) → order_of setting < 15
     small setting = grind arith
 
 -- ---- a page
@@ -66,6 +66,11 @@ same_page first same =
     let source = same PaperSource in
     let left = same LeftOffset in
     let top = same TopOffset in
+    let text_scale = same TextScale in
+    let print_quality = same PrintQuality in
+    let shingling = same Shingling in
+    let depletion = same Depletion in
+    let raster_quality = same RasterQuality in
     let side = same SheetSide in
     λ i. record {
       said = record {
@@ -78,6 +83,11 @@ same_page first same =
         paper_source = source i;
         left_offset = left i;
         top_offset = top i;
+        text_scale = text_scale i;
+        print_quality = print_quality i;
+        shingling = shingling i;
+        depletion = depletion i;
+        raster_quality = raster_quality i;
       };
       start = record { is_first = first i; sheet_side = side i };
     }

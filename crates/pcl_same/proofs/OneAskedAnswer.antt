@@ -3,7 +3,7 @@ use Rattle.std.proofs.Common.{◌≡◌, ◌≢◌, ℕ, List, [], ◌∷◌, �
 use Rattle.pcl_same.proofs.Names.{Profile, append_cancel_left, Dpi, AskedPage, Asks, HasAsksBy, AskedComparison, AskedDifference, AsksDifference, ExitCount, Exit, Lasting, ExitDifference, Setting, SettingDifference, SameFault, Memory, Compare, of_pages, CompareAsks, IsAskedComparisonBy, IsComparedAskedBy, DifferAt, setting_of, order_of, IsFirstSetting, IsAskedBy, ExitsDifferBy, AsksDifferBy}
 use Rattle.pcl_page.specs.Asks.{Exit as UniversalExit}
 use Rattle.pcl_same.specs.declared.comparison.AskedComparison.TheVariants as asked
-use Rattle.pcl_same.specs.declared.comparison.AsksDifference.TheVariants.{Page}
+use Rattle.pcl_same.specs.declared.comparison.AsksDifference.TheVariants.{Page, Separation}
 use Rattle.pcl_same.specs.declared.comparison.AskedDifference.TheVariants.{Reset, Setting as BySetting}
 use Rattle.pcl_same.proofs.OneAnswer.{neither_below, IsAt, one_place, HasOneMeaning, one_comparison, one_result}
 
@@ -80,6 +80,8 @@ module _ (asks others : Asks) where
   one_difference d (Page m e) p q = absurd (pages_unlike m e q p.0)
   one_difference (Exit n d) (Exit m e) p q =
       let one = one_number ExitsDifferBy exits_differ one_exit asks.exits others.exits n m d e p.2 q.2 in cc
+  one_difference (Exit n d) Separation p q = absurd (exits_unlike n d p q.1)
+  one_difference Separation (Exit m e) p q = absurd (exits_unlike m e q p.1)
   one_difference (Exit n d) Lasting p q = absurd (exits_unlike n d p q.1)
   one_difference Lasting (Exit m e) p q = absurd (exits_unlike m e q p.1)
   one_difference _ _ p q = grind arith
@@ -88,7 +90,8 @@ module _ (asks others : Asks) where
   asks_unlike (Page n d) p = λ same. pages_unlike n d p cc
   asks_unlike (ExitCount a b) p = λ same. p.3 cc
   asks_unlike (Exit n d) p = λ same. exits_unlike n d p cc
-  asks_unlike Lasting p = λ same. p.2 (ap (λ (a : Asks). a.lasts) same, ap (λ (a : Asks). a.whole) same)
+  asks_unlike Separation p = λ same. p.2 (ap (λ (a : Asks). a.separation) same)
+  asks_unlike Lasting p = λ same. p.3 (ap (λ (a : Asks). a.lasts) same, ap (λ (a : Asks). a.whole) same)
 
   one_asked : (a b : AskedComparison) → of_pages a ≡ of_pages b → CompareAsks asks others a → CompareAsks asks others b → a ≡ b
   one_asked asked.Same (asked.Asks d) e p q = absurd (asks_unlike d q p)

@@ -6,11 +6,11 @@ use Rattle.pcl_page.specs.Asks.{Asks, Exit as UniversalExit}
 use Rattle.pcl_same.specs.declared.comparison.AskedDifference.{AskedDifference}
 use Rattle.pcl_same.specs.declared.comparison.AskedDifference.TheVariants.{Reset, Setting as BySetting}
 use Rattle.pcl_same.specs.declared.comparison.AsksDifference.{AsksDifference}
-use Rattle.pcl_same.specs.declared.comparison.AsksDifference.TheVariants.{Page, ExitCount, Exit, Lasting}
+use Rattle.pcl_same.specs.declared.comparison.AsksDifference.TheVariants.{Page, ExitCount, Exit, Separation, Lasting}
 use Rattle.pcl_same.specs.declared.comparison.ExitDifference.{ExitDifference}
 use Rattle.pcl_same.specs.declared.comparison.ExitDifference.TheVariants.{Place, Lines}
 use Rattle.pcl_same.specs.declared.comparison.Setting.{Setting}
-use Rattle.pcl_same.specs.declared.comparison.Setting.TheVariants.{Copies, PageSize, PageLength, Sides, OutputBin, MediaType, PaperSource, LeftOffset, TopOffset, SheetSide}
+use Rattle.pcl_same.specs.declared.comparison.Setting.TheVariants.{Copies, PageSize, PageLength, Sides, OutputBin, MediaType, PaperSource, LeftOffset, TopOffset, TextScale, PrintQuality, Shingling, Depletion, RasterQuality, SheetSide}
 use Rattle.pcl_same.specs.declared.comparison.SettingDifference.{SettingDifference}
 
 -- what has this number in two lists, counted from 1, differs so, and what is before it is the same
@@ -38,6 +38,11 @@ setting_of MediaType page = page.said.media_type
 setting_of PaperSource page = page.said.paper_source
 setting_of LeftOffset page = page.said.left_offset
 setting_of TopOffset page = page.said.top_offset
+setting_of TextScale page = page.said.text_scale
+setting_of PrintQuality page = page.said.print_quality
+setting_of Shingling page = page.said.shingling
+setting_of Depletion page = page.said.depletion
+setting_of RasterQuality page = page.said.raster_quality
 setting_of SheetSide page = page.start.sheet_side
 
 -- the order in which settings are compared
@@ -51,7 +56,12 @@ order_of MediaType = 5
 order_of PaperSource = 6
 order_of LeftOffset = 7
 order_of TopOffset = 8
-order_of SheetSide = 9
+order_of TextScale = 9
+order_of PrintQuality = 10
+order_of Shingling = 11
+order_of Depletion = 12
+order_of RasterQuality = 13
+order_of SheetSide = 14
 
 abbrev pub HaveSameSettings : AskedPage → AskedPage → Type 0
 HaveSameSettings one other = (setting : Setting) → setting_of setting one ≡ setting_of setting other
@@ -81,7 +91,8 @@ ExitsDifferBy one other Lines = (one.pages ≡ other.pages) × (one.lines ≢ ot
 abbrev pub LeaveTheSame : Asks → Asks → Type 0
 LeaveTheSame asks others = (asks.lasts ≡ others.lasts) × (asks.whole ≡ others.whole)
 
--- what is asked differs so: for a page, the first; else in how many exits there are; else in an exit, the first; else in what stays
+-- what is asked differs so: for a page, the first; else in how many exits there are; else in an exit, the first; else in how the job is
+-- separated from the next; else in what stays
 abbrev pub AsksDifferBy : Asks → Asks → AsksDifference → Type 0
 AsksDifferBy asks others (Page number difference) =
     DifferAt (λ one other. IsAskedBy one other difference) asks.pages others.pages number
@@ -90,5 +101,7 @@ AsksDifferBy asks others (ExitCount first second) =
 AsksDifferBy asks others (Exit number difference) =
     (asks.pages ≡ others.pages) × (length asks.exits ≡ length others.exits)
     × DifferAt (λ one other. ExitsDifferBy one other difference) asks.exits others.exits number
+AsksDifferBy asks others Separation =
+    (asks.pages ≡ others.pages) × (asks.exits ≡ others.exits) × (asks.separation ≢ others.separation)
 AsksDifferBy asks others Lasting =
-    (asks.pages ≡ others.pages) × (asks.exits ≡ others.exits) × (LeaveTheSame asks others → ⊥)
+    (asks.pages ≡ others.pages) × (asks.exits ≡ others.exits) × (asks.separation ≡ others.separation) × (LeaveTheSame asks others → ⊥)

@@ -86,8 +86,8 @@ pub enum Difference {
     Dot { x: u32, y: u32 },
 }
 
-/// How what two jobs with as many pages ask of the printer differs: for a page, else in the universal exits, else in what stays in the
-/// printer.
+/// How what two jobs with as many pages ask of the printer differs: for a page, else in the universal exits, else in how the job is
+/// separated from the next, else in what stays in the printer.
 #[derive(Clone, Copy, Debug, PartialEq, Eq)]
 pub enum AsksDifference {
     /// The first page for which they ask different things is the one of this number, counted from 1.
@@ -105,6 +105,8 @@ pub enum AsksDifference {
         number: usize,
         difference: ExitDifference,
     },
+    /// They are separated from the next job by different values, or one of them isn't.
+    Separation,
     /// One of them counts on fonts or macros that stay in the printer, or changes these, or has a command that ejects a page on some
     /// printers, and the other isn't the same job byte for byte.
     Lasting,
@@ -140,6 +142,16 @@ pub enum Setting {
     LeftOffset,
     /// How far it is moved down, `&lZ`, in the same.
     TopOffset,
+    /// Whether text is scaled, or how a DeskJet's head moves, `&kW`.
+    TextScale,
+    /// Draft, normal or best quality, `*oM`.
+    PrintQuality,
+    /// In how many passes a DeskJet prints a row, `*oQ`.
+    Shingling,
+    /// How much ink of a picture a DeskJet leaves out, `*oD`.
+    Depletion,
+    /// The quality of rasters, `*rQ`.
+    RasterQuality,
     /// The front or the back of a sheet, `&aG`.
     SheetSide,
 }

@@ -1,5 +1,6 @@
 -- A job of least page texts that says no more than these is a least raster job.
 use Rattle.std.proofs.Common.{◌≡◌, ℕ, zero, suc, ◌+◌, ◌<◌, ◌==◌, true, false, List, [], ◌∷◌, ◌++◌, length, map, get_or, None, refl, ap, append_assoc, arith}
+use Rattle.pcl_env.specs.Settings.{nothing_asked}
 use Rattle.pcl_shrink.proofs.Names.{nat_tests, Dpi, AskedPage, Sheet, frame_bytes, IsWrittenPage, PrintEach, page_said, said_for, next_page, plain_page, is_usual, page_start, asked_pages, asked_job, AreLeastTexts}
 
 abbrev pub joined : List (List ℕ) → List ℕ
@@ -20,12 +21,7 @@ texts_count dpi sheets texts a = absurd a
 
 -- a page of which no more is asked than what its text says, after another page
 record AsksLittle (page : AskedPage) : Type 0 where
-  sides : page.said.sides ≡ None
-  bin : page.said.output_bin ≡ None
-  media : page.said.media_type ≡ None
-  source : page.said.paper_source ≡ None
-  left : page.said.left_offset ≡ None
-  top : page.said.top_offset ≡ None
+  said : page.said ≡ record nothing_asked { copies = page.said.copies; page_size = page.said.page_size; page_length = page.said.page_length }
   side : page.start.sheet_side ≡ None
   later : page.start.is_first ≡ false
 
@@ -34,8 +30,8 @@ abbrev said_later : List Sheet → ℕ → AskedPage
 said_later sheets k = get_or (map (page_said next_page) sheets) k plain_page
 
 little_later : (sheets : List Sheet) (k : ℕ) → AsksLittle (said_later sheets k)
-little_later [] k = record { sides = refl; bin = refl; media = refl; source = refl; left = refl; top = refl; side = refl; later = refl }
-little_later (sheet ∷ sheets) zero = record { sides = refl; bin = refl; media = refl; source = refl; left = refl; top = refl; side = refl; later = refl }
+little_later [] k = record { said = refl; side = refl; later = refl }
+little_later (sheet ∷ sheets) zero = record { said = refl; side = refl; later = refl }
 little_later (sheet ∷ sheets) (suc k) = little_later sheets k
 
 usual_later : (sheets : List Sheet) (k : ℕ) → k < length sheets → is_usual (said_later sheets k).said ≡ true
@@ -47,7 +43,7 @@ no_start : (first : Sheet) (sheets : List Sheet) (k : ℕ) → page_start (said_
 no_start first sheets k =
     let l = little_later sheets k in
     let number : (suc k == 0) ≡ false = grind (arith, nat_tests) in
-    rw (l.later, l.sides, l.bin, l.media, l.source, l.left, l.top, l.side, number) refl
+    rw (l.later, l.said, l.side, number) refl
 
 later_texts : (first : Sheet) (sheets : List Sheet) (texts : List (List ℕ)) (k : ℕ) → k + length texts ≡ length sheets
     → asked_pages (said_for (first ∷ sheets)) (suc k) texts ≡ joined texts

@@ -42,12 +42,24 @@ offset_command letter (Some before) (Some offset) =
     if int_eq before offset then [] else 27 ∷ codes "&l" ++ offset_text offset ++ letter
 
 -- what asks for sides, bins, media and sources where others are asked for already
-abbrev pub asked_text : Asked → Asked → List ℕ
-asked_text old new =
+abbrev pub paper_text : Asked → Asked → List ℕ
+paper_text old new =
     value_text (27 ∷ codes "&l") (codes "S") old.sides new.sides
     ++ value_text (27 ∷ codes "&l") (codes "G") old.output_bin new.output_bin
     ++ value_text (27 ∷ codes "&l") (codes "M") old.media_type new.media_type
     ++ value_text (27 ∷ codes "&l") (codes "H") old.paper_source new.paper_source
+
+-- the same of what only drivers ask for
+abbrev pub quality_text : Asked → Asked → List ℕ
+quality_text old new =
+    value_text (27 ∷ codes "&k") (codes "W") old.text_scale new.text_scale
+    ++ value_text (27 ∷ codes "*o") (codes "M") old.print_quality new.print_quality
+    ++ value_text (27 ∷ codes "*o") (codes "Q") old.shingling new.shingling
+    ++ value_text (27 ∷ codes "*o") (codes "D") old.depletion new.depletion
+    ++ value_text (27 ∷ codes "*r") (codes "Q") old.raster_quality new.raster_quality
+
+abbrev pub asked_text : Asked → Asked → List ℕ
+asked_text old new = paper_text old new ++ quality_text old new
 
 -- the same of the offsets of the page
 abbrev pub offsets_text : Asked → Asked → List ℕ
@@ -119,10 +131,14 @@ page_start asks number =
     exits_after number asks.exits ++ reset_text asks number ++ asked_text (asked_before asks number) (asked_at asks number).said
     ++ side_text (asked_at asks number).start.sheet_side ++ offsets_text (asked_before asks number) (asked_at asks number).said
 
+-- what separates the job from the next, before the printer is put back
+abbrev pub separation_text : Option ℤ → List ℕ
+separation_text value = value_text (27 ∷ codes "&l") (codes "T") None value
+
 -- what stands after the last of this many pages
 abbrev pub job_end : Asks → ℕ → List ℕ
 job_end asks zero = exits_after 0 asks.exits ++ frame_bytes ++ frame_bytes
-job_end asks (suc before) = frame_bytes ++ exits_after (suc before) asks.exits
+job_end asks (suc before) = separation_text asks.separation ++ frame_bytes ++ exits_after (suc before) asks.exits
 
 -- texts of the pages from a number on
 abbrev pub asked_pages : Asks → ℕ → List (List ℕ) → List ℕ

@@ -14,6 +14,8 @@ ghost use Rattle.pcl_shrink.specs.Asking.{
   value_text,
   offset_command,
   asked_text,
+  paper_text,
+  quality_text,
   offsets_text,
   parameter_text,
   lines_of,
@@ -63,7 +65,7 @@ pub fn append_page_start(
     Ok(is_reset)
 }
 
-/// Appends what stands after the last of this many pages: a reset, and the universal exits there.
+/// Appends what stands after the last of this many pages: what separates the job from the next, a reset, and the universal exits there.
 pub fn append_end(asks: &Asks<'_>, pages: usize, out: &mut Vec<u8>) -> Result<(), AllocError>
     ensures { OnOk result (out.new.items ≡ out.old.items ++ job_end (asks_of asks.now) pages) }
 {
@@ -72,6 +74,7 @@ pub fn append_end(asks: &Asks<'_>, pages: usize, out: &mut Vec<u8>) -> Result<()
         out.extend_from_slice(RESET)?;
         return out.extend_from_slice(RESET);
     }
+    append_value(b"\x1b&l", None, asks.separation, b"T", out)?;
     out.extend_from_slice(RESET)?;
     append_exits(asks, pages, out)?;
     Ok(())
@@ -133,9 +136,28 @@ fn append_reset(is_wanted: bool, out: &mut Vec<u8>) -> Result<(), AllocError>
     Ok(())
 }
 
-/// Appends what asks for sides, bins, media and sources, as far as they aren't asked for already.
+/// Appends what asks for anything but the side of the sheet and offsets, as far as it isn't asked for already.
 fn append_asked(old: Asked, new: Asked, out: &mut Vec<u8>) -> Result<(), AllocError>
     ensures { OnOk result (out.new.items ≡ out.old.items ++ asked_text old new) }
+{
+    append_paper(old, new, out)?;
+    append_quality(old, new, out)
+}
+
+/// Appends what asks for a text scale and qualities of printing, as far as they aren't asked for already.
+fn append_quality(old: Asked, new: Asked, out: &mut Vec<u8>) -> Result<(), AllocError>
+    ensures { OnOk result (out.new.items ≡ out.old.items ++ quality_text old new) }
+{
+    append_value(b"\x1b&k", old.text_scale, new.text_scale, b"W", out)?;
+    append_value(b"\x1b*o", old.print_quality, new.print_quality, b"M", out)?;
+    append_value(b"\x1b*o", old.shingling, new.shingling, b"Q", out)?;
+    append_value(b"\x1b*o", old.depletion, new.depletion, b"D", out)?;
+    append_value(b"\x1b*r", old.raster_quality, new.raster_quality, b"Q", out)
+}
+
+/// Appends what asks for sides, bins, media and sources, as far as they aren't asked for already.
+fn append_paper(old: Asked, new: Asked, out: &mut Vec<u8>) -> Result<(), AllocError>
+    ensures { OnOk result (out.new.items ≡ out.old.items ++ paper_text old new) }
 {
     append_value(b"\x1b&l", old.sides, new.sides, b"S", out)?;
     append_value(b"\x1b&l", old.output_bin, new.output_bin, b"G", out)?;

@@ -62,6 +62,7 @@ fn say_asks(difference: AsksDifference, words: &mut String) -> Result<(), AllocE
             write!(words, "exit {number}: ")?;
             say_exit(difference, words)?;
         }
+        AsksDifference::Separation => words.push_str("separation")?,
         AsksDifference::Lasting => words.push_str("kept or ejected")?,
     }
     Ok(())
