@@ -1,48 +1,34 @@
 -- What the stated profile accepts, performed by the drivers' profile.
-use Rattle.std.proofs.Common.{◌≡◌, ℕ, zero, suc, ◌+◌, Bool, true, false, if◌then◌else◌, not, ◌&&◌, List, [], ◌∷◌, Option, Some, None, Result, Ok, Err, refl, sym, ap, ◌∙◌, arith, is_some}
-use Rattle.std.specs.Option.{option_map}
-use Rattle.pcl_base.specs.declared.profile.Profile.TheVariants.{Stated, Drivers}
-use Rattle.pcl_base.specs.declared.refusal.Refusal.{Refusal}
-use Rattle.pcl_base.specs.declared.kind.Kind.TheVariants.{MacroOpen}
+use Rattle.std.proofs.Common.{◌≡◌, ℕ, zero, suc, ◌+◌, Bool, true, false, if◌then◌else◌, List, [], ◌∷◌, length, Option, Some, None, Result, Ok, Err, refl, ap, ◌∙◌, arith, is_some}
 use Rattle.pcl_base.specs.declared.operation.Operation.TheVariants as operations
-use Rattle.pcl_env.specs.declared.effect.Effect.{Effect}
-use Rattle.pcl_fonts.specs.Fields.{Character}
-use Rattle.pcl_fonts.specs.declared.fonts.FontControl.{FontControl}
-use Rattle.pcl_env.specs.Outcome.{Outcome, outcome}
-use Rattle.pcl_env.specs.Settings.{Settings, kept, restored}
-use Rattle.pcl_macros.specs.History.{MacroBody}
 use Rattle.pcl_escape.specs.Pieces.{IsReading}
-use Rattle.pcl_page.specs.Situation.{Situation, put_back, with_what_stays, ◌|>◌, settings_below, end_raster, turned, turned_by, taken, code_printed, codes_printed, text_printed, drawn, drawn_on, draw_refusal, unless_refused, is_ignored, prepared, after, after_named, counted_in_limit, within_page_limit, tried, at_end}
-use Rattle.pcl_page.specs.Raster.{Raster, ends_raster}
-use Rattle.pcl_page.specs.Macros.{Run, action_of, acted, lasting_by, managed, counting, defining, keeping_of, after_command, run_by, run_from, run_of, macro_ended}
-use Rattle.pcl_page.specs.Performing.{Performance, done, stopped, unless, then_on, in_order, concluded, and_run, step, commands_left, runs, after_all, end_refusal, ended, after_end, performance}
-use Rattle.pcl_page.specs.declared.macros.Action.{Action}
-use Rattle.pcl_page.specs.declared.macros.Keeping.{Keeping}
-use Rattle.pcl_page.proofs.Names.{performance_of, length, EjectMarked, page_refusal, at_begin, defaults, font_in_use, font_now, is_proportional, prints, Dpi, Kind, Operation, Value, Said, macro_limit, operation_of}
+use Rattle.pcl_page.specs.Situation.{after}
+use Rattle.pcl_page.proofs.Names.{Dpi, Kind, MacroOpen, Asking, SheetSide, Operation, ControlMacros, PrintText, Stated, Drivers, Refusal, Value, macro_limit, operation_of, option_map, Effect, EjectMarked, Settings, defaults, font_in_use, Outcome, Said, Character, Action, Keeping, Raster, ends_raster, is_proportional, prints, Situation, at_begin, settings_below, end_raster, turned, turned_by, taken, code_printed, codes_printed, font_now, put_back, asked_for, drawn, drawn_on, draw_refusal, unless_refused, ◌|>◌, is_ignored, prepared, after_named, counted_in_limit, page_refusal, within_page_limit, tried, with_what_stays, at_end, Run, action_of, acted, lasting_by, managed, counting, defining, keeping_of, after_command, run_by, run_from, run_of, macro_ended, Performance, done, unless, then_on, in_order, concluded, and_run, step, commands_left, runs, end_refusal, ended, after_end, performance, performance_of}
 use Rattle.pcl_page.proofs.Profiles.{IsStated, set_by_drivers, AreSetAlike, AreTakenAlike, outcome_alike}
 
--- ---- reading by both profiles
+-- ---- reading
 
--- what the stated profile reads of a job the drivers' reads of it too
+-- commands that the stated profile reads are read by the drivers' too
 pub reading_alike : {job : List ℕ} {commands : List Said} → IsReading job commands → IsReading job commands
 reading_alike reading = reading
 
 -- ---- situations by both profiles
 
--- the same situation of a job that is read by the drivers' profile
+-- the same situation by the drivers' profile
 abbrev pub by_drivers : Situation → Situation
 by_drivers s = record s { settings = set_by_drivers s.settings }
 
+-- a situation by the stated profile, and that by the drivers', which is the same
 abbrev StandAlike : Situation → Situation → Type 0
-StandAlike s t = (t ≡ by_drivers s) × IsStated s.settings
+StandAlike s other = (other ≡ by_drivers s) × IsStated s.settings
 
--- what the stated profile doesn't refuse leads to the same by both
+-- what the stated profile doesn't refuse leads to the same by the drivers'
 abbrev AreLedAlike : Result Situation Kind → Result Situation Kind → Type 0
 AreLedAlike (Err kind) other = Unit {0}
 AreLedAlike (Ok s) (Err kind) = ⊥
-AreLedAlike (Ok s) (Ok t) = StandAlike s t
+AreLedAlike (Ok s) (Ok other) = StandAlike s other
 
--- the same of what is done to a situation
+-- wherever it begins
 abbrev LeadsAlike : (Situation → Result Situation Kind) → Type 0
 LeadsAlike next = (s : Situation) → IsStated s.settings → AreLedAlike (next s) (next (by_drivers s))
 
@@ -50,17 +36,17 @@ led_on : (one other : Result Situation Kind) (next : Situation → Result Situat
     → AreLedAlike (one |> next) (other |> next)
 led_on (Err kind) other next alike leads = tt
 led_on (Ok s) (Err kind) next alike leads = absurd alike
-led_on (Ok s) (Ok t) next alike leads = rw alike.0 (leads s alike.1)
+led_on (Ok s) (Ok other) next alike leads = rw alike.0 (leads s alike.1)
 
--- ---- one command
+-- ---- what a command sets
 
 below_alike : (dpi : Dpi) (raster : Option Raster) (s : Settings) → IsStated s
     → AreSetAlike (settings_below dpi raster s) (settings_below dpi raster (set_by_drivers s))
 below_alike dpi None s stated = (refl, stated)
 below_alike dpi (Some r) s stated = (refl, stated)
 
-raster_ended : (dpi : Dpi) (s : Situation) → IsStated s.settings → StandAlike (end_raster dpi s) (end_raster dpi (by_drivers s))
-raster_ended dpi s stated =
+raster_end_alike : (dpi : Dpi) (s : Situation) → IsStated s.settings → StandAlike (end_raster dpi s) (end_raster dpi (by_drivers s))
+raster_end_alike dpi s stated =
     let below = below_alike dpi s.raster s.settings stated in
     (ap (λ (settings : Settings). record s { settings = settings; raster = None }) below.0, below.1)
 
@@ -68,13 +54,14 @@ prepared_alike : (dpi : Dpi) (operation : Operation) (s : Situation) → IsState
     → StandAlike (prepared dpi operation s) (prepared dpi operation (by_drivers s))
 prepared_alike dpi operation s stated = by_test (ends_raster operation)
   where
-    by_test : (test : Bool) → StandAlike (if test then end_raster dpi s else s) (if test then end_raster dpi (by_drivers s) else by_drivers s)
-    by_test true = raster_ended dpi s stated
+    by_test : (test : Bool)
+        → StandAlike (if test then end_raster dpi s else s) (if test then end_raster dpi (by_drivers s) else by_drivers s)
+    by_test true = raster_end_alike dpi s stated
     by_test false = (refl, stated)
 
-turned_alike : (settings : Settings) (effect : Effect) (s : Situation) → IsStated settings
-    → StandAlike (turned settings effect s) (turned (set_by_drivers settings) effect (by_drivers s))
-turned_alike settings effect s stated = grind (arith, stated)
+turned_alike : (settings : Settings) (done : Effect) (s : Situation) → IsStated settings
+    → StandAlike (turned settings done s) (turned (set_by_drivers settings) done (by_drivers s))
+turned_alike settings done s stated = grind (arith, stated)
 
 taken_alike : (dpi : Dpi) (operation : Operation) (value : Value) → LeadsAlike (taken dpi operation value)
 taken_alike dpi operation value s stated = by_outcome _ _ (outcome_alike dpi operation value _ s.settings stated)
@@ -84,10 +71,7 @@ taken_alike dpi operation value s stated = by_outcome _ _ (outcome_alike dpi ope
     by_outcome (Some done) None alike = absurd alike
     by_outcome (Some done) (Some other) alike = rw (alike.0.0, alike.1) (turned_alike done.0 done.1 s alike.0.1)
 
--- ---- what is drawn
-
-font_alike : (s : Settings) → font_in_use (set_by_drivers s) ≡ font_in_use s
-font_alike s = grind arith
+-- ---- what a command draws
 
 code_alike : (dpi : Dpi) (proportional : Bool) (character : Option Character) (code : ℕ) (s : Situation) → IsStated s.settings
     → StandAlike (code_printed dpi proportional character code s) (code_printed dpi proportional character code (by_drivers s))
@@ -100,24 +84,36 @@ codes_alike dpi proportional characters (code ∷ codes) s stated =
     let one = code_alike dpi proportional (characters code) code s stated in
     rw one.0 (codes_alike dpi proportional characters codes _ one.1)
 
+font_alike : (s : Settings) → font_in_use (set_by_drivers s) ≡ font_in_use s
+font_alike s = grind arith
+
+asked_for_alike : (what : Asking) (value : Value) (s : Situation) → IsStated s.settings
+    → StandAlike (asked_for what value s) (asked_for what value (by_drivers s))
+asked_for_alike SheetSide value s stated = (refl, stated)
+asked_for_alike other value s stated = (refl, stated)
+
 drawn_alike : (dpi : Dpi) (operation : Operation) (command : Said) (s : Situation) → IsStated s.settings
     → StandAlike (drawn dpi operation command s) (drawn dpi operation command (by_drivers s))
-drawn_alike dpi operations.PrintText command s stated =
+drawn_alike dpi (operations.Ask what) command s stated = asked_for_alike what command.value s stated
+drawn_alike dpi PrintText command s stated =
     rw (font_alike s.settings)
     (codes_alike dpi (is_proportional (font_now s)) (prints s.fonts (font_in_use s.settings)) command.bytes s stated)
 drawn_alike dpi other command s stated = grind (arith, stated)
 
-drawn_on_alike : (dpi : Dpi) (operation : Operation) (command : Said) → LeadsAlike (drawn_on dpi operation command)
-drawn_on_alike dpi operation command s stated =
-    rw same_refusal (unrefused (draw_refusal operation command s))
-  where
-    unrefused : (why : Option Kind) → AreLedAlike (unless_refused why (drawn dpi operation command s))
-        (unless_refused why (drawn dpi operation command (by_drivers s)))
-    unrefused None = drawn_alike dpi operation command s stated
-    unrefused (Some kind) = tt
+draw_refusal_alike : (operation : Operation) (command : Said) (s : Situation)
+    → draw_refusal operation command (by_drivers s) ≡ draw_refusal operation command s
+draw_refusal_alike PrintText command s = rw (font_alike s.settings) refl
+draw_refusal_alike other command s = refl
 
-    same_refusal : draw_refusal operation command (by_drivers s) ≡ draw_refusal operation command s
-    same_refusal = grind arith
+drawn_on_alike : (dpi : Dpi) (operation : Operation) (command : Said) → LeadsAlike (drawn_on dpi operation command)
+drawn_on_alike dpi operation command s stated = rw (draw_refusal_alike operation command s) (by_refusal (draw_refusal operation command s))
+  where
+    by_refusal : (why : Option Kind) → AreLedAlike (unless_refused why (drawn dpi operation command s))
+        (unless_refused why (drawn dpi operation command (by_drivers s)))
+    by_refusal None = drawn_alike dpi operation command s stated
+    by_refusal (Some kind) = tt
+
+-- ---- one command
 
 after_alike : (dpi : Dpi) (operation : Operation) (command : Said) → LeadsAlike (after dpi operation command)
 unfolding after
@@ -158,7 +154,7 @@ lasting_alike : (action : Option Action) (s : Situation) → IsStated s.settings
 lasting_alike action s stated = grind (arith, stated)
 
 managed_alike : (place : ℕ) (operation : Option Operation) (value : Value) → LeadsAlike (managed place operation value)
-managed_alike place (Some operations.ControlMacros) value s stated =
+managed_alike place (Some ControlMacros) value s stated =
     let lasting = lasting_alike (action_of value) s stated in
     rw lasting.0 (acted_alike place (action_of value) _ lasting.1)
 managed_alike place other value s stated = (refl, stated)
@@ -182,51 +178,51 @@ command_alike dpi place command s stated = by_test (is_some s.begun) (keeping_of
 
 -- ---- macros that run
 
--- a macro that runs by the drivers' profile
-abbrev pub run_by_drivers : Run → Run
+-- the same macro that runs, by the drivers' profile
+abbrev run_by_drivers : Run → Run
 run_by_drivers run = record run { saved = option_map set_by_drivers run.saved }
 
+-- what is set again at its end was set by the stated profile
 abbrev IsSavedStated : Option Settings → Type 0
 IsSavedStated None = Unit {0}
 IsSavedStated (Some saved) = IsStated saved
 
--- the same macro is run by both, or none
-abbrev RunAlike : Option Run → Option Run → Type 0
-RunAlike None None = Unit {0}
-RunAlike (Some run) (Some other) = (other ≡ run_by_drivers run) × IsSavedStated run.saved
-RunAlike one other = ⊥
+-- by both profiles the same macro runs, or none
+abbrev AreRunAlike : Option Run → Option Run → Type 0
+AreRunAlike None None = Unit {0}
+AreRunAlike (Some run) (Some other) = (other ≡ run_by_drivers run) × IsSavedStated run.saved
+AreRunAlike one other = ⊥
 
 run_alike : (command : Said) (s later : Situation) → IsStated later.settings
-    → RunAlike (run_of command s later) (run_of command (by_drivers s) (by_drivers later))
+    → AreRunAlike (run_of command s later) (run_of command (by_drivers s) (by_drivers later))
 run_alike command s later stated = by_test (is_some s.begun) (operation_of command.name)
   where
-    by_action : (action : Option Action) → RunAlike (run_by action later) (run_by action (by_drivers later))
+    by_action : (action : Option Action) → AreRunAlike (run_by action later) (run_by action (by_drivers later))
     by_action action = grind (arith, stated)
 
-    by_test : (test : Bool) (operation : Option Operation) → RunAlike (if test then None else run_from operation command.value later)
+    by_test : (test : Bool) (operation : Option Operation) → AreRunAlike (if test then None else run_from operation command.value later)
         (if test then None else run_from operation command.value (by_drivers later))
     by_test true operation = tt
-    by_test false (Some operations.ControlMacros) = by_action (action_of command.value)
+    by_test false (Some ControlMacros) = by_action (action_of command.value)
     by_test false other = tt
 
 macro_end_alike : (dpi : Dpi) (saved : Option Settings) (s : Situation) → IsSavedStated saved → IsStated s.settings
     → StandAlike (macro_ended dpi saved s) (macro_ended dpi (option_map set_by_drivers saved) (by_drivers s))
 macro_end_alike dpi None s is_saved stated = (refl, stated)
 macro_end_alike dpi (Some saved) s is_saved stated =
-    let below = below_alike dpi s.raster s.settings stated in
-    grind (arith, is_saved, below)
+    let below = below_alike dpi s.raster s.settings stated in grind (arith, is_saved, below)
 
 -- ---- commands in order
 
--- a performing that the stated profile doesn't refuse ends with the same by both
+-- where the stated profile refuses nothing, performing ends with the same by the drivers'
 abbrev EndsAlike : Option Refusal → Situation → Performance → Type 0
 EndsAlike None s other = (other ≡ done (by_drivers s)) × IsStated s.settings
 EndsAlike (Some why) s other = Unit {0}
 
-abbrev pub ArePerformedAlike : Performance → Performance → Type 0
+abbrev ArePerformedAlike : Performance → Performance → Type 0
 ArePerformedAlike one other = EndsAlike one.refusal one.situation other
 
--- the same of what is performed from a situation on
+-- wherever it begins
 abbrev PerformsAlike : (Situation → Performance) → (Situation → Performance) → Type 0
 PerformsAlike next other = (s : Situation) → IsStated s.settings → ArePerformedAlike (next s) (other (by_drivers s))
 
@@ -247,17 +243,17 @@ in_order_alike perform performs place (command ∷ commands) s stated =
     let rest = in_order perform (place + 1) commands in
     performed_on _ _ rest rest (performs place command s stated) (in_order_alike perform performs (place + 1) commands)
 
--- what running a macro does is the same by both
-abbrev RunsAlike : (Said → Run → Situation → Performance) → Type 0
-RunsAlike running = (command : Said) (run : Run) → IsSavedStated run.saved
+-- running a macro does the same by both profiles
+abbrev MacrosRunAlike : (Said → Run → Situation → Performance) → Type 0
+MacrosRunAlike running = (command : Said) (run : Run) → IsSavedStated run.saved
     → PerformsAlike (running command run) (running command (run_by_drivers run))
 
-module _ (dpi : Dpi) (running : Said → Run → Situation → Performance) (runs_alike : RunsAlike running) where
-  run_and_on : (command : Said) (one other : Option Run) (s : Situation) → RunAlike one other → IsStated s.settings
+module _ (dpi : Dpi) (running : Said → Run → Situation → Performance) (macros_alike : MacrosRunAlike running) where
+  and_run_alike : (command : Said) (one other : Option Run) (s : Situation) → AreRunAlike one other → IsStated s.settings
       → ArePerformedAlike (and_run (running command) one s) (and_run (running command) other (by_drivers s))
-  run_and_on command None None s alike stated = (refl, stated)
-  run_and_on command (Some run) (Some other) s alike stated = rw alike.0 (runs_alike command run alike.1 s stated)
-  run_and_on command one other s alike stated = absurd alike
+  and_run_alike command None None s alike stated = (refl, stated)
+  and_run_alike command (Some run) (Some other) s alike stated = rw alike.0 (macros_alike command run alike.1 s stated)
+  and_run_alike command one other s alike stated = absurd alike
 
   concluded_alike : (command : Said) (s : Situation) (one other : Result Situation Kind) → AreLedAlike one other
       → ArePerformedAlike (concluded command s one) (concluded command (by_drivers s) other)
@@ -270,22 +266,22 @@ module _ (dpi : Dpi) (running : Said → Run → Situation → Performance) (run
       performed_on _ _ (λ later. and_run (running command) (run_of command s later) later)
       (λ later. and_run (running command) (run_of command (by_drivers s) later) later)
       (concluded_alike command s _ _ (command_alike dpi place command s stated))
-      (λ later stays. run_and_on command _ _ later (run_alike command s later stays) stays)
+      (λ later stays. and_run_alike command _ _ later (run_alike command s later stays) stays)
 
-runs_alike : (levels : ℕ) (dpi : Dpi) (all : List Said) → RunsAlike (runs levels dpi all)
-runs_alike zero dpi all command run is_saved s stated = tt
-runs_alike (suc levels) dpi all command run is_saved s stated =
+macros_alike : (levels : ℕ) (dpi : Dpi) (all : List Said) → MacrosRunAlike (runs levels dpi all)
+macros_alike zero dpi all command run is_saved s stated = tt
+macros_alike (suc levels) dpi all command run is_saved s stated =
+    let steps = step_alike dpi (runs levels dpi all) (macros_alike levels dpi all) in
     performed_on _ _ (λ later. done (macro_ended dpi run.saved later))
     (λ later. done (macro_ended dpi (option_map set_by_drivers run.saved) later))
-    (in_order_alike (step dpi (runs levels dpi all))
-    (step_alike dpi (runs levels dpi all) (runs_alike levels dpi all)) run.next (commands_left all run) s stated)
-    (λ later stays. let ends = macro_end_alike dpi run.saved later is_saved stays in (ap done ends.0, ends.1))
+    (in_order_alike (step dpi (runs levels dpi all)) steps run.next (commands_left all run) s stated)
+    (λ later stays. let end = macro_end_alike dpi run.saved later is_saved stays in (ap done end.0, end.1))
 
 -- ---- jobs
 
-end_alike : (dpi : Dpi) (s : Situation) → IsStated s.settings → StandAlike (at_end dpi s) (at_end dpi (by_drivers s))
-end_alike dpi s stated =
-    let raster = raster_ended dpi s stated in
+at_end_alike : (dpi : Dpi) (s : Situation) → IsStated s.settings → StandAlike (at_end dpi s) (at_end dpi (by_drivers s))
+at_end_alike dpi s stated =
+    let raster = raster_end_alike dpi s stated in
     let turns = turned_alike (defaults s.settings.profile) EjectMarked (end_raster dpi s) (stated.0, refl, refl) in
     let ends = λ (t : Situation). put_back (with_what_stays s.fonts s.macros t) in
     (ap (λ (t : Situation). ends (turned (defaults Drivers) EjectMarked t)) raster.0 ∙ ap ends turns.0, turns.1)
@@ -294,7 +290,7 @@ after_end_alike : (dpi : Dpi) (end : ℕ) → PerformsAlike (after_end dpi end) 
 after_end_alike dpi end s stated = rw same_refusal (by_refusal (end_refusal dpi s))
   where
     ends : StandAlike (at_end dpi s) (at_end dpi (by_drivers s))
-    ends = end_alike dpi s stated
+    ends = at_end_alike dpi s stated
 
     same_refusal : end_refusal dpi (by_drivers s) ≡ end_refusal dpi s
     same_refusal = ap (λ (last : Situation). if is_some s.begun then Some MacroOpen else page_refusal last) ends.0
@@ -306,12 +302,12 @@ after_end_alike dpi end s stated = rw same_refusal (by_refusal (end_refusal dpi 
 commands_alike : (dpi : Dpi) (end : ℕ) (commands : List Said)
     → ArePerformedAlike (performance Stated dpi end commands) (performance Drivers dpi end commands)
 commands_alike dpi end commands =
-    let running = runs macro_limit dpi commands in
+    let steps = step_alike dpi (runs macro_limit dpi commands) (macros_alike macro_limit dpi commands) in
     performed_on _ _ (after_end dpi end) (after_end dpi end)
-    (in_order_alike (step dpi running) (step_alike dpi running (runs_alike macro_limit dpi commands)) 0 commands (at_begin Stated)
-    (refl, refl, refl)) (after_end_alike dpi end)
+    (in_order_alike (step dpi (runs macro_limit dpi commands)) steps 0 commands (at_begin Stated) (refl, refl, refl))
+    (after_end_alike dpi end)
 
--- commands that the stated profile accepts, by both
+-- commands of a job that the stated profile accepts, by the drivers' profile
 pub performance_alike : (dpi : Dpi) (job : List ℕ) (commands : List Said) → (performance_of Stated dpi job commands).refusal ≡ None
     → performance_of Drivers dpi job commands ≡ done (by_drivers (performance_of Stated dpi job commands).situation)
 performance_alike dpi job commands accepted = by_refusal _ accepted (commands_alike dpi (length job) commands)

@@ -1,19 +1,12 @@
 -- What a command sets by the stated profile it sets by the drivers' too.
-use Rattle.std.proofs.Common.{◌≡◌, ℕ, ◌+◌, Bool, true, false, if◌then◌else◌, not, ◌||◌, ◌==◌, List, [], ◌∷◌, Option, Some, None, refl, sym, ap, ◌∙◌, arith}
+use Rattle.std.proofs.Common.{◌≡◌, ℕ, Bool, List, Some, None, refl, arith}
 use Rattle.std.specs.Prelude.{pos}
-use Rattle.pcl_base.specs.declared.profile.Profile.{Profile}
-use Rattle.pcl_base.specs.declared.profile.Profile.TheVariants.{Stated, Drivers}
-use Rattle.pcl_base.specs.declared.dpi.Dpi.{Dpi}
-use Rattle.pcl_base.specs.declared.value.Value.{Value}
-use Rattle.pcl_base.specs.declared.operation.Operation.{Operation}
-use Rattle.pcl_base.specs.declared.operation.Operation.TheVariants as op
-use Rattle.pcl_env.specs.Settings.{Settings}
-use Rattle.pcl_env.specs.Offset.{lies_at}
-use Rattle.pcl_env.specs.Outcome.{Outcome, line_spacings, one_of, outcome, resolutions, units_of_measure}
+use Rattle.pcl_env.specs.Outcome.{outcome}
+use Rattle.pcl_page.proofs.Names.{Dpi, Asking, LeftOffset, Operation, Ask, LineSpacing, RasterResolution, UnitOfMeasure, Stated, Drivers, Value, Settings, lies_at, Outcome, line_spacings, one_of, resolutions, units_of_measure}
 
 -- ---- settings by both profiles
 
--- the stated profile's settings, with no offset but 0
+-- settings by the stated profile, which asked for no offset but 0
 abbrev pub IsStated : Settings → Type 0
 IsStated s = (s.profile ≡ Stated) × (lies_at s.asked.left_offset ≡ pos 0) × (lies_at s.asked.top_offset ≡ pos 0)
 
@@ -21,11 +14,11 @@ IsStated s = (s.profile ≡ Stated) × (lies_at s.asked.left_offset ≡ pos 0) �
 abbrev pub set_by_drivers : Settings → Settings
 set_by_drivers s = record s { profile = Drivers }
 
--- settings by the stated profile, and the same by the drivers'
+-- settings by the stated profile, and those by the drivers', which are the same
 abbrev pub AreSetAlike : Settings → Settings → Type 0
-AreSetAlike s t = (t ≡ set_by_drivers s) × IsStated s
+AreSetAlike s other = (other ≡ set_by_drivers s) × IsStated s
 
--- what is taken by the stated profile is taken by the drivers' with the same effect
+-- a value that the stated profile takes is taken by the drivers' too, and sets the same with the same effect
 abbrev pub AreTakenAlike : Outcome → Outcome → Type 0
 AreTakenAlike None other = Unit {0}
 AreTakenAlike (Some done) None = ⊥
@@ -33,15 +26,22 @@ AreTakenAlike (Some done) (Some other) = AreSetAlike done.0 other.0 × (other.1 
 
 -- ---- commands
 
--- one of some numbers
-one_alike : (numbers : List ℕ) (v : Value) (s t : Settings) → AreSetAlike s t → AreTakenAlike (one_of numbers v s) (one_of numbers v t)
-one_alike numbers v s t alike = grind (arith, alike)
+-- of some numbers
+one_alike : (numbers : List ℕ) (v : Value) (s other : Settings) → AreSetAlike s other
+    → AreTakenAlike (one_of numbers v s) (one_of numbers v other)
+one_alike numbers v s other alike = grind (arith, alike)
+
+asking_alike : (dpi : Dpi) (what : Asking) (v : Value) (m : Bool) (s : Settings) → IsStated s
+    → AreTakenAlike (outcome dpi (Ask what) v m s) (outcome dpi (Ask what) v m (set_by_drivers s))
+unfolding outcome
+asking_alike dpi LeftOffset v m s stated = grind (arith, stated)
+asking_alike dpi other v m s stated = grind (arith, stated)
 
 pub outcome_alike : (dpi : Dpi) (operation : Operation) (v : Value) (m : Bool) (s : Settings) → IsStated s
     → AreTakenAlike (outcome dpi operation v m s) (outcome dpi operation v m (set_by_drivers s))
 unfolding outcome
-outcome_alike dpi op.Reset v m s stated = ((refl, (stated.0, refl, refl)), refl)
-outcome_alike dpi op.LineSpacing v m s stated = one_alike line_spacings v _ _ (refl, stated)
-outcome_alike dpi op.UnitOfMeasure v m s stated = one_alike units_of_measure v _ _ (refl, stated)
-outcome_alike dpi op.RasterResolution v m s stated = one_alike (resolutions dpi) v _ _ (refl, stated)
+outcome_alike dpi (Ask what) v m s stated = asking_alike dpi what v m s stated
+outcome_alike dpi LineSpacing v m s stated = one_alike line_spacings v _ _ (refl, stated)
+outcome_alike dpi UnitOfMeasure v m s stated = one_alike units_of_measure v _ _ (refl, stated)
+outcome_alike dpi RasterResolution v m s stated = one_alike (resolutions dpi) v _ _ (refl, stated)
 outcome_alike dpi other v m s stated = grind (arith, stated)

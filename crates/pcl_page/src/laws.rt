@@ -5,7 +5,7 @@ ghost use Rattle.pcl_base.specs.declared.dpi.Dpi.{Dpi};
 ghost use Rattle.pcl_base.specs.declared.profile.Profile.{Profile};
 ghost use Rattle.pcl_base.specs.declared.profile.Profile.TheVariants.{Stated, Drivers};
 ghost use Rattle.pcl_base.specs.declared.refusal.Refusal.{Refusal};
-ghost use Rattle.pcl_page.specs.Asks.{Asks};
+ghost use Rattle.pcl_page.specs.Asks.{Asks as AsksOfJob};
 ghost use Rattle.pcl_page.specs.Situation.{Sheet};
 ghost use Rattle.pcl_page.specs.Jobs.{HasPagesBy, HasAsksBy};
 ghost use Rattle.pcl_page.specs.Delivering.{IsRefusalBy};
@@ -20,9 +20,9 @@ pub fn some_meaning()
     some_outcome();
 }
 
-/// A job that the stated profile accepts is accepted by the drivers' profile too, with the same pages, and asks the same of the printer. A law:
-/// the call does nothing.
+/// A job that the stated profile accepts is accepted by the drivers' profile too, with the same pages, and asks the same of the printer. A
+/// law: the call does nothing.
 pub fn accepted_by_drivers()
     ensures pages { (dpi : Dpi) (job : List ℕ) (pages : List Sheet) → HasPagesBy Stated dpi job pages → HasPagesBy Drivers dpi job pages }
-    ensures asks { (dpi : Dpi) (job : List ℕ) (asks : Asks) → HasAsksBy Stated dpi job asks → HasAsksBy Drivers dpi job asks }
+    ensures asks { (dpi : Dpi) (job : List ℕ) (asks : AsksOfJob) → HasAsksBy Stated dpi job asks → HasAsksBy Drivers dpi job asks }
 {}
