@@ -10,6 +10,7 @@ pub mod Steps
 pub mod Starts
 pub mod Runs
 pub mod Again
+pub mod ByDrivers
 pub mod Loop
 pub mod Places
 pub mod Examples

@@ -2,6 +2,7 @@
 
 ghost use Rattle.std.specs.Prelude.{◌≡◌, ◌++◌, ◌⊎◌, [], List, ℕ, IfSome, IfOk, IfErr, OnOk};
 ghost use Rattle.pcl_base.specs.declared.profile.Profile.{Profile};
+ghost use Rattle.pcl_base.specs.declared.profile.Profile.TheVariants.{Stated, Drivers};
 ghost use Rattle.pcl_base.specs.declared.refusal.Refusal.{Refusal};
 ghost use Rattle.pcl_escape.specs.Said.{Said, views};
 ghost use Rattle.pcl_escape.specs.Pieces.{IsReading};
@@ -66,6 +67,11 @@ pub fn one_outcome()
 pub fn some_outcome()
     ensures { (profile : Profile) (job : List ℕ)
         → ((commands : List Said) × IsReading profile job commands) ⊎ ((fault : Refusal) × IsFault profile job fault) }
+{}
+
+/// What the stated profile reads, the drivers' reads too, as the same commands. A law: the call does nothing.
+pub fn read_by_drivers()
+    ensures { (job : List ℕ) (commands : List Said) → IsReading Stated job commands → IsReading Drivers job commands }
 {}
 
 /// Appends the commands of a job to an empty store, step by step, up to its first fault.

@@ -11,5 +11,5 @@ mod step;
 mod store;
 
 pub use command::Command;
-pub use job::{one_outcome, read_commands, read_job, some_outcome};
+pub use job::{one_outcome, read_by_drivers, read_commands, read_job, some_outcome};
 pub use list::{CommandList, Commands};

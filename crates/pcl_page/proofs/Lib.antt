@@ -13,3 +13,5 @@ pub mod Progress
 pub mod Jobs
 pub mod Printed
 pub mod Defining
+pub mod Profiles
+pub mod ByDrivers

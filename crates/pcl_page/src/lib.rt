@@ -20,6 +20,6 @@ pub use doubts::{Doubt, Readers};
 pub use job::{
     one_meaning, perform, perform_asked, perform_by, perform_doubted, read_pages, run, run_asked,
 };
-pub use laws::some_meaning;
+pub use laws::{accepted_by_drivers, some_meaning};
 pub use pcl_bitmap::{Page, PageSink};
 pub use pcl_env::Asked;

@@ -57,6 +57,7 @@ impl<'a> Performer<'a> {
     ghost use Rattle.pcl_escape.specs.Said.{Said, view};
     ghost use Rattle.pcl_env.specs.Offset.{lie_together};
     ghost use Rattle.pcl_env.specs.Outcome.{outcome};
+    ghost use Rattle.pcl_base.specs.declared.operation.Asking.TheVariants.{JobSeparation};
     ghost use Rattle.pcl_page.specs.Situation.{Situation, at_begin, is_marked, drawn, draw_refusal, asked_for, ink_of, filled_with, rectangle_mark, skipped_in, exited, put_back, with_lasting};
     ghost use Rattle.pcl_page.specs.Macros.{macro_ended};
     ghost use Rattle.std.specs.Prelude.{List};

@@ -1,6 +1,8 @@
 use super::assert_gives;
 use pcl_base::{JobFault, Kind, Name, Profile, Refusal, Sign, Value};
-use pcl_escape::{Command, CommandList, one_outcome, read_commands, read_job, some_outcome};
+use pcl_escape::{
+    Command, CommandList, one_outcome, read_by_drivers, read_commands, read_job, some_outcome,
+};
 use std::alloc::Global;
 use std::process::Abort;
 use std::test::Fail;
@@ -231,4 +233,5 @@ fn reads_by_profile(rt: HostRuntime) -> Result<(), Fail> {
 fn states_the_laws() {
     one_outcome();
     some_outcome();
+    read_by_drivers();
 }
