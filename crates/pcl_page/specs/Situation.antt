@@ -205,11 +205,15 @@ exited lines s = record s { asks = with_exit (record { pages = length s.pages; l
 abbrev pub put_back : Situation → Situation
 put_back s = without_temporary (record s { asks = restarted s.asks })
 
+-- the job is separated from the next
+abbrev pub separated : Value → Situation → Situation
+separated value s = record s { asks = with_separation (signed_whole value) s.asks }
+
 -- the next page is asked for on this side of a sheet; sides and a media type eject a marked page on some printers, and what only drivers
 -- ask holds for all of a page
 abbrev pub asked_for : Asking → Value → Situation → Situation
 asked_for SheetSide value s = record s { asks = with_side (signed_whole value) s.asks }
-asked_for JobSeparation value s = with_lasting (is_marked s) (record s { asks = with_separation (signed_whole value) s.asks })
+asked_for JobSeparation value s = with_lasting (is_marked s) (separated value s)
 asked_for Sides value s = with_lasting (is_marked s) s
 asked_for MediaType value s = with_lasting (is_marked s) s
 asked_for other value s = if is_stated other then s else with_lasting (is_marked s) s

@@ -57,8 +57,7 @@ impl<'a> Performer<'a> {
     ghost use Rattle.pcl_escape.specs.Said.{Said, view};
     ghost use Rattle.pcl_env.specs.Offset.{lie_together};
     ghost use Rattle.pcl_env.specs.Outcome.{outcome};
-    ghost use Rattle.pcl_base.specs.declared.operation.Asking.TheVariants.{JobSeparation};
-    ghost use Rattle.pcl_page.specs.Situation.{Situation, at_begin, is_marked, drawn, draw_refusal, asked_for, ink_of, filled_with, rectangle_mark, skipped_in, exited, put_back, with_lasting};
+    ghost use Rattle.pcl_page.specs.Situation.{Situation, at_begin, is_marked, drawn, draw_refusal, separated, asked_for, ink_of, filled_with, rectangle_mark, skipped_in, exited, put_back, with_lasting};
     ghost use Rattle.pcl_page.specs.Macros.{macro_ended};
     ghost use Rattle.std.specs.Prelude.{List};
     ghost use Rattle.pcl_fonts.specs.History.{FontEvent, has_permanent};
@@ -294,7 +293,10 @@ impl<'a> Performer<'a> {
             Asking::SheetSide => self.asks.ask_side(i64::from(value.whole())),
             Asking::Sides => self.last_if(self.is_marked),
             Asking::MediaType => self.last_if(self.is_marked),
-            Asking::JobSeparation => self.separate(value),
+            Asking::JobSeparation => {
+                self.separate(value);
+                self.last_if(self.is_marked);
+            }
             Asking::TextScale
             | Asking::PrintQuality
             | Asking::Shingling
@@ -308,12 +310,11 @@ impl<'a> Performer<'a> {
         }
     }
 
-    /// Separates jobs; on a marked page that isn't the job's end.
+    /// Separates the job from the next.
     fn separate(&mut self, value: Value)
-        ensures { (dpi : Dpi) (s : Situation) → IsIn dpi s self.old → IsIn dpi (asked_for JobSeparation value s) self.new }
+        ensures { (dpi : Dpi) (s : Situation) → IsIn dpi s self.old → IsIn dpi (separated value s) self.new }
     {
         self.asks.separate(i64::from(value.whole()));
-        self.last_if(self.is_marked);
     }
 
     /// Does what a universal exit with these lines does but for the reset of the settings.
