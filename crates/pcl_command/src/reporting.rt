@@ -105,6 +105,8 @@ fn doubt_name(doubt: Doubt) -> &'static [u8] {
         Doubt::PartOfUnit => b"a part of a unit",
         Doubt::Ejection => b"sides, a media type or a page length on a page with marks",
         Doubt::Edge => b"ink past an edge of the page",
+        Doubt::OpenRaster => b"where a raster ends, at a quality of printing",
+        Doubt::RowStart => b"where a row begins, after a raster away from the left edge",
         Doubt::TextScale => b"a text scale that isn't 0",
         Doubt::Back => b"the side of a sheet after a page that is moved",
     }

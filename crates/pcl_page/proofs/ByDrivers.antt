@@ -21,7 +21,7 @@ AreLedAlike (Err kind) other = Unit {0}
 AreLedAlike (Ok s) (Err kind) = ⊥
 AreLedAlike (Ok s) (Ok other) = StandAlike s other
 
--- wherever it begins
+-- the same from each situation by the stated profile
 abbrev LeadsAlike : (Situation → Result Situation Kind) → Type 0
 LeadsAlike next = (s : Situation) → IsStated s.settings → AreLedAlike (next s) (next (by_drivers s))
 
@@ -175,7 +175,7 @@ command_alike dpi place command s stated = by_test (is_some s.begun) (keeping_of
 abbrev run_by_drivers : Run → Run
 run_by_drivers run = record run { saved = option_map set_by_drivers run.saved }
 
--- what is set again at its end was set by the stated profile
+-- what is set again at its end, if anything, was set by the stated profile
 abbrev IsSavedStated : Option Settings → Type 0
 IsSavedStated None = Unit {0}
 IsSavedStated (Some saved) = IsStated saved
@@ -215,7 +215,7 @@ EndsAlike (Some why) s other = Unit {0}
 abbrev ArePerformedAlike : Performance → Performance → Type 0
 ArePerformedAlike one other = EndsAlike one.refusal one.situation other
 
--- wherever it begins
+-- the same from each situation by the stated profile
 abbrev PerformsAlike : (Situation → Performance) → (Situation → Performance) → Type 0
 PerformsAlike next other = (s : Situation) → IsStated s.settings → ArePerformedAlike (next s) (other (by_drivers s))
 

@@ -26,7 +26,7 @@ AreTakenAlike (Some done) (Some other) = AreSetAlike done.0 other.0 × (other.1 
 
 -- ---- commands
 
--- of some numbers
+-- one of some numbers
 one_alike : (numbers : List ℕ) (v : Value) (s other : Settings) → AreSetAlike s other
     → AreTakenAlike (one_of numbers v s) (one_of numbers v other)
 one_alike numbers v s other alike = grind (arith, alike)

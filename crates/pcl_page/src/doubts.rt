@@ -40,12 +40,16 @@ pub enum Doubt {
     ColumnWidth,
     /// A tab, or a move by rows, past the end of the page.
     PastEnd,
-    /// A part of a unit of 1/7200 inch, or of a PCL unit.
+    /// A part of a unit of 1/7200 inch, or of a PCL unit: in a move, a size, or an advance.
     PartOfUnit,
     /// Sides, a media type or a page length on a marked page, which may eject it.
     Ejection,
     /// Ink past the left or the right edge of the page, half a dot past its lower one, or past the edge to which the page is moved.
     Edge,
+    /// A quality of printing, or a text scale, that ends a raster, which may go on.
+    OpenRaster,
+    /// A row outside a raster, after one that started away from the left edge.
+    RowStart,
     /// A text scale that isn't 0, which may scale letters, or is the print mode of a DeskJet, which may not know soft fonts.
     TextScale,
     /// Sides, the side of the sheet or a paper source that is asked for after a page of a sheet that may have a back, with an offset.
@@ -78,6 +82,8 @@ pub struct Doubts {
     is_low: bool,
     /// Whether the seed row may have dots that were cleared.
     is_seed_open: bool,
+    /// Whether a row outside a raster may begin where the last raster did, away from the left edge.
+    is_left_open: bool,
     /// Whether the column width may be that of the font in use.
     is_width_open: bool,
     /// Why the line spacing may be another.
@@ -102,6 +108,7 @@ impl Doubts {
             has_raster: false,
             is_low: false,
             is_seed_open: false,
+            is_left_open: false,
             is_width_open: false,
             spacing: None,
             rows: None,
@@ -150,6 +157,7 @@ impl Doubts {
         match operation {
             Operation::Reset | Operation::UniversalExit => self.note_reset(),
             Operation::PageSize => self.settle(),
+            Operation::EndRasterResetMethod => self.is_left_open = false,
             Operation::CarriageReturn => self.column = None,
             Operation::TopMargin if !is_marked => self.note_margin(was_home),
             Operation::Move(axis, unit) => self.note_move(axis, unit, value.sign, environment),
@@ -248,6 +256,7 @@ impl Doubts {
     fn note_reset(&mut self) {
         self.has_offset = false;
         self.has_back = false;
+        self.is_left_open = false;
         self.settle();
     }
 
@@ -338,8 +347,9 @@ impl Doubts {
         }
     }
 
-    /// Looks at a raster that ends.
-    pub fn note_end(&mut self, raster: &Raster) {
+    /// Looks at a raster that a command ends.
+    pub fn note_end(&mut self, operation: Operation, raster: &Raster) {
+        self.note_if(may_go_on(operation), Doubt::OpenRaster);
         self.is_seed_open = false;
         self.rows = None;
         if raster.is_short() {
@@ -357,6 +367,7 @@ impl Doubts {
         self.rows = SheetRows::start(left, self.is_low, environment, dpi);
         self.is_seed_open = false;
         self.raster = self.row.or(between_dots(environment.y(), dpi));
+        self.is_left_open = left != 0;
         if is_at_cursor {
             let column = self.column.or(between_dots(environment.x(), dpi));
             self.raster = self.raster.or(column);
@@ -374,6 +385,7 @@ impl Doubts {
     /// Looks at a row of the raster that has begun, or of one that starts at the page's left edge.
     pub fn note_row(&mut self, bytes: &[u8], raster: Option<&Raster>, environment: &Env, dpi: Dpi) {
         if raster.is_none() {
+            self.note_if(self.is_left_open, Doubt::RowStart);
             self.note_start(0, environment, false, dpi);
         }
         self.note_any(self.raster);
@@ -426,6 +438,13 @@ impl Doubts {
         if !proportional {
             self.note_column();
         }
+        let advance = if proportional {
+            i64::from(glyph.delta) * ADVANCE_UNITS
+        } else {
+            i64::from(environment.hmi())
+        };
+        let is_whole = advance % i64::from(environment.pcl_unit().max(1)) == 0;
+        self.note_if(!is_whole, Doubt::PartOfUnit);
         if glyph.width == 0 || glyph.height == 0 {
             return;
         }
@@ -460,6 +479,16 @@ impl Doubts {
 /// Whether the sheet of a page that was asked with this may have a back: it does where the printer is set so and no sides are said.
 fn may_have_back(asked: Asked) -> bool {
     asked.sides != Some(0)
+}
+
+/// Whether a raster may go on after a command that ends it: printers may not know the command.
+fn may_go_on(operation: Operation) -> bool {
+    matches!(
+        operation,
+        Operation::Ask(
+            Asking::TextScale | Asking::PrintQuality | Asking::Depletion | Asking::RasterQuality
+        )
+    )
 }
 
 /// Whether a command ejects a page that is marked.
@@ -580,8 +609,10 @@ fn has_rest(value: Value, length: u32) -> bool {
     u64::from(value.parts) * u64::from(length) % u64::from(WHOLE) != 0
 }
 
-/// Units of 1/7200 inch in a bit of a pattern.
+/// Units of 1/7200 inch in a bit of a pattern, and in a quarter of one, in which advances are counted.
 const BIT_UNITS: i64 = 24;
+
+const ADVANCE_UNITS: i64 = 6;
 
 /// Whether a place lies half a dot past a dot or more.
 fn is_half_past_or_more(place: u32, dpi: Dpi) -> bool {

@@ -138,7 +138,7 @@ impl<'a> Performer<'a> {
             return;
         }
         if let Some(raster) = &self.raster {
-            self.doubts.note_end(raster);
+            self.doubts.note_end(operation, raster);
             let (x, y) = raster.below(dpi);
             self.environment.move_to(x, y);
         }
