@@ -11,10 +11,12 @@ same_commands : {profile : Profile} {job : List ℕ} {commands others : List Sai
     → IsReading profile job others → commands ≡ others
 same_commands r s = let a = reading_again r in let b = reading_again s in cc
 
-same_pages : {profile : Profile} {dpi : Dpi} {job : List ℕ} {pages others : List Sheet} → HasPagesBy profile dpi job pages → HasPagesBy profile dpi job others → pages ≡ others
+same_pages : {profile : Profile} {dpi : Dpi} {job : List ℕ} {pages others : List Sheet} → HasPagesBy profile dpi job pages
+    → HasPagesBy profile dpi job others → pages ≡ others
 same_pages p q = p.ejected ∙ rw (same_commands p.reading q.reading) (sym q.ejected)
 
-not_refused : {profile : Profile} (dpi : Dpi) (job : List ℕ) {pages : List Sheet} (refusal : Refusal) → HasPagesBy profile dpi job pages → IsRefusalBy profile dpi job refusal → ⊥
+not_refused : {profile : Profile} (dpi : Dpi) (job : List ℕ) {pages : List Sheet} (refusal : Refusal) → HasPagesBy profile dpi job pages
+    → IsRefusalBy profile dpi job refusal → ⊥
 not_refused dpi job refusal p (inl f) = let a = reading_again p.reading in let b = fault_found_of f in absurd cc
 not_refused dpi job refusal p (inr s) =
     let accepted = rw (same_commands p.reading s.reading) at p.accepted in let refused = s.refused in absurd cc
@@ -32,7 +34,8 @@ pub record Numbers (profile : Profile) (dpi : Dpi) (job : List ℕ) (number : �
   meaning : HasPagesBy profile dpi job (before ++ page ∷ after)
   counted : number ≡ length before + 1
 
-has_size : {profile : Profile} {dpi : Dpi} {job : List ℕ} {number : ℕ} {page : Sheet} {picture : Picture} → Numbers profile dpi job number page
+has_size : {profile : Profile} {dpi : Dpi} {job : List ℕ} {number : ℕ} {page : Sheet} {picture : Picture}
+    → Numbers profile dpi job number page
     → HasPage profile dpi job number picture → (picture.size ≡ page.size) × (picture.dpi ≡ dpi)
 has_size {dpi = dpi} {number = number} {page = page} {picture = picture} n h =
     let place : number - 1 ≡ length n.before = omega (arith, n.counted) in
@@ -42,7 +45,8 @@ has_size {dpi = dpi} {number = number} {page = page} {picture = picture} n h =
       ap (λ (p : Picture). p.dpi) h.dots ∙ h.page.dpi_is ∙ h.shows.resolution,
     )
 
-is_there : {profile : Profile} {dpi : Dpi} {job : List ℕ} {number : ℕ} {page : Sheet} → Numbers profile dpi job number page → HasNoPage profile dpi job number → ⊥
+is_there : {profile : Profile} {dpi : Dpi} {job : List ℕ} {number : ℕ} {page : Sheet} → Numbers profile dpi job number page
+    → HasNoPage profile dpi job number → ⊥
 is_there {number = number} {page = page} n h =
     let long : length h.pages ≡ length n.before + length (page ∷ n.after) =
     ap length (same_pages h.meaning n.meaning) ∙ length-append n.before (page ∷ n.after) in
@@ -93,7 +97,8 @@ both_number profile dpi first second number read d =
       size = f.differ.0;
     }
 
-pub page_fails : {profile : Profile} (dpi : Dpi) (job first second : List ℕ) (number : ℕ) {page : Sheet} (fault : Fault) → Numbers profile dpi job number page
+pub page_fails : {profile : Profile} (dpi : Dpi) (job first second : List ℕ) (number : ℕ) {page : Sheet} (fault : Fault)
+    → Numbers profile dpi job number page
     → IsPageDots profile dpi job number (Err fault) → IsDifferingPage dpi first second number (Err fault)
 page_fails dpi job first second number Memory n p = tt
 page_fails dpi job first second number (Refused refusal) n p = absurd (not_refused dpi job refusal n.meaning p)
@@ -101,7 +106,8 @@ page_fails dpi job first second number NoSuchPage n p = absurd (is_there n p)
 page_fails dpi job first second number other n p = absurd p
 
 pub same_size : (profile : Profile) (dpi : Dpi) (first second : List ℕ) (number : ℕ) {one other : Picture}
-    → AreReadBy profile dpi first second → DifferInDots dpi first second number → HasPage profile dpi first number one → HasPage profile dpi second number other → (one.size ≡ other.size) × (one.dpi ≡ other.dpi)
+    → AreReadBy profile dpi first second → DifferInDots dpi first second number → HasPage profile dpi first number one
+    → HasPage profile dpi second number other → (one.size ≡ other.size) × (one.dpi ≡ other.dpi)
 same_size profile dpi first second number read d p q =
     let both = both_number profile dpi first second number read d in
     let one_is = has_size both.page_is p in let other_is = has_size both.other_is q in (cc both.size, cc)

@@ -34,7 +34,8 @@ abbrev pub GoesOn : Option Prefix → List ℕ → Type 0
 GoesOn inside bytes = (length bytes == 0 && not (is_some inside)) ≡ false
 
 -- each step outside a sequence takes a byte
-start_shorter : {profile : Profile} {at : ℕ} {bytes : List ℕ} {reads : Reads} → Outside profile at bytes (Ok reads) → length reads.rest < length bytes
+start_shorter : {profile : Profile} {at : ℕ} {bytes : List ℕ} {reads : Reads} → Outside profile at bytes (Ok reads)
+    → length reads.rest < length bytes
 start_shorter {profile} (whole_piece piece rest is alone) = let long = piece_long profile piece rest is in simp length-append (omega arith)
 start_shorter (sequence prefix more same is n inside stays) = let shorter = inside_shorter inside in simp length-append (omega arith)
 
@@ -43,7 +44,8 @@ pub step_shorter : (profile : Profile) (inside : Option Prefix) (at : ℕ) (byte
     → step_at profile inside at bytes ≡ Ok reads → length reads.rest < length bytes
 step_shorter profile None at [] goes e = absurd cc
 step_shorter profile None at (byte ∷ bytes) goes e = start_shorter (rw e at (start_step profile {at = at} {byte = byte} {rest = bytes}))
-step_shorter profile (Some prefix) at bytes goes e = inside_shorter (rw e at (parameter_step profile {prefix = prefix} {at = at} {bytes = bytes}))
+step_shorter profile (Some prefix) at bytes goes e =
+    inside_shorter (rw e at (parameter_step profile {prefix = prefix} {at = at} {bytes = bytes}))
 
 -- two ways to go on that agree on what the step read
 after_same : (read : Result Reads Refusal) (f g : Reads → Result (List Said) Refusal)
@@ -115,7 +117,8 @@ all_commands prefix at begin (parameter ∷ middle) end bytes =
     rw (all_commands prefix (begin + length (parameter_bytes parameter)) (begin + length (parameter_bytes parameter)) middle end bytes) refl
 
 -- the steps from middle parameters on
-middle_on : (profile : Profile) (prefix : Prefix) (middle : List Parameter) (at begin : ℕ) (bytes : List ℕ) → AllByRecursion (IsMiddle profile prefix) middle
+middle_on : (profile : Profile) (prefix : Prefix) (middle : List Parameter) (at begin : ℕ) (bytes : List ℕ)
+    → AllByRecursion (IsMiddle profile prefix) middle
     → steps_in profile prefix at begin (flat_map parameter_bytes middle ++ bytes) ≡ with_front (middle_commands prefix at begin middle)
     (steps_in profile prefix (place_from at begin middle) (begin + length (flat_map parameter_bytes middle)) bytes)
 middle_on profile prefix [] at begin bytes each = rw (add-zero, no_front) refl
@@ -127,7 +130,8 @@ middle_on profile prefix (parameter ∷ middle) at begin bytes each =
     (rw (place_of begin (parameter_bytes parameter), on, middle_on profile prefix middle next next bytes each.1, with_fronts, place_further) refl)
 
 -- the steps from ESC on are those from the first parameter on, whose command has the place of ESC
-first_on : (profile : Profile) (prefix : Prefix) (at : ℕ) {bytes : List ℕ} {read : Result Reads Refusal} → IsPrefix prefix → IsUngrouped prefix.group bytes
+first_on : (profile : Profile) (prefix : Prefix) (at : ℕ) {bytes : List ℕ} {read : Result Reads Refusal} → IsPrefix prefix
+    → IsUngrouped prefix.group bytes
     → Inside profile prefix at bytes read → Stays read
     → all_at profile None at (27 ∷ (prefix_bytes prefix ++ bytes)) ≡ steps_in profile prefix at (first_place at prefix) bytes
 first_on profile prefix at {bytes} {read} is apart inside stays =
@@ -136,7 +140,8 @@ first_on profile prefix at {bytes} {read} is apart inside stays =
     (after_same read _ _ (λ reads f. rw (place_in at prefix bytes (inside_shorter (rw f at inside))) refl)))
 
 -- a sequence begins with a middle parameter, or with what is behind these
-sequence_on : (profile : Profile) {prefix : Prefix} (at : ℕ) (middle : List Parameter) {bytes : List ℕ} {read : Result Reads Refusal} → IsPrefix prefix
+sequence_on : (profile : Profile) {prefix : Prefix} (at : ℕ) (middle : List Parameter) {bytes : List ℕ} {read : Result Reads Refusal}
+    → IsPrefix prefix
     → IsUngrouped prefix.group bytes → AllByRecursion (IsMiddle profile prefix) middle
     → Inside profile prefix (place_from at (first_place at prefix) middle) bytes read → Stays read
     → all_at profile None at (27 ∷ (prefix_bytes prefix ++ (flat_map parameter_bytes middle ++ bytes)))
@@ -198,7 +203,8 @@ pieces_again profile (piece ∷ pieces) at behind each =
     (rw (pieces_again profile pieces (at + length (spelling piece)) behind each.1, with_fronts, place_further) refl)
 
 -- the fault at a place outside sequences is found
-fault_found : {profile : Profile} {at : ℕ} {bytes : List ℕ} {refusal : Refusal} → Fails profile at bytes refusal → all_at profile None at bytes ≡ Err refusal
+fault_found : {profile : Profile} {at : ℕ} {bytes : List ℕ} {refusal : Refusal} → Fails profile at bytes refusal
+    → all_at profile None at bytes ≡ Err refusal
 unfolding outcome start_at sequence_at prefix_at named_at
 fault_found {profile} {at} (in_parameter prefix middle is apart each f) =
     rw (sequence_on profile at middle is apart each (is_wrong (rw (← place_in_sequence at prefix middle) at f)) tt) refl
@@ -215,7 +221,8 @@ fault_found (bad_group p u g) = grind (arith, nat_tests)
 -- ---- whole jobs
 
 -- a reading of the job is what is read
-pub reading_again : {profile : Profile} {job : List ℕ} {commands : List Said} → IsReading profile job commands → outcome_of profile job ≡ Ok commands
+pub reading_again : {profile : Profile} {job : List ℕ} {commands : List Said} → IsReading profile job commands
+    → outcome_of profile job ≡ Ok commands
 unfolding outcome
 reading_again {profile} r = rw (r.spelled, r.said) (simp append-nil at (pieces_again profile r.pieces 0 [] r.each))
 
@@ -224,17 +231,20 @@ pub fault_found_of : {profile : Profile} {job : List ℕ} {fault : Refusal} → 
 fault_found_of {profile} f = rw (f.spelled, pieces_again profile f.front 0 f.behind f.each, zero-add, fault_found f.fails) refl
 
 -- each job has the one or the other
-known : {profile : Profile} {job : List ℕ} → Reading profile 0 job → ((commands : List Said) × IsReading profile job commands) ⊎ ((fault : Refusal) × IsFault profile job fault)
+known : {profile : Profile} {job : List ℕ} → Reading profile 0 job
+    → ((commands : List Said) × IsReading profile job commands) ⊎ ((fault : Refusal) × IsFault profile job fault)
 known (reading pieces behind each no_more) =
     inl (commands_of 0 pieces, record { pieces = pieces; each = each; spelled = append-nil (flat_map spelling pieces); said = refl })
 known (reading pieces behind each (first_fault fault f)) =
     inr (fault, record { front = pieces; each = each; behind = behind; spelled = refl; fails = rw zero-add at f })
 
-pub job_known : (profile : Profile) (job : List ℕ) → ((commands : List Said) × IsReading profile job commands) ⊎ ((fault : Refusal) × IsFault profile job fault)
+pub job_known : (profile : Profile) (job : List ℕ)
+    → ((commands : List Said) × IsReading profile job commands) ⊎ ((fault : Refusal) × IsFault profile job fault)
 job_known profile job = known (is_read profile (suc (length job)) 0 job (omega arith))
 
 -- so what is read says what the job is
-pub reading_of : {profile : Profile} {job : List ℕ} {commands : List Said} → outcome_of profile job ≡ Ok commands → IsReading profile job commands
+pub reading_of : {profile : Profile} {job : List ℕ} {commands : List Said} → outcome_of profile job ≡ Ok commands
+    → IsReading profile job commands
 reading_of {profile} {job} {commands} e = elim (job_known profile job) [
   | inl r ↦ let same : r.0 ≡ commands = (let again = reading_again r.1 in cc) in rw same at r.1
   | inr f ↦ absurd (let found = fault_found_of f.1 in cc)
@@ -247,7 +257,8 @@ fault_of {profile} job fault e = elim (job_known profile job) [
 ]
 
 -- what yields a fault finds the first one
-pub fault_of_scan : (profile : Profile) (job : List ℕ) (fault : JobFault) (commands : List Said) → Yields (Err fault) commands (outcome_of profile job)
+pub fault_of_scan : (profile : Profile) (job : List ℕ) (fault : JobFault) (commands : List Said)
+    → Yields (Err fault) commands (outcome_of profile job)
     → IsFaultOf profile job fault
 fault_of_scan profile job (Refused fault) commands y = fault_of job fault y
 fault_of_scan profile job Memory commands y = tt

@@ -15,7 +15,8 @@ operation_takes : (profile : Profile) (operation : Option Operation) (letter : �
 operation_takes profile operation letter value e = record { fits = grind (arith, nat_tests); again = λ more h. grind (arith, nat_tests) }
 
 -- what the checks of a parameter took, they take of any bytes that are enough
-pub checks_take : (profile : Profile) (name : Name) (letter : ℕ) (value : Value) {left len : ℕ} → parameter_checks profile name letter value left ≡ Ok len
+pub checks_take : (profile : Profile) (name : Name) (letter : ℕ) (value : Value) {left len : ℕ}
+    → parameter_checks profile name letter value left ≡ Ok len
     → Take (parameter_checks profile name letter value) left len
 unfolding parameter_checks
 checks_take profile name letter value e = elim (cases_Bool (in_range value)) [
@@ -35,10 +36,12 @@ operation_on profile operation letter value left g e = grind (arith, nat_tests)
 pub none_behind : (profile : Profile) (name : Name) (letter : ℕ) (value : Value) (left : ℕ) {len : ℕ} → goes_on letter ≡ true
     → parameter_checks profile name letter value left ≡ Ok len → len ≡ 0
 unfolding parameter_checks
-none_behind profile name letter value left {len} g e = grind (arith, operation_on profile (operation_of name) letter value left {len = len} g)
+none_behind profile name letter value left {len} g e =
+    grind (arith, operation_on profile (operation_of name) letter value left {len = len} g)
 
 -- ---- a universal exit has no data
 
-pub exit_takes_none : (profile : Profile) (letter : ℕ) (value : Value) (left : ℕ) {len : ℕ} → parameter_checks profile exit_name letter value left ≡ Ok len → len ≡ 0
+pub exit_takes_none : (profile : Profile) (letter : ℕ) (value : Value) (left : ℕ) {len : ℕ}
+    → parameter_checks profile exit_name letter value left ≡ Ok len → len ≡ 0
 unfolding parameter_checks operation_of
 exit_takes_none profile letter value left e = grind arith

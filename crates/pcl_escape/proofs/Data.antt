@@ -32,6 +32,8 @@ abbrev pub counted_checks : ℕ → ℕ → ℕ → Result ℕ Kind
 counted_checks letter n left = if goes_on letter then Err BadSequence else (if nat_lt left n then Err Truncated else Ok n)
 
 -- they are the checks of a command that takes data
-pub counted : (profile : Profile) {named : Option Operation} {operation : Operation} {value : Value} {n : ℕ} (letter left : ℕ) → Some operation ≡ named
-    → has profile operation ≡ true → takes_data operation ≡ true → Counts value n → n ≢ 0 → operation_checks profile named letter value left ≡ counted_checks letter n left
+pub counted : (profile : Profile) {named : Option Operation} {operation : Operation} {value : Value} {n : ℕ} (letter left : ℕ)
+    → Some operation ≡ named
+    → has profile operation ≡ true → takes_data operation ≡ true → Counts value n → n ≢ 0
+    → operation_checks profile named letter value left ≡ counted_checks letter n left
 counted profile {n = n} letter left e h t c some = rw (← e, h, t, c.not_below, c.whole, ne_eqb n 0 some) refl

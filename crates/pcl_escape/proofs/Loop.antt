@@ -9,7 +9,8 @@ abbrev pub so_far : Profile → List Said → ℕ → Option Prefix → List ℕ
 so_far profile front total inside rest = with_front front (all_at profile inside (total - length rest) rest)
 
 -- a command goes over to what was read before
-pub one_more : (profile : Profile) (front : List Said) (total : ℕ) (inside : Option Prefix) (rest : List ℕ) (reads : Reads) → length rest ≤ total
+pub one_more : (profile : Profile) (front : List Said) (total : ℕ) (inside : Option Prefix) (rest : List ℕ) (reads : Reads)
+    → length rest ≤ total
     → GoesOn inside rest → step_at profile inside (total - length rest) rest ≡ Ok reads
     → so_far profile (front ++ commands_said reads.said) total reads.inside reads.rest ≡ so_far profile front total inside rest
 one_more profile front total inside rest reads h goes e =
@@ -18,12 +19,14 @@ one_more profile front total inside rest reads h goes e =
     rw (one_step profile inside (total - length rest) rest goes, e, place) (sym (with_fronts front _ _))
 
 -- a fault of a step is the job's
-pub stops_at : (profile : Profile) (front : List Said) (total : ℕ) (inside : Option Prefix) (rest : List ℕ) {fault : Refusal} → GoesOn inside rest
+pub stops_at : (profile : Profile) (front : List Said) (total : ℕ) (inside : Option Prefix) (rest : List ℕ) {fault : Refusal}
+    → GoesOn inside rest
     → step_at profile inside (total - length rest) rest ≡ Err fault → so_far profile front total inside rest ≡ Err fault
 stops_at profile front total inside rest goes e = rw (one_step profile inside (total - length rest) rest goes, e) refl
 
 -- at the end all was read
-pub is_done : (profile : Profile) (front : List Said) (total : ℕ) (inside : Option Prefix) (rest : List ℕ) → true ≡ (length rest == 0) → false ≡ is_some inside
+pub is_done : (profile : Profile) (front : List Said) (total : ℕ) (inside : Option Prefix) (rest : List ℕ) → true ≡ (length rest == 0)
+    → false ≡ is_some inside
     → so_far profile front total inside rest ≡ Ok front
 unfolding outcome
 is_done profile front total inside rest e i = grind (arith, nat_tests, append-nil front)

@@ -4,7 +4,8 @@ use Rattle.pcl_escape.proofs.Names.{Profile, then_some, Truncated, Value, refusa
 use Rattle.pcl_escape.specs.inner.Scan.{parameter_at}
 
 -- nothing is after the field at the front
-pub nothing_behind : (profile : Profile) (prefix : Prefix) (at : ℕ) (bytes : List ℕ) {field : Spelled} (rest : List ℕ) → (field, rest) ≡ field_at bytes
+pub nothing_behind : (profile : Profile) (prefix : Prefix) (at : ℕ) (bytes : List ℕ) {field : Spelled} (rest : List ℕ)
+    → (field, rest) ≡ field_at bytes
     → length rest ≡ 0 → parameter_at profile prefix at bytes ≡ Err (refusal Truncated at (prefix_name prefix))
 unfolding parameter_at
 nothing_behind profile prefix at bytes rest e z = rw (← e) (grind arith)

@@ -40,7 +40,8 @@ parameter_told prefix letter l =
     elim prefix.group as (λ group. IsTold (name_with_letter prefix.parameterized group upper)) [ None ↦ rw some refl | _ ↦ rw some refl ]
 
 -- inside a sequence
-inside_stands : {profile : Profile} {prefix : Prefix} {at : ℕ} {bytes : List ℕ} {read : Result Reads Refusal} → Inside profile prefix at bytes read → Stands bytes read
+inside_stands : {profile : Profile} {prefix : Prefix} {at : ℕ} {bytes : List ℕ} {read : Result Reads Refusal}
+    → Inside profile prefix at bytes read → Stands bytes read
 inside_stands {prefix} (is_middle parameter rest is) =
     let goes : may_go_on prefix parameter.letter ≡ true = is.letter in
     record { front = parameter_bytes parameter; joined = refl; told = parameter_told prefix parameter.letter (grind arith) }
@@ -50,7 +51,8 @@ inside_stands {prefix} (is_end parameter sent rest is) =
 inside_stands (is_wrong f) = tt
 
 -- outside sequences
-outside_stands : {profile : Profile} {at : ℕ} {bytes : List ℕ} {read : Result Reads Refusal} → Outside profile at bytes read → Stands bytes read
+outside_stands : {profile : Profile} {at : ℕ} {bytes : List ℕ} {read : Result Reads Refusal} → Outside profile at bytes read
+    → Stands bytes read
 outside_stands (whole_piece (silent byte) rest is alone) = record { front = byte ∷ []; joined = refl; told = tt }
 outside_stands (whole_piece (control code) rest is alone) = record { front = code ∷ []; joined = refl; told = refl }
 outside_stands (whole_piece (text bytes) rest is alone) = record { front = []; joined = refl; told = refl }

@@ -14,7 +14,8 @@ pub data Last (profile : Profile) (at : ℕ) : List ℕ → Type 0 where
 
 -- bytes outside sequences are whole pieces and what stands after them
 pub data Reading (profile : Profile) (at : ℕ) : List ℕ → Type 0 where
-  reading : (pieces : List Piece) (behind : List ℕ) → ArePieces profile pieces behind → Last profile (at + length (flat_map spelling pieces)) behind
+  reading : (pieces : List Piece) (behind : List ℕ) → ArePieces profile pieces behind
+      → Last profile (at + length (flat_map spelling pieces)) behind
       → Reading profile at (flat_map spelling pieces ++ behind)
 
 -- ---- one more in front
@@ -24,7 +25,8 @@ pub place_further : (at : ℕ) (front more : List ℕ) → (at + length front) +
 place_further at front more = simp length-append (omega arith)
 
 -- a piece in front of a reading
-piece_first : (profile : Profile) (piece : Piece) {at : ℕ} {bytes : List ℕ} → IsPiece profile piece bytes → Reading profile (at + length (spelling piece)) bytes
+piece_first : (profile : Profile) (piece : Piece) {at : ℕ} {bytes : List ℕ} → IsPiece profile piece bytes
+    → Reading profile (at + length (spelling piece)) bytes
     → Reading profile at (spelling piece ++ bytes)
 piece_first profile piece is (reading pieces behind each last) =
     rw (← append_assoc (spelling piece)) (reading (piece ∷ pieces) behind (is, each) (rw place_further at last))
@@ -37,7 +39,8 @@ failing {at} {bytes} {refusal} f = reading [] bytes tt (first_fault refusal (rw 
 pub grouped_any : (group : Option ℕ) (bytes : List ℕ) → is_some group ≡ true → IsUngrouped group bytes
 grouped_any group bytes g = grind arith
 
-middle_more : {profile : Profile} {prefix : Prefix} (middle : List Parameter) {parameter : Parameter} → AllByRecursion (IsMiddle profile prefix) middle
+middle_more : {profile : Profile} {prefix : Prefix} (middle : List Parameter) {parameter : Parameter}
+    → AllByRecursion (IsMiddle profile prefix) middle
     → IsMiddle profile prefix parameter → AllByRecursion (IsMiddle profile prefix) (middle ++ parameter ∷ [])
 middle_more [] each is = (is, tt)
 middle_more (first ∷ middle) each is = (each.0, middle_more middle each.1 is)
@@ -48,7 +51,8 @@ Shorter profile bytes = (at : ℕ) (more : List ℕ) → length more < length by
 
 -- ESC, a prefix and middle parameters in front of what a step reads there
 sequence_first : {profile : Profile} (n : ℕ) (prefix : Prefix) (at : ℕ) (middle : List Parameter) {bytes : List ℕ} {read : Result Reads Refusal}
-    → length bytes < n → Shorter profile bytes → IsPrefix prefix → IsUngrouped prefix.group bytes → AllByRecursion (IsMiddle profile prefix) middle
+    → length bytes < n → Shorter profile bytes → IsPrefix prefix → IsUngrouped prefix.group bytes
+    → AllByRecursion (IsMiddle profile prefix) middle
     → Inside profile prefix (place_behind at prefix middle) bytes read → Stays read
     → Reading profile at (27 ∷ (prefix_bytes prefix ++ (flat_map parameter_bytes middle ++ bytes)))
 sequence_first zero prefix at middle h next is apart each inside stays = absurd (omega arith)
@@ -65,7 +69,8 @@ sequence_first {profile} (suc n) prefix at middle h next is apart each (is_end p
 sequence_first (suc n) prefix at middle h next is apart each (is_wrong f) stays = failing (in_parameter prefix middle is apart each f)
 
 -- a step outside sequences, and what the bytes after it are, say what all the bytes are
-reading_after : {profile : Profile} {at : ℕ} {bytes : List ℕ} {read : Result Reads Refusal} → Outside profile at bytes read → Shorter profile bytes → Reading profile at bytes
+reading_after : {profile : Profile} {at : ℕ} {bytes : List ℕ} {read : Result Reads Refusal} → Outside profile at bytes read
+    → Shorter profile bytes → Reading profile at bytes
 reading_after {profile} (whole_piece piece more is alone) next =
     let long = piece_long profile piece more is in piece_first profile piece is (next _ more (simp length-append (omega arith)))
 reading_after {at} (sequence prefix bytes read is apart inside stays) next =
@@ -77,4 +82,5 @@ reading_after (wrong f) next = failing f
 pub is_read : (profile : Profile) (n at : ℕ) (bytes : List ℕ) → length bytes < n → Reading profile at bytes
 is_read profile zero at bytes h = absurd (omega arith)
 is_read profile (suc n) at [] h = reading [] [] tt no_more
-is_read profile (suc n) at (byte ∷ bytes) h = reading_after (start_step profile) (λ place more k. is_read profile n place more (omega arith))
+is_read profile (suc n) at (byte ∷ bytes) h =
+    reading_after (start_step profile) (λ place more k. is_read profile n place more (omega arith))

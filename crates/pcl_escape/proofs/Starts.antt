@@ -50,7 +50,8 @@ no_text : (rest : List ℕ) → StopsAt is_text rest ↔ IsNoText rest
 no_text rest = grind arith
 
 -- a run of text
-text_run : {profile : Profile} {at byte : ℕ} {rest : List ℕ} → is_text byte ≡ true → Outside profile at (byte ∷ rest) (text_at at (byte ∷ rest))
+text_run : {profile : Profile} {at byte : ℕ} {rest : List ℕ} → is_text byte ≡ true
+    → Outside profile at (byte ∷ rest) (text_at at (byte ∷ rest))
 unfolding text_at
 text_run {profile} {at} {byte} {rest} t =
     let f = front_split is_text rest in
@@ -80,7 +81,8 @@ before_rest_is front rest = take_at front rest (length (front ++ rest) - length 
 -- an exit without data and the lines after it
 exit_lines : {profile : Profile} {at : ℕ} (field : Spelled) {bytes : List ℕ} {read : Result (List ℕ) ℕ} → IsField field
     → is_exit exit_name (field_value field) ≡ true → parameter_checks profile exit_name 88 (field_value field) 0 ≡ Ok 0
-    → Lines (at + 3 + length (field_bytes field)) bytes read → Outside profile at (27 ∷ 37 ∷ (parameter_bytes (exit_parameter field) ++ bytes))
+    → Lines (at + 3 + length (field_bytes field)) bytes read
+    → Outside profile at (27 ∷ 37 ∷ (parameter_bytes (exit_parameter field) ++ bytes))
     (skipped_by bytes (Some (exit_command at field [])) read)
 exit_lines field f x e (skipped lines rest each) =
     rw (before_rest_is (joined lines) rest, ← exit_joined field (joined lines) rest)
@@ -118,7 +120,8 @@ leave_step {profile} {at} {field} {sent} rest {byte} {letter} is x =
 -- ---- sequences without a group character
 
 -- what is inside of one
-ungrouped_step : {profile : Profile} {at byte : ℕ} {bytes : List ℕ} {read : Result Reads Refusal} → is_ungrouped byte ≡ true → IsUngrouped None bytes
+ungrouped_step : {profile : Profile} {at byte : ℕ} {bytes : List ℕ} {read : Result Reads Refusal} → is_ungrouped byte ≡ true
+    → IsUngrouped None bytes
     → Inside profile (ungrouped byte) at bytes read → Outside profile at (27 ∷ byte ∷ bytes) (with_lines (at + 2) (length bytes) read)
 ungrouped_step u n (is_middle parameter rest m) = absurd (let never = m.letter in cc)
 ungrouped_step {byte} {bytes} {read} u n (is_wrong f) = sequence (ungrouped byte) bytes read u n (is_wrong f) tt
@@ -131,7 +134,8 @@ ungrouped_step {byte} {bytes} u n (is_end parameter sent rest is) =
 -- ---- sequences
 
 -- a sequence, by what is behind its second byte
-prefix_step : {profile : Profile} {at byte : ℕ} (rest : List ℕ) → IsTrue (is_parameterized byte) → Outside profile at (27 ∷ byte ∷ rest) (prefix_at profile at byte rest)
+prefix_step : {profile : Profile} {at byte : ℕ} (rest : List ℕ) → IsTrue (is_parameterized byte)
+    → Outside profile at (27 ∷ byte ∷ rest) (prefix_at profile at byte rest)
 unfolding prefix_at ungrouped_at
 prefix_step {at} {byte} [] p = elim (cases_Bool (is_ungrouped byte)) [
   | inl u ↦ sequence (ungrouped byte) [] (refuse Truncated at (One byte)) u tt
@@ -179,7 +183,8 @@ unfolding start_at sequence_at named_at
 named_two profile at rest is = grind (arith, nat_tests)
 
 -- a step at a parameterized character looks at the group character
-at_prefix : (profile : Profile) (at byte : ℕ) (rest : List ℕ) → is_parameterized byte ≡ true → start_at profile at (27 ∷ byte ∷ rest) ≡ prefix_at profile at byte rest
+at_prefix : (profile : Profile) (at byte : ℕ) (rest : List ℕ) → is_parameterized byte ≡ true
+    → start_at profile at (27 ∷ byte ∷ rest) ≡ prefix_at profile at byte rest
 unfolding start_at sequence_at
 at_prefix profile at byte rest p = grind (arith, nat_tests)
 
@@ -206,7 +211,8 @@ ungrouped_again : (profile : Profile) (at parameterized : ℕ) (bytes : List ℕ
     → start_at profile at (27 ∷ parameterized ∷ bytes) ≡ with_lines (at + 2) (length bytes) (parameter_at profile (ungrouped parameterized) at bytes)
 unfolding prefix_at ungrouped_at parameter_at field_at
 ungrouped_again profile at parameterized [] p n = at_prefix profile at parameterized [] (grind (arith, nat_tests))
-ungrouped_again profile at parameterized (byte ∷ bytes) p n = at_prefix profile at parameterized (byte ∷ bytes) (grind (arith, nat_tests)) ∙ rw (n, p) refl
+ungrouped_again profile at parameterized (byte ∷ bytes) p n =
+    at_prefix profile at parameterized (byte ∷ bytes) (grind (arith, nat_tests)) ∙ rw (n, p) refl
 
 -- where no universal exit is read, no lines are
 no_lines : (begin len : ℕ) (read : Result Reads Refusal) → Stays read → with_lines begin len read ≡ read

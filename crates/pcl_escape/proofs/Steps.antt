@@ -73,7 +73,8 @@ behind_field {profile} {prefix} {at} field (byte ∷ rest) f s =
     (λ l. is_wrong (no_letter field byte rest f s l))
 
 -- a step reads what the bytes of a parameter begin with
-pub parameter_step : (profile : Profile) {prefix : Prefix} {at : ℕ} {bytes : List ℕ} → Inside profile prefix at bytes (parameter_at profile prefix at bytes)
+pub parameter_step : (profile : Profile) {prefix : Prefix} {at : ℕ} {bytes : List ℕ}
+    → Inside profile prefix at bytes (parameter_at profile prefix at bytes)
 unfolding parameter_at
 parameter_step profile {prefix} {at} {bytes} =
     let split = field_split in
@@ -87,25 +88,29 @@ three_bytes : (prefix : Prefix) (letter : ℕ) (value : Value) → is_some prefi
     → is_exit (parameter_name prefix letter) value ≡ false
 three_bytes prefix letter value g = grind arith
 
-pub grouped_stays : {profile : Profile} {prefix : Prefix} {at : ℕ} {bytes : List ℕ} {read : Result Reads Refusal} → is_some prefix.group ≡ true
+pub grouped_stays : {profile : Profile} {prefix : Prefix} {at : ℕ} {bytes : List ℕ} {read : Result Reads Refusal}
+    → is_some prefix.group ≡ true
     → Inside profile prefix at bytes read → Stays read
 grouped_stays {prefix} g (is_middle parameter rest is) = three_bytes prefix parameter.letter (field_value parameter.field) g
 grouped_stays {prefix} g (is_end parameter sent rest is) = three_bytes prefix parameter.letter (field_value parameter.field) g
 grouped_stays g (is_wrong f) = tt
 
 -- a middle parameter stands after a group character
-pub middle_grouped : {profile : Profile} {prefix : Prefix} {parameter : Parameter} → IsMiddle profile prefix parameter → is_some prefix.group ≡ true
+pub middle_grouped : {profile : Profile} {prefix : Prefix} {parameter : Parameter} → IsMiddle profile prefix parameter
+    → is_some prefix.group ≡ true
 middle_grouped {prefix} {parameter} m = let goes : (is_some prefix.group && goes_on parameter.letter) ≡ true = m.letter in grind arith
 
 -- ---- each step goes on
 
 -- each step inside a sequence takes a byte
-pub inside_shorter : {profile : Profile} {prefix : Prefix} {at : ℕ} {bytes : List ℕ} {reads : Reads} → Inside profile prefix at bytes (Ok reads)
+pub inside_shorter : {profile : Profile} {prefix : Prefix} {at : ℕ} {bytes : List ℕ} {reads : Reads}
+    → Inside profile prefix at bytes (Ok reads)
     → length reads.rest < length bytes
 inside_shorter (is_middle parameter rest is) = simp length-append (omega arith)
 inside_shorter (is_end parameter sent rest is) = simp length-append (omega arith)
 
-pub parameter_shorter : (profile : Profile) (prefix : Prefix) (at : ℕ) (bytes : List ℕ) {reads : Reads} → parameter_at profile prefix at bytes ≡ Ok reads
+pub parameter_shorter : (profile : Profile) (prefix : Prefix) (at : ℕ) (bytes : List ℕ) {reads : Reads}
+    → parameter_at profile prefix at bytes ≡ Ok reads
     → length reads.rest < length bytes
 parameter_shorter profile prefix at bytes e = inside_shorter (rw e at (parameter_step profile {prefix = prefix} {at = at} {bytes = bytes}))
 
@@ -118,13 +123,16 @@ unfolding parameter_at
 field_behind profile prefix at field rest f s = ap (λ (p : Spelled × List ℕ). letter_at profile prefix at p.0 p.1) (field_again f s)
 
 -- a step reads a field and its letter, and then come the checks
-checks_behind : (profile : Profile) (prefix : Prefix) (at : ℕ) (field : Spelled) (letter : ℕ) (rest : List ℕ) → IsField field → IsTrue (is_letter prefix letter)
+checks_behind : (profile : Profile) (prefix : Prefix) (at : ℕ) (field : Spelled) (letter : ℕ) (rest : List ℕ) → IsField field
+    → IsTrue (is_letter prefix letter)
     → parameter_at profile prefix at (field_bytes field ++ letter ∷ rest) ≡ checked_at prefix at letter (field_value field) rest
     (parameter_checks profile (parameter_name prefix letter) letter (field_value field) (length rest))
-checks_behind profile prefix at field letter rest f l = field_behind profile prefix at field (letter ∷ rest) f (grind (arith, nat_tests)) ∙ rw l refl
+checks_behind profile prefix at field letter rest f l =
+    field_behind profile prefix at field (letter ∷ rest) f (grind (arith, nat_tests)) ∙ rw l refl
 
 -- a step reads what the bytes begin with
-pub inside_reads : {profile : Profile} {prefix : Prefix} {at : ℕ} {bytes : List ℕ} {read : Result Reads Refusal} → Inside profile prefix at bytes read
+pub inside_reads : {profile : Profile} {prefix : Prefix} {at : ℕ} {bytes : List ℕ} {read : Result Reads Refusal}
+    → Inside profile prefix at bytes read
     → parameter_at profile prefix at bytes ≡ read
 inside_reads {profile} {prefix} {at} (is_middle parameter rest m) =
     let letter = parameter.letter in
@@ -141,5 +149,7 @@ inside_reads {profile} {prefix} {at} (is_end parameter bytes rest m) =
     rw (parameter_joined parameter.field letter, checks_behind profile prefix at parameter.field letter (bytes ++ rest) m.field (grind arith))
     (rw (again (simp length-append (omega arith)), stops, take_at bytes rest _ refl, drop_at bytes rest _ refl) refl)
 inside_reads {profile} {prefix} {at} (is_wrong (cut field f)) = simp append-nil at (field_behind profile prefix at field [] f tt)
-inside_reads {profile} {prefix} {at} (is_wrong (no_letter field byte rest f s l)) = field_behind profile prefix at field (byte ∷ rest) f s ∙ rw l refl
-inside_reads {profile} {prefix} {at} (is_wrong (check field letter rest kind f l e)) = checks_behind profile prefix at field letter rest f l ∙ rw e refl
+inside_reads {profile} {prefix} {at} (is_wrong (no_letter field byte rest f s l)) =
+    field_behind profile prefix at field (byte ∷ rest) f s ∙ rw l refl
+inside_reads {profile} {prefix} {at} (is_wrong (check field letter rest kind f l e)) =
+    checks_behind profile prefix at field letter rest f l ∙ rw e refl

@@ -106,7 +106,8 @@ IsPiece profile (silent byte) behind = IsTrue (is_silent byte)
 IsPiece profile (control code) behind = IsTrue (is_control code) × (is_silent code ≡ false) × IsNamed (One code)
 IsPiece profile (text bytes) behind = IsRun bytes behind
 IsPiece profile (two_character byte) behind = IsTrue (is_two_character byte) × IsNamed (One byte)
-IsPiece profile (combined prefix middle end bytes) behind = IsPrefix prefix × AllByRecursion (IsMiddle profile prefix) middle × IsEnd profile prefix end bytes
+IsPiece profile (combined prefix middle end bytes) behind =
+    IsPrefix prefix × AllByRecursion (IsMiddle profile prefix) middle × IsEnd profile prefix end bytes
 IsPiece profile (exit field lines) behind = IsExit profile field lines behind
 
 -- pieces one after the other, and what stands after the last

@@ -68,7 +68,8 @@ pub reads_none : ReadsAs [] []
 reads_none = record { pieces = []; each = λ profile behind. tt; spelled = refl; said = λ at. tt }
 
 pub reads_piece : (piece : Piece) {deeds : List Deed}
-    → ((profile : Profile) (behind : List ℕ) → IsPiece profile piece behind) → ((at : ℕ) → AreSaid (commands_from at piece) deeds) → ReadsAs (spelling piece) deeds
+    → ((profile : Profile) (behind : List ℕ) → IsPiece profile piece behind) → ((at : ℕ) → AreSaid (commands_from at piece) deeds)
+    → ReadsAs (spelling piece) deeds
 reads_piece piece {deeds} is said = record {
   pieces = piece ∷ [];
   each = λ profile behind. (is profile behind, tt);
@@ -130,7 +131,8 @@ in_range_is le = grind (arith, nat_tests)
 -- a parameter that sets something: its number, in range, and an operation without data, which is no universal exit
 pub data IsSetting (prefix : Prefix) (letter : ℕ) (digits : List ℕ) (n : ℕ) (operation : Operation) : Type 0 where
   setting : IsSpelled digits n → n ≤ 65535 → operation_of (parameter_name prefix letter) ≡ Some operation → takes_data operation ≡ false
-      → has Stated operation ≡ true → is_exit (parameter_name prefix letter) (field_value (number_field digits)) ≡ false → IsSetting prefix letter digits n operation
+      → has Stated operation ≡ true → is_exit (parameter_name prefix letter) (field_value (number_field digits)) ≡ false
+      → IsSetting prefix letter digits n operation
 
 -- what the stated profile has, each has
 in_each : (profile : Profile) (operation : Operation) → has Stated operation ≡ true → has profile operation ≡ true

@@ -8,7 +8,8 @@ use Rattle.pcl_escape.proofs.step.data_len.Goals.{After-whole-in-Some-4}
 checks : (c : After-whole-in-Some-4) → nat_abs (through_bits c.whole-in-Some-4.result) ≢ 0
     → operation_checks c.args.profile (operation_of c.args.name) c.args.letter c.args.value c.args.left
     ≡ counted_checks c.args.letter (nat_abs (through_bits c.whole-in-Some-4.result)) c.args.left
-checks c some = counted c.args.profile c.args.letter c.args.left c.in-Some.ensures (sym c.if-not-is_in.ensures) (sym c.if-not-takes_data.ensures)
+checks c some =
+    counted c.args.profile c.args.letter c.args.left c.in-Some.ensures (sym c.if-not-is_in.ensures) (sym c.if-not-takes_data.ensures)
     (counts c.args.value c.whole-in-Some-4.type_inv c.whole.ensures c.whole-in-Some-4.ensures c.if-whole-lt0.false) some
 
 pub returns-in_default-clause-checks : goal.returns-in_default-clause-checks
