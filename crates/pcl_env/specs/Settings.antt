@@ -185,10 +185,10 @@ with_size size s = to_first_line (record s {
 
 -- ---- fonts and calls
 
--- a font of this ID and pitch, in quarter dots at 300 per inch, is selected
+-- a font of this ID is selected, whose columns have this width
 abbrev pub select : Side → ℕ → ℕ → Settings → Settings
-select Primary id pitch s = record s { primary = Some id; hmi = pitch * 6 }
-select Secondary id pitch s = record s { secondary = Some id; hmi = pitch * 6 }
+select Primary id width s = record s { primary = Some id; hmi = width }
+select Secondary id width s = record s { secondary = Some id; hmi = width }
 
 -- the font that is selected for a side, and for the side in use
 abbrev pub font_of : Side → Settings → Option ℕ

@@ -174,6 +174,13 @@ impl Env {
         self.size
     }
 
+    /// By what profile the job is read.
+    pub fn profile(&self) -> Profile
+        ensures { result ≡ self.now.profile }
+    {
+        self.setup.profile
+    }
+
     /// The copies of each page, 1 to 99.
     pub fn copies(&self) -> u8
         ensures value { result ≡ self.now.copies }

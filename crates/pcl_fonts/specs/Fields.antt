@@ -2,6 +2,11 @@
 use Rattle.std.specs.Prelude.{ℕ, ◌+◌, ◌*◌, ◌/◌, ℤ, Bool, true, false, ◌&&◌, ◌||◌, ◌==◌, if◌then◌else◌, nat_le, nat_eq, List, length, take, drop, slice_index}
 use Rattle.std.specs.Int.{w16, cast_signed}
 use Rattle.byteorder.specs.Endian.{big_number}
+use Rattle.pcl_base.specs.declared.dpi.Dpi.{Dpi}
+use Rattle.pcl_base.specs.declared.dpi.Dpi.TheVariants.{Dpi300, Dpi600}
+use Rattle.pcl_base.specs.declared.profile.Profile.{Profile}
+use Rattle.pcl_base.specs.declared.profile.Profile.TheVariants.{Stated, Drivers}
+use Rattle.pcl_base.specs.Dpi.{dots_per_inch, units_per_dot}
 use Rattle.pcl_fonts.specs.declared.header.FontType.{FontType}
 use Rattle.pcl_fonts.specs.declared.header.FontType.TheVariants.{SevenBit, EightBit, EveryCode}
 
@@ -30,29 +35,54 @@ has_code SevenBit code = nat_le 32 code && nat_le code 127
 has_code EightBit code = (nat_le 32 code && nat_le code 127) || nat_le 160 code
 has_code EveryCode code = true
 
--- a font without its characters: whether each character has an advance of its own, the pitch in quarter dots, the type,
--- and whether a reset leaves it
+-- a font without its characters: whether each character has an advance of its own, the pitch in quarter dots, the resolution of
+-- its dots, the type, and whether a reset leaves it
 pub record Font : Type 0 where
   pub proportional : Bool
   pub pitch : ℕ
+  pub resolution : Dpi
   pub type : FontType
   pub permanent : Bool
 
--- 64 bytes at least, and all that the size field says; format 0, a type of three, no orientation, a spacing of two
-abbrev pub is_header : List ℕ → Bool
-is_header bytes =
-    nat_le 64 (length bytes) && nat_le 64 (word bytes 0) && nat_le (word bytes 0) (length bytes)
-    && has_byte bytes 2 0 && nat_le (slice_index bytes 3) 2 && has_byte bytes 12 0 && nat_le (slice_index bytes 13) 1
+-- a header of a format, which has this many bytes at least: all that the size field says, a type of three, no orientation, a spacing
+-- of two
+abbrev pub has_format : ℕ → ℕ → List ℕ → Bool
+has_format format least bytes =
+    nat_le least (length bytes) && nat_le least (word bytes 0) && nat_le (word bytes 0) (length bytes)
+    && has_byte bytes 2 format && nat_le (slice_index bytes 3) 2 && has_byte bytes 12 0 && nat_le (slice_index bytes 13) 1
+
+-- one resolution along both axes: 300 dots per inch, or that of the pages
+abbrev pub states_resolution : Dpi → List ℕ → Bool
+states_resolution dpi bytes =
+    nat_eq (word bytes 64) (word bytes 66) && (nat_eq (word bytes 64) 300 || nat_eq (word bytes 64) (dots_per_inch dpi))
+
+-- the headers that a profile takes, on pages of this resolution: those of format 0, and those of format 20, which state one
+abbrev pub is_header : Profile → Dpi → List ℕ → Bool
+is_header Stated dpi bytes = has_format 0 64 bytes
+is_header Drivers dpi bytes = has_format 0 64 bytes || (has_format 20 68 bytes && states_resolution dpi bytes)
+
+-- the resolution of a font's dots, which a header of format 20 alone states
+abbrev pub resolution_of : List ℕ → Dpi
+resolution_of bytes = if has_byte bytes 2 20 && nat_eq (word bytes 64) 600 then Dpi600 else Dpi300
 
 -- the font that a header defines; a new font is temporary
 abbrev pub font_of : List ℕ → Font
-font_of bytes =
-    record { proportional = has_byte bytes 13 1; pitch = word bytes 16; type = type_with_number (slice_index bytes 3); permanent = false }
+font_of bytes = record {
+  proportional = has_byte bytes 13 1;
+  pitch = word bytes 16;
+  resolution = resolution_of bytes;
+  type = type_with_number (slice_index bytes 3);
+  permanent = false;
+}
+
+-- a quarter of a font's dot, in units of 1/7200 inch
+abbrev pub quarter_dot : Dpi → ℕ
+quarter_dot resolution = units_per_dot resolution / 4
 
 -- ---- characters
 
 -- A character: how far its pattern lies right of the cursor and how far its first row above it, in pattern bits; the
--- pattern's width and height in bits; the advance in quarter dots; and the rows of the pattern.
+-- pattern's width and height in bits; the advance in quarter dots; and the rows of the pattern. A bit is a dot of the font.
 pub record Character : Type 0 where
   pub left : ℤ
   pub top : ℤ

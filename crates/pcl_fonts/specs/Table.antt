@@ -6,6 +6,8 @@ use Rattle.indexmap.specs.IndexMap.{IsUnique}
 use Rattle.pcl_base.specs.declared.kind.Kind.TheVariants.{FontHeader, CharacterData}
 use Rattle.pcl_base.specs.declared.fault.CallFault.{CallFault}
 use Rattle.pcl_base.specs.declared.fault.CallFault.TheVariants.{Refused, Memory}
+use Rattle.pcl_base.specs.declared.dpi.Dpi.{Dpi}
+use Rattle.pcl_base.specs.declared.profile.Profile.{Profile}
 use Rattle.pcl_fonts.specs.Fields.{Font, Character, has_code, is_header, is_character}
 use Rattle.pcl_fonts.specs.History.{FontEvent, header, character, font_step, font_after, character_step, character_after}
 use Rattle.pcl_fonts.specs.declared.header.FontInfo.{FontInfo}
@@ -57,13 +59,15 @@ printed table id code = printed_in table id code (font_at table id)
 -- what text has to know of a font
 abbrev pub info_of : Option Font → Option FontInfo
 info_of None = None
-info_of (Some font) = Some (record { proportional = font.proportional; pitch = font.pitch })
+info_of (Some font) = Some (record { proportional = font.proportional; pitch = font.pitch; resolution = font.resolution })
 
--- A header for an ID: it is taken, and refused exactly where it is no header. After a fault all is the same.
-abbrev pub HasHeader : ℕ → List ℕ → Result (Unit {0}) CallFault → FontTable → FontTable → Type 0
-HasHeader id bytes (Ok unit) old new = (is_header bytes ≡ true) × Follows old new (header id bytes)
-HasHeader id bytes (Err (Refused kind)) old new = (is_header bytes ≡ false) × (kind ≡ FontHeader) × IsSame old new
-HasHeader id bytes (Err Memory) old new = IsSame old new
+-- A header for an ID, by a profile and on pages of a resolution: it is taken, and refused exactly where it is no header. After a
+-- fault all is the same.
+abbrev pub HasHeader : Profile → Dpi → ℕ → List ℕ → Result (Unit {0}) CallFault → FontTable → FontTable → Type 0
+HasHeader profile dpi id bytes (Ok unit) old new = (is_header profile dpi bytes ≡ true) × Follows old new (header id bytes)
+HasHeader profile dpi id bytes (Err (Refused kind)) old new =
+    (is_header profile dpi bytes ≡ false) × (kind ≡ FontHeader) × IsSame old new
+HasHeader profile dpi id bytes (Err Memory) old new = IsSame old new
 
 -- A character for an ID and a code: it is refused exactly where a font of the ID is there and it is no character.
 abbrev pub HasCharacter : ℕ → ℕ → List ℕ → Result (Unit {0}) CallFault → FontTable → FontTable → Type 0
@@ -76,10 +80,22 @@ HasCharacter id code bytes (Err Memory) old new = IsSame old new
 -- ---- how the table is kept
 
 abbrev pub font_in_header : Header → Font
-font_in_header h = record { proportional = h.info.proportional; pitch = h.info.pitch; type = h.font_type; permanent = false }
+font_in_header h = record {
+  proportional = h.info.proportional;
+  pitch = h.info.pitch;
+  resolution = h.info.resolution;
+  type = h.font_type;
+  permanent = false;
+}
 
 abbrev pub font_in : Entry → Font
-font_in e = record { proportional = e.info.proportional; pitch = e.info.pitch; type = e.font_type; permanent = e.is_permanent }
+font_in e = record {
+  proportional = e.info.proportional;
+  pitch = e.info.pitch;
+  resolution = e.info.resolution;
+  type = e.font_type;
+  permanent = e.is_permanent;
+}
 
 abbrev pub character_in : Glyph → Character
 character_in g = record { left = g.left; top = g.top; width = g.width; height = g.height; delta = g.delta; rows = g.rows.now }

@@ -6,7 +6,7 @@ ghost use Rattle.pcl_fonts.specs.Table.{is_there};
 use crate::glyph::Glyph;
 use crate::header::{FontInfo, FontType, Header};
 use indexmap::IndexMap;
-use pcl_base::{CallFault, Kind};
+use pcl_base::{CallFault, Dpi, Kind, Profile};
 use std::alloc::Global;
 use std::marker::Model;
 
@@ -88,11 +88,18 @@ impl<'a> Fonts<'a> {
     }
 
     /// Takes the header of a font for an ID (`ESC)s#W`). It is a new font without characters, temporary, in place of any
-    /// other of the ID. FontHeader where the data are no header that is taken. After an error nothing has changed.
-    pub fn header(&mut self, id: u16, bytes: &'a [u8]) -> Result<(), CallFault>
-        ensures { HasHeader id bytes.now result self.old self.new }
+    /// other of the ID. FontHeader where the data are no header that the profile takes, on pages of this resolution. After an
+    /// error nothing has changed.
+    pub fn header(
+        &mut self,
+        id: u16,
+        bytes: &'a [u8],
+        profile: Profile,
+        dpi: Dpi,
+    ) -> Result<(), CallFault>
+        ensures { HasHeader profile dpi id bytes.now result self.old self.new }
     {
-        let Some(header) = Header::read(bytes) else {
+        let Some(header) = Header::read(bytes, profile, dpi) else {
             return Err(CallFault::Refused(Kind::FontHeader));
         };
         let entry = Entry {

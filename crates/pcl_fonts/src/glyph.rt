@@ -8,7 +8,7 @@ use crate::fields::{signed_word, word};
 /// The bytes before the rows of a pattern.
 const DESCRIPTOR_BYTES: usize = 16;
 
-/// A character of a font. Offsets, width and height are in bits of its pattern, which are dots at 300 dots per inch.
+/// A character of a font. Offsets, width and height are in bits of its pattern, which are dots of the font.
 #[derive(Clone, Copy, Debug)]
 pub struct Glyph<'a> {
     /// How far the pattern's left edge lies right of the cursor.

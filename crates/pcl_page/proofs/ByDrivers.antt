@@ -1,8 +1,13 @@
 -- What the stated profile accepts, performed by the drivers' profile.
-use Rattle.std.proofs.Common.{◌≡◌, ℕ, zero, suc, ◌+◌, Bool, true, false, if◌then◌else◌, List, [], ◌∷◌, length, Option, Some, None, Result, Ok, Err, refl, ap, ◌∙◌, arith, is_some}
+use Rattle.std.proofs.Common.{◌≡◌, ℕ, zero, suc, ◌+◌, Bool, true, false, ◌||◌, if◌then◌else◌, List, [], ◌∷◌, length, Option, Some, None, Result, Ok, Err, refl, ap, ◌∙◌, arith, is_some}
 use Rattle.pcl_base.specs.declared.operation.Operation.TheVariants as operations
-use Rattle.pcl_page.specs.Situation.{after}
-use Rattle.pcl_page.proofs.Names.{Dpi, Kind, MacroOpen, Asking, SheetSide, Operation, ControlMacros, PrintText, Stated, Drivers, Refusal, Value, macro_limit, operation_of, option_map, Effect, EjectMarked, Settings, defaults, font_in_use, Outcome, Said, Character, Action, Keeping, Raster, ends_raster, is_proportional, prints, Situation, at_begin, settings_below, end_raster, turned, turned_by, taken, code_printed, codes_printed, font_now, put_back, asked_for, drawn, drawn_on, draw_refusal, unless_refused, ◌|>◌, is_ignored, prepared, after_named, counted_in_limit, page_refusal, within_page_limit, tried, with_what_stays, at_end, Run, action_of, acted, lasting_by, managed, counting, defining, keeping_of, after_command, run_by, run_from, run_of, macro_ended, Performance, done, unless, then_on, in_order, concluded, and_run, step, commands_left, runs, end_refusal, ended, after_end, performance, performance_of}
+use Rattle.pcl_base.specs.declared.kind.Kind.TheVariants.{FontHeader}
+use Rattle.pcl_fonts.specs.declared.header.FontInfo.{FontInfo}
+use Rattle.pcl_fonts.specs.Fields.{has_format}
+use Rattle.pcl_fonts.specs.Table.{info_of}
+use Rattle.pcl_page.specs.Text.{header_refusal}
+use Rattle.pcl_page.specs.Situation.{after, blank_passed, blanks_passed, printed_in}
+use Rattle.pcl_page.proofs.Names.{Dpi, Kind, MacroOpen, Asking, SheetSide, Operation, ControlMacros, DownloadFont, PrintText, Stated, Drivers, Refusal, Value, macro_limit, operation_of, option_map, Effect, EjectMarked, Settings, defaults, font_in_use, Outcome, Said, Character, Action, Keeping, Raster, ends_raster, prints, Situation, at_begin, settings_below, end_raster, turned, turned_by, taken, code_printed, codes_printed, font_now, put_back, asked_for, drawn, drawn_on, draw_refusal, unless_refused, ◌|>◌, is_ignored, prepared, after_named, counted_in_limit, page_refusal, within_page_limit, tried, with_what_stays, at_end, Run, action_of, acted, lasting_by, managed, counting, defining, keeping_of, after_command, run_by, run_from, run_of, macro_ended, Performance, done, unless, then_on, in_order, concluded, and_run, step, commands_left, runs, end_refusal, ended, after_end, performance, performance_of}
 use Rattle.pcl_page.proofs.Profiles.{IsStated, set_by_drivers, AreSetAlike, AreTakenAlike, outcome_alike}
 
 -- ---- situations by both profiles
@@ -66,16 +71,25 @@ taken_alike dpi operation value s stated = by_outcome _ _ (outcome_alike dpi ope
 
 -- ---- what a command draws
 
-code_alike : (dpi : Dpi) (proportional : Bool) (character : Option Character) (code : ℕ) (s : Situation) → IsStated s.settings
-    → StandAlike (code_printed dpi proportional character code s) (code_printed dpi proportional character code (by_drivers s))
-code_alike dpi proportional character code s stated = grind (arith, stated)
+blank_alike : (code : ℕ) (s : Situation) → IsStated s.settings → StandAlike (blank_passed code s) (blank_passed code (by_drivers s))
+blank_alike code s stated = grind (arith, stated)
 
-codes_alike : (dpi : Dpi) (proportional : Bool) (characters : ℕ → Option Character) (codes : List ℕ) (s : Situation) → IsStated s.settings
-    → StandAlike (codes_printed dpi proportional characters codes s) (codes_printed dpi proportional characters codes (by_drivers s))
-codes_alike dpi proportional characters [] s stated = (refl, stated)
-codes_alike dpi proportional characters (code ∷ codes) s stated =
-    let one = code_alike dpi proportional (characters code) code s stated in
-    rw one.0 (codes_alike dpi proportional characters codes _ one.1)
+blanks_alike : (codes : List ℕ) (s : Situation) → IsStated s.settings
+    → StandAlike (blanks_passed codes s) (blanks_passed codes (by_drivers s))
+blanks_alike [] s stated = (refl, stated)
+blanks_alike (code ∷ codes) s stated = let one = blank_alike code s stated in rw one.0 (blanks_alike codes _ one.1)
+
+code_alike : (dpi : Dpi) (font : FontInfo) (character : Option Character) (code : ℕ) (s : Situation) → IsStated s.settings
+    → StandAlike (code_printed dpi font character code s) (code_printed dpi font character code (by_drivers s))
+code_alike dpi font None code s stated = blank_alike code s stated
+code_alike dpi font (Some c) code s stated = grind (arith, stated)
+
+codes_alike : (dpi : Dpi) (font : FontInfo) (characters : ℕ → Option Character) (codes : List ℕ) (s : Situation) → IsStated s.settings
+    → StandAlike (codes_printed dpi font characters codes s) (codes_printed dpi font characters codes (by_drivers s))
+codes_alike dpi font characters [] s stated = (refl, stated)
+codes_alike dpi font characters (code ∷ codes) s stated =
+    let one = code_alike dpi font (characters code) code s stated in
+    rw one.0 (codes_alike dpi font characters codes _ one.1)
 
 font_alike : (s : Settings) → font_in_use (set_by_drivers s) ≡ font_in_use s
 font_alike s = grind arith
@@ -85,26 +99,41 @@ asked_for_alike : (what : Asking) (value : Value) (s : Situation) → IsStated s
 asked_for_alike SheetSide value s stated = (refl, stated)
 asked_for_alike other value s stated = (refl, stated)
 
+printed_alike : (dpi : Dpi) (codes : List ℕ) (font : Option FontInfo) (s : Situation) → IsStated s.settings
+    → StandAlike (printed_in dpi codes font s) (printed_in dpi codes font (by_drivers s))
+printed_alike dpi codes None s stated = blanks_alike codes s stated
+printed_alike dpi codes (Some font) s stated =
+    rw (font_alike s.settings) (codes_alike dpi font (prints s.fonts (font_in_use s.settings)) codes s stated)
+
 drawn_alike : (dpi : Dpi) (operation : Operation) (command : Said) (s : Situation) → IsStated s.settings
     → StandAlike (drawn dpi operation command s) (drawn dpi operation command (by_drivers s))
 drawn_alike dpi (operations.Ask what) command s stated = asked_for_alike what command.value s stated
 drawn_alike dpi PrintText command s stated =
-    rw (font_alike s.settings)
-    (codes_alike dpi (is_proportional (font_now s)) (prints s.fonts (font_in_use s.settings)) command.bytes s stated)
+    rw (font_alike s.settings) (printed_alike dpi command.bytes (info_of (font_now s)) s stated)
 drawn_alike dpi other command s stated = grind (arith, stated)
 
-draw_refusal_alike : (operation : Operation) (command : Said) (s : Situation)
-    → draw_refusal operation command (by_drivers s) ≡ draw_refusal operation command s
-draw_refusal_alike PrintText command s = rw (font_alike s.settings) refl
-draw_refusal_alike other command s = refl
+either_alike : (one two : Bool) → (if one then None else Some FontHeader) ≡ None → (if one || two then None else Some FontHeader) ≡ None
+either_alike true two e = refl
+either_alike false two e = absurd cc
+
+-- a header that the stated profile takes, the drivers' takes
+header_alike : (dpi : Dpi) (bytes : List ℕ) → header_refusal Stated dpi bytes ≡ None → header_refusal Drivers dpi bytes ≡ None
+header_alike dpi [] e = refl
+header_alike dpi (byte ∷ bytes) e = either_alike (has_format 0 64 (byte ∷ bytes)) _ e
+
+draw_refusal_alike : (dpi : Dpi) (operation : Operation) (command : Said) (s : Situation) → IsStated s.settings
+    → draw_refusal dpi operation command s ≡ None → draw_refusal dpi operation command (by_drivers s) ≡ None
+draw_refusal_alike dpi PrintText command s stated e = rw (font_alike s.settings) e
+draw_refusal_alike dpi DownloadFont command s stated e = header_alike dpi command.bytes (rw stated.profile at e)
+draw_refusal_alike dpi other command s stated e = e
 
 drawn_on_alike : (dpi : Dpi) (operation : Operation) (command : Said) → LeadsAlike (drawn_on dpi operation command)
-drawn_on_alike dpi operation command s stated = rw (draw_refusal_alike operation command s) (by_refusal (draw_refusal operation command s))
+drawn_on_alike dpi operation command s stated = by_refusal (draw_refusal dpi operation command s) refl
   where
-    by_refusal : (why : Option Kind) → AreLedAlike (unless_refused why (drawn dpi operation command s))
-        (unless_refused why (drawn dpi operation command (by_drivers s)))
-    by_refusal None = drawn_alike dpi operation command s stated
-    by_refusal (Some kind) = tt
+    by_refusal : (why : Option Kind) → draw_refusal dpi operation command s ≡ why
+        → AreLedAlike (unless_refused why (drawn dpi operation command s)) (drawn_on dpi operation command (by_drivers s))
+    by_refusal None e = rw (draw_refusal_alike dpi operation command s stated e) (drawn_alike dpi operation command s stated)
+    by_refusal (Some kind) e = tt
 
 -- ---- one command
 

@@ -1,7 +1,7 @@
 -- What a command leaves alone.
 use Rattle.std.proofs.Common.{◌≡◌, ℕ, ◌<◌, Bool, true, false, cond, nat_le, List, [], ◌∷◌, Option, Some, None, Result, Ok, Err, refl, length-append, arith, rules}
-use Rattle.pcl_page.proofs.Names.{nat_tests, Dpi, Kind, TooManyCommands, Operation, PrintText, command_limit, operation_of, Character, Said, Effect, EjectMarked, Settings, defaults, font_in_use, Outcome, outcome, is_proportional, prints, ends_raster}
-use Rattle.pcl_page.specs.Situation.{Situation, font_now, code_printed, codes_printed, draw_refusal, unless_refused, ◌|>◌, end_raster, is_marked, ejects, sheet_of, turned_page, turned, turned_by, drawn, drawn_on, taken, counted, counted_in_limit, prepared, is_ignored, after, after_named, page_refusal, within_page_limit, tried, at_end}
+use Rattle.pcl_page.proofs.Names.{nat_tests, Dpi, Kind, TooManyCommands, Operation, PrintText, command_limit, operation_of, Character, Said, Effect, EjectMarked, Settings, defaults, font_in_use, Outcome, outcome, FontInfo, info_of, prints, ends_raster}
+use Rattle.pcl_page.specs.Situation.{Situation, font_now, blank_passed, code_printed, codes_printed, blanks_passed, printed_in, draw_refusal, unless_refused, ◌|>◌, end_raster, is_marked, ejects, sheet_of, turned_page, turned, turned_by, drawn, drawn_on, taken, counted, counted_in_limit, prepared, is_ignored, after, after_named, page_refusal, within_page_limit, tried, at_end}
 use Rattle.pcl_page.proofs.Sinks.{Onward, stays_there}
 use Rattle.pcl_page.proofs.Turns.{prepared_page}
 
@@ -13,21 +13,30 @@ pub record KeepsCounts (s other : Situation) : Type 0 where
   pub begun : other.begun ≡ s.begun
   pub asked : other.asks.pages ≡ s.asks.pages
 
-code_keeps : (dpi : Dpi) (proportional : Bool) (c : Option Character) (code : ℕ) {s : Situation}
-    → KeepsCounts s (code_printed dpi proportional c code s)
-code_keeps dpi proportional c code = grind arith
+code_keeps : (dpi : Dpi) (font : FontInfo) (c : Option Character) (code : ℕ) {s : Situation}
+    → KeepsCounts s (code_printed dpi font c code s)
+code_keeps dpi font c code = grind arith
 
-codes_keep : (dpi : Dpi) (proportional : Bool) (characters : ℕ → Option Character) (codes : List ℕ) {s : Situation}
-    → KeepsCounts s (codes_printed dpi proportional characters codes s)
-codes_keep dpi proportional characters [] = search rules
-codes_keep dpi proportional characters (code ∷ codes) {s} =
-    let one = code_keeps dpi proportional (characters code) code {s = s} in
-    let more = codes_keep dpi proportional characters codes {s = code_printed dpi proportional (characters code) code s} in
+codes_keep : (dpi : Dpi) (font : FontInfo) (characters : ℕ → Option Character) (codes : List ℕ) {s : Situation}
+    → KeepsCounts s (codes_printed dpi font characters codes s)
+codes_keep dpi font characters [] = search rules
+codes_keep dpi font characters (code ∷ codes) {s} =
+    let one = code_keeps dpi font (characters code) code {s = s} in
+    let more = codes_keep dpi font characters codes {s = code_printed dpi font (characters code) code s} in
     record { pages = cc; performed = cc; macros = cc; begun = cc; asked = cc }
 
+blanks_keep : (codes : List ℕ) {s : Situation} → KeepsCounts s (blanks_passed codes s)
+blanks_keep [] = search rules
+blanks_keep (code ∷ codes) {s} =
+    let more = blanks_keep codes {s = blank_passed code s} in
+    record { pages = cc; performed = cc; macros = cc; begun = cc; asked = cc }
+
+text_keeps : (dpi : Dpi) (codes : List ℕ) (font : Option FontInfo) {s : Situation} → KeepsCounts s (printed_in dpi codes font s)
+text_keeps dpi codes None = blanks_keep codes
+text_keeps dpi codes (Some font) {s} = codes_keep dpi font (prints s.fonts (font_in_use s.settings)) codes
+
 pub drawn_keeps : (dpi : Dpi) (operation : Operation) (command : Said) {s : Situation} → KeepsCounts s (drawn dpi operation command s)
-drawn_keeps dpi PrintText command {s} =
-    codes_keep dpi (is_proportional (font_now s)) (prints s.fonts (font_in_use s.settings)) command.bytes
+drawn_keeps dpi PrintText command {s} = text_keeps dpi command.bytes (info_of (font_now s))
 drawn_keeps dpi other command = grind arith
 
 -- ---- pages that are added
@@ -65,7 +74,7 @@ adds_drawn : (dpi : Dpi) (operation : Operation) (command : Said) {s now later :
     → drawn_on dpi operation command now ≡ Ok later → Adds s later
 adds_drawn dpi operation command {s} {now} t e =
     let k = drawn_keeps dpi operation command {s = now} in
-    rw (unless_from (draw_refusal operation command now) e)
+    rw (unless_from (draw_refusal dpi operation command now) e)
     (record { onward = (t.onward.0, cc, cc); performed = cc; macros = cc; begun = cc })
 
 adds_taken : (o : Outcome) {s later : Situation} → turned_by o s ≡ Ok later → Adds s later

@@ -34,7 +34,7 @@ taken_stays below s e = grind arith
 -- they let the page stay
 refused_stays : (dpi : Dpi) (operation : Operation) (command : Said) (m : Bool) (settings : Settings) {done : Settings × Effect}
     (s : Situation) {kind : Kind}
-    → draw_refusal operation command s ≡ Some kind → outcome dpi operation command.value m settings ≡ Some done → done.1 ≡ Stay
+    → draw_refusal dpi operation command s ≡ Some kind → outcome dpi operation command.value m settings ≡ Some done → done.1 ≡ Stay
 unfolding outcome
 refused_stays dpi ControlFonts command m settings s e o = only_stays settings o
 refused_stays dpi FillRectangle command m settings s e o = only_stays settings o
@@ -82,7 +82,7 @@ module _ {S : Type 0} (takes : S → Page → S → Type 0) (dpi : Dpi) (operati
 
   -- by why it isn't drawn, if it isn't
   tried_by : (now : Situation) {why : Option Kind}
-      → tried dpi command s ≡ (drawn_on dpi operation command now |> within_page_limit) → draw_refusal operation command now ≡ why
+      → tried dpi command s ≡ (drawn_on dpi operation command now |> within_page_limit) → draw_refusal dpi operation command now ≡ why
       → tried dpi command s ≡ (unless_refused why (drawn dpi operation command now) |> within_page_limit)
   tried_by now is e = is ∙ rw e refl
 
@@ -96,23 +96,23 @@ module _ {S : Type 0} (takes : S → Page → S → Type 0) (dpi : Dpi) (operati
     pub tried_is : tried dpi command s ≡ (drawn_on dpi operation command now |> within_page_limit)
     pub fits : page_refusal now ≡ None
     pub handed : HandsMore takes dpi s (drawn dpi operation command now) sink later
-    pub quiet : (kind : Kind) → draw_refusal operation command now ≡ Some kind → later ≡ sink
+    pub quiet : (kind : Kind) → draw_refusal dpi operation command now ≡ Some kind → later ≡ sink
 
   -- nothing is refused where it is drawn
-  gone_drawn : (now : Situation) {sink later : S} → IsGone now sink later → draw_refusal operation command now ≡ None
+  gone_drawn : (now : Situation) {sink later : S} → IsGone now sink later → draw_refusal dpi operation command now ≡ None
       → tried dpi command s ≡ Ok (drawn dpi operation command now)
   gone_drawn now g e = tried_by now g.tried_is e ∙ drawn_fits now g.fits
 
   -- memory ran out after the turn
   gone_short : (now : Situation) (new : Performer) (sink later : S) (why : Option Kind) → IsGone now sink later
-      → draw_refusal operation command now ≡ why → IsTried takes dpi command s (Err Memory) new sink later
+      → draw_refusal dpi operation command now ≡ why → IsTried takes dpi command s (Err Memory) new sink later
   gone_short now new sink later None g e = inr (drawn dpi operation command now, gone_drawn now g e, g.handed)
   gone_short now new sink later (Some kind) g e = inl (g.quiet kind e)
 
   -- what is drawn of the command after the turn
   abbrev DrawsOn : Performer → Result (Unit {0}) CallFault → Performer → Type 0
   DrawsOn middle result new =
-      (now : Situation) → IsIn dpi now middle → Draws dpi (draw_refusal operation command now) (drawn dpi operation command now) result new
+      (now : Situation) → IsIn dpi now middle → Draws dpi (draw_refusal dpi operation command now) (drawn dpi operation command now) result new
 
   -- a command that isn't ignored
   module _ {old : Performer} (i : IsIn dpi s old) (few : old.performed < 100000000) (named : operation_of command.name ≡ Some operation)
@@ -140,7 +140,7 @@ module _ {S : Type 0} (takes : S → Page → S → Type 0) (dpi : Dpi) (operati
 
     -- pages that are past the limit come from a command that isn't refused where it draws
     past_why : {done : Settings × Effect} {kind : Kind} (why : Option Kind) → set_to ≡ Some done
-        → page_refusal (turned_with done) ≡ Some kind → draw_refusal operation command (turned_with done) ≡ why → why ≡ None
+        → page_refusal (turned_with done) ≡ Some kind → draw_refusal dpi operation command (turned_with done) ≡ why → why ≡ None
     past_why None is past e = refl
     past_why {done} (Some other) is past e =
         let stay = refused_stays dpi operation command (is_marked before) before.settings (turned_with done) e is in

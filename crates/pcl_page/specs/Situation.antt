@@ -25,13 +25,15 @@ use Rattle.pcl_env.specs.Settings.{Position, Settings, defaults, put, to_first_l
 use Rattle.pcl_env.specs.Outcome.{Outcome, outcome}
 use Rattle.pcl_fonts.specs.declared.fonts.FontControl.{FontControl}
 use Rattle.pcl_fonts.specs.declared.fonts.FontControl.TheVariants.{All, Temporary}
+use Rattle.pcl_fonts.specs.declared.header.FontInfo.{FontInfo}
 use Rattle.pcl_fonts.specs.Fields.{Font, Character}
 use Rattle.pcl_fonts.specs.History.{FontEvent, header, character, control, font_after, has_permanent as is_font_permanent}
+use Rattle.pcl_fonts.specs.Table.{info_of}
 use Rattle.pcl_macros.specs.History.{MacroEvent, has_permanent as is_macro_permanent}
 use Rattle.pcl_macros.specs.Table.{Begun}
 use Rattle.pcl_page.specs.Asks.{Asks, no_asks, with_page, with_exit, restarted, with_side, with_separation, lasting_if}
 use Rattle.pcl_page.specs.Marks.{Mark, are_marked, dot_at, dots_of}
-use Rattle.pcl_page.specs.Text.{selected_font, control_of, select_by_id, header_refusal, character_refusal, text_refusal, prints, character_mark, is_proportional, behind_character, behind_blank}
+use Rattle.pcl_page.specs.Text.{selected_font, control_of, select_by_id, header_refusal, character_refusal, text_refusal, prints, character_mark, behind_character, behind_blank}
 use Rattle.pcl_page.specs.Raster.{Raster, raster_from, skipped, row_sent, with_row, row_mark, is_ignored_in_raster, ends_raster}
 
 -- a page as the job means it, where `Page` of the code is one that was painted
@@ -179,21 +181,34 @@ without_temporary s = with_event (control Temporary 0 0) s
 abbrev pub font_now : Situation → Option Font
 font_now s = selected_font s.fonts (font_in_use s.settings)
 
--- one code: the character that it prints marks the page at the cursor, which goes on; else a space moves the cursor
-abbrev pub code_printed : Dpi → Bool → Option Character → ℕ → Situation → Situation
-code_printed dpi proportional None code s = record s { settings = behind_blank code s.settings }
-code_printed dpi proportional (Some c) code s =
-    record s { settings = behind_character proportional c s.settings; marks = character_mark dpi c s.settings ∷ s.marks }
+-- a code that prints no character: a space moves the cursor
+abbrev pub blank_passed : ℕ → Situation → Situation
+blank_passed code s = record s { settings = behind_blank code s.settings }
+
+-- one code in a font: the character that it prints marks the page at the cursor, which goes on
+abbrev pub code_printed : Dpi → FontInfo → Option Character → ℕ → Situation → Situation
+code_printed dpi font None code s = blank_passed code s
+code_printed dpi font (Some c) code s =
+    record s { settings = behind_character font c s.settings; marks = character_mark dpi font c s.settings ∷ s.marks }
 
 -- codes, by the characters that they print
-abbrev pub codes_printed : Dpi → Bool → (ℕ → Option Character) → List ℕ → Situation → Situation
-codes_printed dpi proportional characters [] s = s
-codes_printed dpi proportional characters (code ∷ codes) s =
-    codes_printed dpi proportional characters codes (code_printed dpi proportional (characters code) code s)
+abbrev pub codes_printed : Dpi → FontInfo → (ℕ → Option Character) → List ℕ → Situation → Situation
+codes_printed dpi font characters [] s = s
+codes_printed dpi font characters (code ∷ codes) s =
+    codes_printed dpi font characters codes (code_printed dpi font (characters code) code s)
+
+-- codes that print no characters
+abbrev pub blanks_passed : List ℕ → Situation → Situation
+blanks_passed [] s = s
+blanks_passed (code ∷ codes) s = blanks_passed codes (blank_passed code s)
+
+-- without a font no code prints a character
+abbrev pub printed_in : Dpi → List ℕ → Option FontInfo → Situation → Situation
+printed_in dpi codes None s = blanks_passed codes s
+printed_in dpi codes (Some font) s = codes_printed dpi font (prints s.fonts (font_in_use s.settings)) codes s
 
 abbrev pub text_printed : Dpi → List ℕ → Situation → Situation
-text_printed dpi codes s =
-    codes_printed dpi (is_proportional (font_now s)) (prints s.fonts (font_in_use s.settings)) codes s
+text_printed dpi codes s = printed_in dpi codes (info_of (font_now s)) s
 
 -- ---- universal exits
 
@@ -238,13 +253,13 @@ drawn dpi RasterRow command s = with_row_in dpi command (raster_for_row dpi s.ra
 drawn dpi other command s = s
 
 -- why a command isn't drawn that sets what it sets: a number that says nothing is a value that isn't taken
-abbrev pub draw_refusal : Operation → Said → Situation → Option Kind
-draw_refusal ControlFonts command s = if is_some (control_of command.value) then None else Some UnsupportedValue
-draw_refusal FillRectangle command s = if is_some (ink_of command.value) then None else Some UnsupportedValue
-draw_refusal DownloadFont command s = header_refusal command.bytes
-draw_refusal DownloadCharacter command s = character_refusal command.bytes (font_after s.fonts s.settings.font_id)
-draw_refusal PrintText command s = text_refusal command.bytes (font_now s)
-draw_refusal other command s = None
+abbrev pub draw_refusal : Dpi → Operation → Said → Situation → Option Kind
+draw_refusal dpi ControlFonts command s = if is_some (control_of command.value) then None else Some UnsupportedValue
+draw_refusal dpi FillRectangle command s = if is_some (ink_of command.value) then None else Some UnsupportedValue
+draw_refusal dpi DownloadFont command s = header_refusal s.settings.profile dpi command.bytes
+draw_refusal dpi DownloadCharacter command s = character_refusal command.bytes (font_after s.fonts s.settings.font_id)
+draw_refusal dpi PrintText command s = text_refusal command.bytes (font_now s)
+draw_refusal dpi other command s = None
 
 -- ---- one command, in the order of its checks
 
@@ -283,7 +298,7 @@ taken dpi operation value s = turned_by (outcome dpi operation value (is_marked 
 
 -- what becomes of the page is known before anything is drawn
 abbrev pub drawn_on : Dpi → Operation → Said → Situation → Result Situation Kind
-drawn_on dpi operation command s = unless_refused (draw_refusal operation command s) (drawn dpi operation command s)
+drawn_on dpi operation command s = unless_refused (draw_refusal dpi operation command s) (drawn dpi operation command s)
 
 -- a command that is known and counted: in a raster some are ignored
 unfoldable pub after : Dpi → Operation → Said → Situation → Result Situation Kind

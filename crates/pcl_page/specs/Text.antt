@@ -1,19 +1,21 @@
 -- Text: which characters its codes print, where they lie on the page, and how far the cursor goes.
-use Rattle.std.specs.Prelude.{ℕ, pos, ◌+ℤ◌, ◌-ℤ◌, ◌*ℤ◌, ◌==◌, nat_le, Bool, false, if◌then◌else◌, List, [], ◌∷◌, Option, Some, None}
+use Rattle.std.specs.Prelude.{ℕ, pos, ◌*◌, ◌+ℤ◌, ◌-ℤ◌, ◌*ℤ◌, ◌==◌, nat_le, Bool, if◌then◌else◌, List, [], ◌∷◌, Option, Some, None}
 use Rattle.std.specs.List.{list_all}
 use Rattle.std.specs.Option.{option_and_then}
 use Rattle.pcl_base.specs.declared.dpi.Dpi.{Dpi}
+use Rattle.pcl_base.specs.declared.dpi.Dpi.TheVariants.{Dpi300, Dpi600}
 use Rattle.pcl_base.specs.declared.kind.Kind.{Kind}
 use Rattle.pcl_base.specs.declared.kind.Kind.TheVariants.{FontHeader, CharacterData, NoFont}
 use Rattle.pcl_base.specs.declared.operation.Side.{Side}
+use Rattle.pcl_base.specs.declared.profile.Profile.{Profile}
 use Rattle.pcl_base.specs.declared.value.Value.{Value}
-use Rattle.pcl_base.specs.Dpi.{fineness}
 use Rattle.pcl_base.specs.Value.{count_of}
 use Rattle.pcl_bitmap.specs.declared.ink.Ink.TheVariants.{Black}
 use Rattle.pcl_bitmap.specs.Dots.{pattern_dot}
 use Rattle.pcl_fonts.specs.declared.fonts.FontControl.{FontControl}
 use Rattle.pcl_fonts.specs.declared.fonts.FontControl.TheVariants as fonts
-use Rattle.pcl_fonts.specs.Fields.{Font, Character, has_code, is_header, is_character}
+use Rattle.pcl_fonts.specs.declared.header.FontInfo.{FontInfo}
+use Rattle.pcl_fonts.specs.Fields.{Font, Character, has_code, is_header, is_character, quarter_dot}
 use Rattle.pcl_fonts.specs.History.{FontEvent, font_after, character_after}
 use Rattle.pcl_env.specs.Settings.{Settings, advance, select}
 use Rattle.pcl_page.specs.Marks.{Mark, dot_at}
@@ -38,7 +40,7 @@ control_of value = option_and_then (λ n.
 -- a selection of a font that isn't there does nothing
 abbrev pub select_there : Side → ℕ → Option Font → Settings → Settings
 select_there side id None s = s
-select_there side id (Some font) s = select side id font.pitch s
+select_there side id (Some font) s = select side id (font.pitch * quarter_dot font.resolution) s
 
 -- the font of an ID is selected; IDs have 16 bits
 abbrev pub select_by_id : Side → ℕ → List FontEvent → Settings → Settings
@@ -47,9 +49,9 @@ select_by_id side id events s = if nat_le id 65535 then select_there side id (fo
 -- ---- refusals
 
 -- no data are no header, and are not refused
-abbrev pub header_refusal : List ℕ → Option Kind
-header_refusal [] = None
-header_refusal (byte ∷ bytes) = if is_header (byte ∷ bytes) then None else Some FontHeader
+abbrev pub header_refusal : Profile → Dpi → List ℕ → Option Kind
+header_refusal profile dpi [] = None
+header_refusal profile dpi (byte ∷ bytes) = if is_header profile dpi (byte ∷ bytes) then None else Some FontHeader
 
 -- the same of a character; without a font its data aren't looked at
 abbrev pub character_refusal : List ℕ → Option Font → Option Kind
@@ -78,22 +80,23 @@ abbrev pub prints : List FontEvent → Option ℕ → ℕ → Option Character
 prints events None code = None
 prints events (Some id) code = prints_in events id code (font_after events id)
 
--- the dots of a character, whose pattern is given at 300 dots per inch, at the cursor
-abbrev pub character_mark : Dpi → Character → Settings → Mark
-character_mark dpi c s = record {
-  covers = pattern_dot (pos (dot_at dpi s.cursor.x) +ℤ c.left *ℤ pos (fineness dpi))
-      (pos (dot_at dpi s.cursor.y) -ℤ c.top *ℤ pos (fineness dpi)) (fineness dpi) c.width c.height c.rows;
+-- how many dots of a page a dot of a font is wide and high: one, where the two aren't of 600 and of 300 dots per inch
+abbrev pub dots_per_bit : Dpi → Dpi → ℕ
+dots_per_bit Dpi600 Dpi300 = 2
+dots_per_bit dpi resolution = 1
+
+-- the dots of a character of a font at the cursor
+abbrev pub character_mark : Dpi → FontInfo → Character → Settings → Mark
+character_mark dpi font c s = record {
+  covers = pattern_dot (pos (dot_at dpi s.cursor.x) +ℤ c.left *ℤ pos (dots_per_bit dpi font.resolution))
+      (pos (dot_at dpi s.cursor.y) -ℤ c.top *ℤ pos (dots_per_bit dpi font.resolution)) (dots_per_bit dpi font.resolution)
+      c.width c.height c.rows;
   ink = Black;
 }
 
--- each character has an advance of its own, in quarter dots at 300 per inch
-abbrev pub is_proportional : Option Font → Bool
-is_proportional None = false
-is_proportional (Some font) = font.proportional
-
--- the cursor after a character
-abbrev pub behind_character : Bool → Character → Settings → Settings
-behind_character proportional c s = advance (if proportional then c.delta *ℤ pos 6 else pos s.hmi) s
+-- the cursor after a character: in a proportional font each has an advance of its own
+abbrev pub behind_character : FontInfo → Character → Settings → Settings
+behind_character font c s = advance (if font.proportional then c.delta *ℤ pos (quarter_dot font.resolution) else pos s.hmi) s
 
 -- the cursor after a code that prints no character
 abbrev pub behind_blank : ℕ → Settings → Settings

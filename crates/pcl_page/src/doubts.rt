@@ -6,7 +6,7 @@ use crate::raster::Raster;
 use pcl_base::{Asking, Axis, Dpi, Method, Operation, Side, Sign, Unit, Value};
 use pcl_bitmap::Ink;
 use pcl_env::{Asked, Env};
-use pcl_fonts::Glyph;
+use pcl_fonts::{FontInfo, Glyph};
 
 /// By whose reading what is written must print what a job prints.
 #[derive(Clone, Copy, Debug, PartialEq, Eq)]
@@ -36,11 +36,11 @@ pub enum Doubt {
     Code,
     /// A rectangle or a character without dots, or a raster without rows, on an unmarked page.
     EmptyMark,
-    /// The column width after another font came into use, or the selected one was sent anew.
+    /// The column width after another font came into use, or the selected one was sent anew, or has a part of a PCL unit.
     ColumnWidth,
     /// A tab, or a move by rows, past the end of the page.
     PastEnd,
-    /// A part of a unit of 1/7200 inch, or of a PCL unit: in a move, a size, or an advance.
+    /// A part of a unit of 1/7200 inch, or of a PCL unit, also in an advance.
     PartOfUnit,
     /// Sides, a media type or a page length on a marked page, which may eject it.
     Ejection,
@@ -242,14 +242,16 @@ impl Doubts {
             Operation::DownloadFont if is_selected(environment) => self.is_width_open = true,
             Operation::HorizontalTab
             | Operation::LeftMargin
-            | Operation::Move(Axis::Horizontal, Unit::Column) => self.note_column(),
+            | Operation::Move(Axis::Horizontal, Unit::Column) => self.note_column(environment),
             _ => {}
         }
     }
 
-    /// Notes that something goes by the column width.
-    fn note_column(&mut self) {
-        self.note_if(self.is_width_open, Doubt::ColumnWidth);
+    /// Looks at something that goes by the column width. Where that is a font's, printers may round it to PCL units.
+    fn note_column(&mut self, environment: &Env) {
+        let is_rounded = environment.font_in_use().is_some()
+            && has_part_of_unit(i64::from(environment.hmi()), environment);
+        self.note_if(self.is_width_open || is_rounded, Doubt::ColumnWidth);
     }
 
     /// Looks at a reset: no page was moved or ejected since.
@@ -423,50 +425,56 @@ impl Doubts {
         self.note_if(is_cut && ink == Ink::Black, Doubt::Edge);
     }
 
-    /// Looks at a character that is printed.
+    /// Looks at a character of a font that is printed.
     pub fn note_character(
         &mut self,
         glyph: &Glyph<'_>,
+        font: FontInfo,
         environment: &Env,
-        proportional: bool,
         dpi: Dpi,
     ) {
         if !self.is_wanted {
             return;
         }
-        self.note_if(proportional && glyph.delta < 0, Doubt::Advance);
-        if !proportional {
-            self.note_column();
+        self.note_if(font.proportional && glyph.delta < 0, Doubt::Advance);
+        if !font.proportional {
+            self.note_column(environment);
         }
-        let advance = if proportional {
-            i64::from(glyph.delta) * ADVANCE_UNITS
-        } else {
-            i64::from(environment.hmi())
-        };
-        let is_whole = advance % i64::from(environment.pcl_unit().max(1)) == 0;
-        self.note_if(!is_whole, Doubt::PartOfUnit);
-        if glyph.width == 0 || glyph.height == 0 {
-            return;
+        if glyph.width != 0 && glyph.height != 0 {
+            self.note_pattern(glyph, font, environment, dpi);
         }
+        if font.proportional && has_part_of_unit(font.advance(glyph.delta), environment) {
+            self.column = self.column.or(Some(Doubt::PartOfUnit));
+        }
+    }
+
+    /// Looks at a pattern with dots at the cursor.
+    fn note_pattern(&mut self, glyph: &Glyph<'_>, font: FontInfo, environment: &Env, dpi: Dpi) {
         self.note_cursor();
         let is_between = is_half_past_or_more(environment.x(), dpi)
             || is_half_past_or_more(environment.y(), dpi);
         self.note_if(is_between, Doubt::BetweenDots);
-        self.note_if(is_cut(glyph, environment), Doubt::Edge);
+        self.note_if(is_cut(glyph, font, environment), Doubt::Edge);
     }
 
-    /// Looks at a character that is about to be inked, on a page that is marked or not.
-    pub fn note_ink(&mut self, glyph: &Glyph<'_>, environment: &Env, is_marked: bool) {
+    /// Looks at a character of a font that is about to be inked, on a page that is marked or not.
+    pub fn note_ink(
+        &mut self,
+        glyph: &Glyph<'_>,
+        font: FontInfo,
+        environment: &Env,
+        is_marked: bool,
+    ) {
         self.note_if(
-            !is_marked && !is_on_page(glyph, environment),
+            !is_marked && !is_on_page(glyph, font, environment),
             Doubt::EmptyMark,
         );
     }
 
     /// Looks at a code that prints no character.
-    pub fn note_blank(&mut self, is_space: bool) {
+    pub fn note_blank(&mut self, is_space: bool, environment: &Env) {
         self.note_if(!is_space, Doubt::Code);
-        self.note_column();
+        self.note_column(environment);
     }
 
     /// Looks at a mark at the cursor.
@@ -507,24 +515,26 @@ pub fn is_home(environment: &Env) -> bool {
     environment.x() == environment.left_margin() && is_on_first_line(environment)
 }
 
-/// Where the pattern of a character at the cursor has its left and its right side, in units of 1/7200 inch.
-fn sides_of(glyph: &Glyph<'_>, environment: &Env) -> (i64, i64) {
-    let left = i64::from(environment.x()).saturating_add(i64::from(glyph.left) * BIT_UNITS);
-    let right = left.saturating_add(i64::from(glyph.width) * BIT_UNITS);
+/// Where the pattern of a character of a font at the cursor has its left and its right side, in units of 1/7200 inch.
+fn sides_of(glyph: &Glyph<'_>, font: FontInfo, environment: &Env) -> (i64, i64) {
+    let bit = i64::from(font.resolution.unit());
+    let left = i64::from(environment.x()).saturating_add(i64::from(glyph.left) * bit);
+    let right = left.saturating_add(i64::from(glyph.width) * bit);
     (left, right)
 }
 
 /// Where it has its upper and its lower end.
-fn ends_of(glyph: &Glyph<'_>, environment: &Env) -> (i64, i64) {
-    let top = i64::from(environment.y()).saturating_sub(i64::from(glyph.top) * BIT_UNITS);
-    let bottom = top.saturating_add(i64::from(glyph.height) * BIT_UNITS);
+fn ends_of(glyph: &Glyph<'_>, font: FontInfo, environment: &Env) -> (i64, i64) {
+    let bit = i64::from(font.resolution.unit());
+    let top = i64::from(environment.y()).saturating_sub(i64::from(glyph.top) * bit);
+    let bottom = top.saturating_add(i64::from(glyph.height) * bit);
     (top, bottom)
 }
 
 /// Whether a part of the pattern of a character at the cursor is off the page, and may be on its sheet.
-fn is_cut(glyph: &Glyph<'_>, environment: &Env) -> bool {
-    let (left, right) = sides_of(glyph, environment);
-    let (top, bottom) = ends_of(glyph, environment);
+fn is_cut(glyph: &Glyph<'_>, font: FontInfo, environment: &Env) -> bool {
+    let (left, right) = sides_of(glyph, font, environment);
+    let (top, bottom) = ends_of(glyph, font, environment);
     let size = environment.size();
     left < 0
         || right > i64::from(size.units_wide())
@@ -533,9 +543,9 @@ fn is_cut(glyph: &Glyph<'_>, environment: &Env) -> bool {
 }
 
 /// Whether a part of the pattern of a character at the cursor is on the page.
-fn is_on_page(glyph: &Glyph<'_>, environment: &Env) -> bool {
-    let (left, right) = sides_of(glyph, environment);
-    let (top, bottom) = ends_of(glyph, environment);
+fn is_on_page(glyph: &Glyph<'_>, font: FontInfo, environment: &Env) -> bool {
+    let (left, right) = sides_of(glyph, font, environment);
+    let (top, bottom) = ends_of(glyph, font, environment);
     let size = environment.size();
     left.max(0) < right.min(i64::from(size.units_wide()))
         && top.max(0) < bottom.min(i64::from(size.units_high()))
@@ -609,10 +619,11 @@ fn has_rest(value: Value, length: u32) -> bool {
     u64::from(value.parts) * u64::from(length) % u64::from(WHOLE) != 0
 }
 
-/// Units of 1/7200 inch in a bit of a pattern, and in a quarter of one, in which advances are counted.
-const BIT_UNITS: i64 = 24;
-
-const ADVANCE_UNITS: i64 = 6;
+/// Whether a length is no whole number of PCL units.
+fn has_part_of_unit(length: i64, environment: &Env) -> bool {
+    let unit = u64::from(environment.pcl_unit());
+    length.unsigned_abs().checked_rem(unit) != Some(0)
+}
 
 /// Whether a place lies half a dot past a dot or more.
 fn is_half_past_or_more(place: u32, dpi: Dpi) -> bool {

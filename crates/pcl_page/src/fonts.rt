@@ -5,7 +5,7 @@ ghost use Rattle.pcl_base.specs.Value.{whole_of};
 ghost use Rattle.pcl_page.specs.Text.{control_of};
 
 use crate::performer::Performer;
-use pcl_base::{CallFault, Kind, Side, Value};
+use pcl_base::{CallFault, Dpi, Kind, Side, Value};
 use pcl_fonts::FontControl;
 
 impl<'a> Performer<'a> {
@@ -18,14 +18,16 @@ impl<'a> Performer<'a> {
     ghost use Rattle.pcl_page.specs.inner.Reflecting.{IsIn, HasEvent, HasSettings, Draws};
 
     /// Takes the header of a font for the ID that is meant. Without data nothing happens.
-    pub fn download_font(&mut self, bytes: &'a [u8]) -> Result<(), CallFault>
-        ensures { (dpi : Dpi) (s : Situation) → IsIn dpi s self.old
-            → Draws dpi (header_refusal bytes.now) (with_font bytes.now s) result self.new }
+    pub fn download_font(&mut self, bytes: &'a [u8], dpi: Dpi) -> Result<(), CallFault>
+        ensures { (s : Situation) → IsIn dpi s self.old
+            → Draws dpi (header_refusal s.settings.profile dpi bytes.now) (with_font bytes.now s) result self.new }
     {
         if bytes.is_empty() {
             return Ok(());
         }
-        self.fonts.header(self.environment.font_id(), bytes)
+        let id = self.environment.font_id();
+        self.fonts
+            .header(id, bytes, self.environment.profile(), dpi)
     }
 
     /// Takes a character for the ID and the code that are meant. Without data, or without a font of the ID, nothing happens.
@@ -81,7 +83,7 @@ impl<'a> Performer<'a> {
             return;
         };
         if let Some(font) = self.fonts.font(id) {
-            self.environment.select(side, id, font.pitch);
+            self.environment.select(side, id, font.column());
         }
     }
 }

@@ -265,14 +265,14 @@ impl<'a> Performer<'a> {
     ) -> Result<(), CallFault>
         requires rows { rows_in self.old.raster + 2 ^ 20 ≤ 2 ^ 20 * self.old.performed }
         ensures { (s : Situation) → IsIn dpi s self.old
-            → Draws dpi (draw_refusal operation (view command.now) s) (drawn dpi operation (view command.now) s) result self.new }
+            → Draws dpi (draw_refusal dpi operation (view command.now) s) (drawn dpi operation (view command.now) s) result self.new }
     {
         match operation {
             Operation::Reset => self.put_back(),
             Operation::UniversalExit => self.leave(command.bytes)?,
             Operation::Ask(what) => self.ask(what, command.value),
             Operation::ControlFonts => return self.control_fonts(command.value),
-            Operation::DownloadFont => return self.download_font(command.bytes),
+            Operation::DownloadFont => return self.download_font(command.bytes, dpi),
             Operation::DownloadCharacter => return self.download_character(command.bytes),
             Operation::SelectFont(side) => self.select_font(side, command.value),
             Operation::PrintText => return self.print_text(command.bytes, dpi),

@@ -10,9 +10,6 @@ use std::alloc::AllocError;
 /// The code of a space.
 const SPACE: u8 = b' ';
 
-/// Units of 1/7200 inch in a quarter of a dot at 300 dots per inch.
-const QUARTER_DOT: i64 = 6;
-
 /// A character on the page: its code, and the cursor's dot when it was printed.
 #[derive(Clone, Copy, Debug, PartialEq, Eq)]
 pub struct Printed {
@@ -26,8 +23,8 @@ impl<'a> Performer<'a> {
     ghost use Rattle.std.specs.Option.{option_map};
     ghost use Rattle.pcl_env.specs.Settings.{font_in_use};
     ghost use Rattle.pcl_fonts.specs.Table.{character_in, info_of};
-    ghost use Rattle.pcl_page.specs.Text.{prints, text_refusal, is_proportional, behind_character, behind_blank};
-    ghost use Rattle.pcl_page.specs.Situation.{Situation, font_now, text_printed, code_printed, codes_printed};
+    ghost use Rattle.pcl_page.specs.Text.{prints, text_refusal, behind_character, behind_blank};
+    ghost use Rattle.pcl_page.specs.Situation.{Situation, font_now, text_printed, code_printed, codes_printed, blank_passed, blanks_passed};
     ghost use Rattle.pcl_page.specs.inner.Reflecting.{character_at, IsIn, IsDrawn, IsInked, IsAtCursor, HasSettings, Draws};
 
     /// Prints the codes in the font that is selected and in use. Without one a code above that of a space is refused.
@@ -36,8 +33,11 @@ impl<'a> Performer<'a> {
             → Draws dpi (text_refusal codes.now (font_now s)) (text_printed dpi codes.now s) result self.new }
     {
         match self.font_in_use() {
-            Some(font) => Ok(self.print_codes(codes, font.proportional, dpi)?),
-            None if are_spaces(codes) => Ok(self.print_codes(codes, false, dpi)?),
+            Some(font) => Ok(self.print_codes(codes, font, dpi)?),
+            None if are_spaces(codes) => {
+                self.pass_blanks(codes);
+                Ok(())
+            }
             None => Err(CallFault::Refused(Kind::NoFont)),
         }
     }
@@ -52,23 +52,32 @@ impl<'a> Performer<'a> {
         }
     }
 
-    /// Prints one code after the other. A character that is printed once more at its dot is inked there already.
-    fn print_codes(&mut self, codes: &[u8], proportional: bool, dpi: Dpi) -> Result<(), AllocError>
+    /// Prints one code after the other in the font. A character that is printed once more at its dot is inked there already.
+    fn print_codes(&mut self, codes: &[u8], font: FontInfo, dpi: Dpi) -> Result<(), AllocError>
         ensures { (s : Situation) → IsIn dpi s self.old → OnOk result
-            (IsIn dpi (codes_printed dpi proportional (prints s.fonts (font_in_use s.settings)) codes.now s) self.new) }
+            (IsIn dpi (codes_printed dpi font (prints s.fonts (font_in_use s.settings)) codes.now s) self.new) }
     {
         let mut last = None;
         for code in codes {
             match self.glyph(*code) {
                 Some(glyph) => {
                     let here = self.at_cursor(*code, dpi);
-                    self.print_glyph(&glyph, here, last == Some(here), proportional, dpi)?;
+                    self.print_glyph(&glyph, here, last == Some(here), font, dpi)?;
                     last = Some(here);
                 }
                 None => self.pass_blank(*code),
             }
         }
         Ok(())
+    }
+
+    /// Moves on after one code after the other that prints no character, as without a font.
+    fn pass_blanks(&mut self, codes: &[u8])
+        ensures { (dpi : Dpi) (s : Situation) → IsIn dpi s self.old → IsIn dpi (blanks_passed codes.now s) self.new }
+    {
+        for code in codes {
+            self.pass_blank(*code);
+        }
     }
 
     /// A code at the cursor's dot.
@@ -94,56 +103,56 @@ impl<'a> Performer<'a> {
         }
     }
 
-    /// Prints a character at the cursor, whose dot is given, and moves on. Whether it is inked there is given, too.
+    /// Prints a character of the font at the cursor, whose dot is given, and moves on. Whether it is inked there is given, too.
     fn print_glyph(
         &mut self,
         glyph: &Glyph<'a>,
         here: Printed,
         is_inked: bool,
-        proportional: bool,
+        font: FontInfo,
         dpi: Dpi,
     ) -> Result<(), AllocError>
         requires { IsAtCursor dpi here self.old.environment }
         ensures printed { (s : Situation) (code : ℕ) → IsIn dpi s self.old
-            → (IsTrue is_inked → IsInked (character_at dpi (character_in glyph.now) here.x here.y) self.old)
-            → OnOk result (IsIn dpi (code_printed dpi proportional (Some (character_in glyph.now)) code s) self.new) }
-        ensures inked { (IsTrue is_inked → IsInked (character_at dpi (character_in glyph.now) here.x here.y) self.old)
-            → OnOk result (IsInked (character_at dpi (character_in glyph.now) here.x here.y) self.new) }
+            → (IsTrue is_inked → IsInked (character_at dpi font (character_in glyph.now) here.x here.y) self.old)
+            → OnOk result (IsIn dpi (code_printed dpi font (Some (character_in glyph.now)) code s) self.new) }
+        ensures inked { (IsTrue is_inked → IsInked (character_at dpi font (character_in glyph.now) here.x here.y) self.old)
+            → OnOk result (IsInked (character_at dpi font (character_in glyph.now) here.x here.y) self.new) }
     {
         if !is_inked {
             let size = self.environment.size();
             self.follow_size(size)?;
-            self.ink_glyph(glyph, here, dpi);
+            self.ink_glyph(glyph, here, font, dpi);
         }
-        self.pass_glyph(glyph, proportional, dpi);
+        self.pass_glyph(glyph, font, dpi);
         Ok(())
     }
 
-    /// Inks a character at the dot where it is printed.
-    fn ink_glyph(&mut self, glyph: &Glyph<'a>, here: Printed, dpi: Dpi)
+    /// Inks a character of the font at the dot where it is printed.
+    fn ink_glyph(&mut self, glyph: &Glyph<'a>, here: Printed, font: FontInfo, dpi: Dpi)
         requires { IsAtCursor dpi here self.old.environment }
-        ensures drawn { IsDrawn (character_at dpi (character_in glyph.now) here.x here.y) self.old self.new }
+        ensures drawn { IsDrawn (character_at dpi font (character_in glyph.now) here.x here.y) self.old self.new }
         ensures raster { self.new.raster ≡ self.old.raster }
     {
         self.doubts
-            .note_ink(glyph, &self.environment, self.is_marked);
-        let x = right_of(here.x, glyph.left, dpi);
-        let y = above(here.y, glyph.top, dpi);
-        let scale = fineness(dpi);
+            .note_ink(glyph, font, &self.environment, self.is_marked);
+        let x = right_of(here.x, glyph.left, font, dpi);
+        let y = above(here.y, glyph.top, font, dpi);
+        let scale = dots_per_bit(font, dpi);
         self.page
             .bitmap
             .blit(x, y, glyph.width, glyph.height, glyph.rows, scale);
         self.is_marked = true;
     }
 
-    /// Moves on after a character.
-    fn pass_glyph(&mut self, glyph: &Glyph<'a>, proportional: bool, dpi: Dpi)
-        ensures { HasSettings (behind_character proportional (character_in glyph.now) self.old.environment) self.old self.new }
+    /// Moves on after a character of the font.
+    fn pass_glyph(&mut self, glyph: &Glyph<'a>, font: FontInfo, dpi: Dpi)
+        ensures { HasSettings (behind_character font (character_in glyph.now) self.old.environment) self.old self.new }
     {
         self.doubts
-            .note_character(glyph, &self.environment, proportional, dpi);
-        let units = if proportional {
-            i64::from(glyph.delta) * QUARTER_DOT
+            .note_character(glyph, font, &self.environment, dpi);
+        let units = if font.proportional {
+            font.advance(glyph.delta)
         } else {
             i64::from(self.environment.hmi())
         };
@@ -154,7 +163,7 @@ impl<'a> Performer<'a> {
     fn pass_blank(&mut self, code: u8)
         ensures { HasSettings (behind_blank code self.old.environment) self.old self.new }
     {
-        self.doubts.note_blank(code == SPACE);
+        self.doubts.note_blank(code == SPACE, &self.environment);
         if code == SPACE {
             let units = i64::from(self.environment.hmi());
             self.environment.advance(units);
@@ -162,44 +171,43 @@ impl<'a> Performer<'a> {
     }
 }
 
-ghost use Rattle.pcl_base.specs.Dpi.{fineness};
-ghost use Rattle.pcl_page.specs.Text.{are_spaces};
+ghost use Rattle.pcl_page.specs.Text.{are_spaces, dots_per_bit};
 
-/// How many dots wide and high a bit of a pattern is, which is one at 300 dots per inch.
-fn fineness(dpi: Dpi) -> u32
-    ensures value { result ≡ fineness dpi }
+/// How many dots wide and high a bit of a pattern is.
+fn dots_per_bit(font: FontInfo, dpi: Dpi) -> u32
+    ensures value { result ≡ dots_per_bit dpi font.resolution }
     ensures small { (1 ≤ result) × (result ≤ 2) }
 {
-    match dpi {
-        Dpi::Dpi300 => 1,
-        Dpi::Dpi600 => 2,
+    match (dpi, font.resolution) {
+        (Dpi::Dpi600, Dpi::Dpi300) => 2,
+        _ => 1,
     }
 }
 
 /// The dot that lies this many bits of a pattern right of a dot.
-fn right_of(dot: u32, bits: i16, dpi: Dpi) -> i32
+fn right_of(dot: u32, bits: i16, font: FontInfo, dpi: Dpi) -> i32
     requires { dot < 2 ^ 30 }
-    ensures { result ≡ pos dot +ℤ bits *ℤ pos (fineness dpi) }
+    ensures { result ≡ pos dot +ℤ bits *ℤ pos (dots_per_bit dpi font.resolution) }
 {
-    dot as i32 + spread(bits, dpi)
+    dot as i32 + spread(bits, font, dpi)
 }
 
 /// The dot that lies this many bits of a pattern above a dot.
-fn above(dot: u32, bits: i16, dpi: Dpi) -> i32
+fn above(dot: u32, bits: i16, font: FontInfo, dpi: Dpi) -> i32
     requires { dot < 2 ^ 30 }
-    ensures { result ≡ pos dot -ℤ bits *ℤ pos (fineness dpi) }
+    ensures { result ≡ pos dot -ℤ bits *ℤ pos (dots_per_bit dpi font.resolution) }
 {
-    dot as i32 - spread(bits, dpi)
+    dot as i32 - spread(bits, font, dpi)
 }
 
 /// How many dots some bits of a pattern are.
-fn spread(bits: i16, dpi: Dpi) -> i32
-    ensures value { result ≡ bits *ℤ pos (fineness dpi) }
+fn spread(bits: i16, font: FontInfo, dpi: Dpi) -> i32
+    ensures value { result ≡ bits *ℤ pos (dots_per_bit dpi font.resolution) }
     ensures small { (negsuc 65535 ≤ℤ result) × (result ≤ℤ pos 65535) }
 {
-    match dpi {
-        Dpi::Dpi300 => i32::from(bits),
-        Dpi::Dpi600 => i32::from(bits) * 2,
+    match (dpi, font.resolution) {
+        (Dpi::Dpi600, Dpi::Dpi300) => i32::from(bits) * 2,
+        _ => i32::from(bits),
     }
 }
 

@@ -575,8 +575,8 @@ fn assert_changes(rt: &impl Abort, env: &mut Env) {
 }
 
 fn assert_selects(rt: &impl Abort, env: &mut Env) {
-    env.select(Side::Primary, 11, 10);
-    env.select(Side::Secondary, 12, 8);
+    env.select(Side::Primary, 11, 60);
+    env.select(Side::Secondary, 12, 48);
     assert_gives(rt, &"fonts", &text(env), &(48, Side::Secondary, Some(12)));
 }
 

@@ -63,15 +63,15 @@ impl Env {
         }
     }
 
-    /// Selects a font by its ID for a side. The column width (HMI) becomes the font's pitch, which is
-    /// given in quarter dots at 300 per inch.
-    pub fn select(&mut self, side: Side, id: u16, pitch: u16)
-        ensures { self.new ≡ select side id pitch self.old }
+    /// Selects a font by its ID for a side. The column width (HMI) becomes that of the font, which is given in units of
+    /// 1/7200 inch.
+    pub fn select(&mut self, side: Side, id: u16, width: u32)
+        ensures { self.new ≡ select side id width self.old }
     {
         match side {
             Side::Primary => self.setup.primary = Some(id),
             Side::Secondary => self.setup.secondary = Some(id),
         }
-        self.setup.hmi = u32::from(pitch) * 6;
+        self.setup.hmi = width;
     }
 }

@@ -11,12 +11,12 @@ use Rattle.pcl_base.specs.declared.name.Name.TheVariants.{Empty}
 use Rattle.pcl_base.specs.declared.operation.Operation.{Operation}
 use Rattle.pcl_base.specs.declared.size.Size.{Size}
 use Rattle.pcl_base.specs.Operation.{operation_of}
-use Rattle.pcl_base.specs.Dpi.{fineness}
 use Rattle.pcl_base.specs.Refusal.{refusal}
 use Rattle.pcl_base.specs.Size.{page_width, page_height}
 use Rattle.pcl_bitmap.specs.Bitmap.{Picture, dot}
 use Rattle.pcl_escape.specs.Said.{Said}
 use Rattle.pcl_env.specs.Settings.{Settings, to_first_line}
+use Rattle.pcl_fonts.specs.declared.header.FontInfo.{FontInfo}
 use Rattle.pcl_fonts.specs.Fields.{Character}
 use Rattle.pcl_fonts.specs.History.{FontEvent}
 use Rattle.pcl_fonts.specs.Table.{Holds, Follows}
@@ -29,6 +29,7 @@ use Rattle.pcl_bitmap.specs.Dots.{is_black_ink, pattern_dot}
 use Rattle.pcl_env.specs.declared.asked.Asked.{Asked}
 use Rattle.pcl_page.specs.Asks.{with_page, asks_of}
 use Rattle.pcl_page.specs.Marks.{Mark, is_black, dot_at}
+use Rattle.pcl_page.specs.Text.{dots_per_bit}
 use Rattle.pcl_page.specs.Raster.{Raster, row_sent, with_row, row_mark, ends_raster}
 use Rattle.pcl_page.specs.Situation.{Sheet, Situation, raster_for_row, settings_below, is_marked, turned, at_end, page_refusal, tried}
 use Rattle.pcl_page.specs.Delivering.{Hands}
@@ -134,11 +135,11 @@ pub record IsInked (mark : Mark) (performer : Performer) : Type 0 where
       → y < page_height performer.page.bitmap.size performer.page.bitmap.dpi → mark.covers x y ≡ true
       → dot performer.page.bitmap x y ≡ true
 
--- the dots of a character, with the cursor at a dot
-abbrev pub character_at : Dpi → Character → ℕ → ℕ → Mark
-character_at dpi c x y = record {
-  covers = pattern_dot (pos x +ℤ c.left *ℤ pos (fineness dpi)) (pos y -ℤ c.top *ℤ pos (fineness dpi)) (fineness dpi)
-      c.width c.height c.rows;
+-- the dots of a character of a font, with the cursor at a dot
+abbrev pub character_at : Dpi → FontInfo → Character → ℕ → ℕ → Mark
+character_at dpi font c x y = record {
+  covers = pattern_dot (pos x +ℤ c.left *ℤ pos (dots_per_bit dpi font.resolution))
+      (pos y -ℤ c.top *ℤ pos (dots_per_bit dpi font.resolution)) (dots_per_bit dpi font.resolution) c.width c.height c.rows;
   ink = Black;
 }
 
@@ -149,10 +150,10 @@ pub record IsAtCursor (dpi : Dpi) (here : Printed) (s : Settings) : Type 0 where
   pub near : (here.x < 2 ^ 30) × (here.y < 2 ^ 30)
 
 -- the character that was printed last is inked, if one was
-abbrev pub IsLastInked : Dpi → (ℕ → Option Character) → Option Printed → Performer → Type 0
-IsLastInked dpi characters None performer = Unit {0}
-IsLastInked dpi characters (Some last) performer =
-    (c : Character) → characters last.code ≡ Some c → IsInked (character_at dpi c last.x last.y) performer
+abbrev pub IsLastInked : Dpi → FontInfo → (ℕ → Option Character) → Option Printed → Performer → Type 0
+IsLastInked dpi font characters None performer = Unit {0}
+IsLastInked dpi font characters (Some last) performer =
+    (c : Character) → characters last.code ≡ Some c → IsInked (character_at dpi font c last.x last.y) performer
 
 -- something became of fonts, and all else is as before
 pub record HasEvent (event : FontEvent) (old new : Performer) : Type 0 where

@@ -3,7 +3,7 @@ use Rattle.pcl_page.proofs.Printed.{settings_in, row_in}
 use Rattle.pcl_page.proofs.performer.Performer.draw.Goals as goal
 
 pub returns-in-DownloadFont : goal.returns-in-DownloadFont
-returns-in-DownloadFont c = λ s i. rw c.in-DownloadFont.is (c.download_font.ensures c.args.dpi s i)
+returns-in-DownloadFont c = λ s i. rw c.in-DownloadFont.is (c.download_font.ensures s i)
 
 pub returns-in-DownloadCharacter : goal.returns-in-DownloadCharacter
 returns-in-DownloadCharacter c = λ s i. rw c.in-DownloadCharacter.is (c.download_character.ensures c.args.dpi s i)

@@ -1,6 +1,6 @@
 use Rattle.std.proofs.Common.{◌≡◌, ◌<◌, ◌∷◌, ◌+◌, ◌∙◌, List, ℕ, Some, None, length, drop, get_or, refl, sym, ap, rules, add-one, drop-cons}
 use Rattle.pcl_page.proofs.Names.{option_map, IsTrue, character_in, font_in_use, prints, character_at, IsInked}
-use Rattle.pcl_page.proofs.Printed.{same_character, code_done, blank_printed, inked_last, last_now, last_still}
+use Rattle.pcl_page.proofs.Printed.{same_character, code_done, blank_passed_in, inked_last, last_now, last_still}
 use Rattle.pcl_page.proofs.performer.Performer.print_codes.Goals as goal
 use Rattle.pcl_page.proofs.performer.Performer.print_codes.Goals.{in-Some+in_ok-print_glyph-in-Some, in-None}
 
@@ -23,16 +23,16 @@ loop-code-preserved c = λ s i.
           let is = sym (ap (option_map character_in) w.in-Some.is) ∙ found in
           let its : Some printed ≡ characters here.code =
           same_character p code (Some printed) is ∙ ap characters (sym w.at_cursor-here.ensures.code) in
-          let inked : IsTrue w.eq.result → IsInked (character_at c.args.dpi printed here.x here.y) c.loop-code.self =
+          let inked : IsTrue w.eq.result → IsInked (character_at c.args.dpi c.args.font printed here.x here.y) c.loop-code.self =
           λ same. inked_last c.loop-code.last here p so_far.1 (search rules) its in
           rw (w.self-is, w.last-is) (
             code_done code (Some printed) p is (w.in_ok-print_glyph-in-Some.ensures.printed p.now code p.is_in inked),
-            last_now c.args.dpi characters here its (w.in_ok-print_glyph-in-Some.ensures.inked inked),
+            last_now c.args.dpi c.args.font characters here its (w.in_ok-print_glyph-in-Some.ensures.inked inked),
           )
       | in-None w ↦
           rw (w.self-is, w.last-is) (
             code_done code None p (sym (ap (option_map character_in) w.in-None.is) ∙ found)
-                (blank_printed c.args.proportional code p.is_in w.pass_blank.ensures),
-            last_still c.args.dpi characters c.loop-code.last so_far.1 w.pass_blank.ensures,
+                (blank_passed_in code p.is_in w.pass_blank.ensures),
+            last_still c.args.dpi c.args.font characters c.loop-code.last so_far.1 w.pass_blank.ensures,
           )
     ]

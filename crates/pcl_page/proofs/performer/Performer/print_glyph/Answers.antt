@@ -7,9 +7,9 @@ use Rattle.pcl_page.proofs.performer.Performer.print_glyph.Goals.{then-not-is_in
 
 -- the character is drawn, now or before
 is_drawn : (c : goal.After-pass_glyph) (s : Situation) → IsIn c.args.dpi s c.args.self.now → (IsTrue c.args.is_inked
-    → IsInked (character_at c.args.dpi (character_in c.args.glyph.now) c.args.here.x c.args.here.y) c.args.self.now)
+    → IsInked (character_at c.args.dpi c.args.font (character_in c.args.glyph.now) c.args.here.x c.args.here.y) c.args.self.now)
     → (begun : Performer) × IsFollowed c.args.self.now.environment.size c.args.self.now begun
-    × IsDrawn (character_at c.args.dpi (character_in c.args.glyph.now) c.args.here.x c.args.here.y) begun c.if-not-is_inked.self
+    × IsDrawn (character_at c.args.dpi c.args.font (character_in c.args.glyph.now) c.args.here.x c.args.here.y) begun c.if-not-is_inked.self
     × (c.if-not-is_inked.self.raster ≡ begun.raster)
 is_drawn c s i inked =
     elim c.if-not-is_inked.branch [
@@ -23,8 +23,8 @@ is_drawn c s i inked =
 
 -- and inked
 is_inked : (c : goal.After-pass_glyph) → (IsTrue c.args.is_inked
-    → IsInked (character_at c.args.dpi (character_in c.args.glyph.now) c.args.here.x c.args.here.y) c.args.self.now)
-    → IsInked (character_at c.args.dpi (character_in c.args.glyph.now) c.args.here.x c.args.here.y) c.if-not-is_inked.self
+    → IsInked (character_at c.args.dpi c.args.font (character_in c.args.glyph.now) c.args.here.x c.args.here.y) c.args.self.now)
+    → IsInked (character_at c.args.dpi c.args.font (character_in c.args.glyph.now) c.args.here.x c.args.here.y) c.if-not-is_inked.self
 is_inked c inked =
     elim c.if-not-is_inked.branch [
       | then-not-is_inked+in_ok-follow_size w ↦ rw w.self-is (inked_by refl w.ink_glyph.ensures.drawn)
@@ -34,7 +34,7 @@ is_inked c inked =
 pub returns-clause-printed : goal.returns-clause-printed
 returns-clause-printed c = λ s code i inked.
     let d = is_drawn c s i inked in
-    character_printed c.args.proportional (character_in c.args.glyph.now) code i c.requires d.1 d.2 d.3 c.pass_glyph.ensures
+    character_printed c.args.font (character_in c.args.glyph.now) code i c.requires d.1 d.2 d.3 c.pass_glyph.ensures
 
 pub returns-clause-inked : goal.returns-clause-inked
 returns-clause-inked c = λ inked. inked_still (is_inked c inked) c.pass_glyph.ensures
