@@ -124,7 +124,7 @@ header_alike dpi (byte ∷ bytes) e = either_alike (has_format 0 64 (byte ∷ by
 draw_refusal_alike : (dpi : Dpi) (operation : Operation) (command : Said) (s : Situation) → IsStated s.settings
     → draw_refusal dpi operation command s ≡ None → draw_refusal dpi operation command (by_drivers s) ≡ None
 draw_refusal_alike dpi PrintText command s stated e = rw (font_alike s.settings) e
-draw_refusal_alike dpi DownloadFont command s stated e = header_alike dpi command.bytes (rw stated.profile at e)
+draw_refusal_alike dpi DownloadFont command s stated e = header_alike dpi command.bytes (rw stated.0 at e)
 draw_refusal_alike dpi other command s stated e = e
 
 drawn_on_alike : (dpi : Dpi) (operation : Operation) (command : Said) → LeadsAlike (drawn_on dpi operation command)
