@@ -203,12 +203,12 @@ blanks_passed [] s = s
 blanks_passed (code ∷ codes) s = blanks_passed codes (blank_passed code s)
 
 -- without a font no code prints a character
-abbrev pub printed_in : Dpi → List ℕ → Option FontInfo → Situation → Situation
-printed_in dpi codes None s = blanks_passed codes s
-printed_in dpi codes (Some font) s = codes_printed dpi font (prints s.fonts (font_in_use s.settings)) codes s
+abbrev pub text_in : Dpi → List ℕ → Option FontInfo → Situation → Situation
+text_in dpi codes None s = blanks_passed codes s
+text_in dpi codes (Some font) s = codes_printed dpi font (prints s.fonts (font_in_use s.settings)) codes s
 
 abbrev pub text_printed : Dpi → List ℕ → Situation → Situation
-text_printed dpi codes s = printed_in dpi codes (info_of (font_now s)) s
+text_printed dpi codes s = text_in dpi codes (info_of (font_now s)) s
 
 -- ---- universal exits
 
