@@ -26,9 +26,8 @@ use Rattle.pcl_env.specs.Outcome.{Outcome, outcome}
 use Rattle.pcl_fonts.specs.declared.fonts.FontControl.{FontControl}
 use Rattle.pcl_fonts.specs.declared.fonts.FontControl.TheVariants.{All, Temporary}
 use Rattle.pcl_fonts.specs.declared.header.FontInfo.{FontInfo}
-use Rattle.pcl_fonts.specs.Fields.{Font, Character}
+use Rattle.pcl_fonts.specs.Fields.{Font, Character, info_of}
 use Rattle.pcl_fonts.specs.History.{FontEvent, header, character, control, font_after, has_permanent as is_font_permanent}
-use Rattle.pcl_fonts.specs.Table.{info_of}
 use Rattle.pcl_macros.specs.History.{MacroEvent, has_permanent as is_macro_permanent}
 use Rattle.pcl_macros.specs.Table.{Begun}
 use Rattle.pcl_page.specs.Asks.{Asks, no_asks, with_page, with_exit, restarted, with_side, lasting_if}
