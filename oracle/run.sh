@@ -12,6 +12,7 @@ rustc -O -C codegen-units=1 --edition 2024 -o build/oracle/plain oracle/plain/ma
 for table in crates/job_cases/data/*.txt; do
     case $(basename "$table") in
         certificates.txt) ;;
+        drivers.txt) python3 oracle/reference.py --drivers "$table" ;;
         *) python3 oracle/reference.py "$table" ;;
     esac
 done

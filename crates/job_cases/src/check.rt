@@ -3,9 +3,9 @@
 use crate::case::{Case, Pages};
 use crate::shown::{show_job, show_pages};
 use case_tables::{NotationFault, bytes_of};
-use pcl_base::{JobFault, Refusal};
+use pcl_base::{JobFault, Profile, Refusal};
 use pcl_cert::Format;
-use pcl_page::{Page, PageSink, perform};
+use pcl_page::{Page, PageSink, perform, perform_by};
 use pcl_tool::{Fault, Output, minimize};
 use std::alloc::{AllocError, Global};
 
@@ -48,19 +48,26 @@ impl PageSink for Comparison<'_> {
     }
 }
 
-/// What came in place of what a case expects; none where it holds.
-pub(crate) fn fault_of(alloc: Global, case: &Case) -> Result<Option<String>, AllocError> {
+/// What came in place of what a case expects by a profile; none where it holds.
+pub(crate) fn fault_of(
+    alloc: Global,
+    case: &Case,
+    profile: Profile,
+) -> Result<Option<String>, AllocError> {
     let job = match bytes_of(alloc, case.notation.as_str()) {
         Ok(job) => job,
         Err(NotationFault::Memory(error)) => return Err(error),
         Err(fault) => return Ok(Some(format!(in alloc; "  {fault}")?)),
     };
     let mut comparison = Comparison::new(case);
-    match perform(alloc, &job, case.dpi, &mut comparison) {
-        Err(JobFault::Refused(refusal)) => refusal_fault(alloc, case, &job, refusal),
+    match perform_by(alloc, &job, profile, case.dpi, &mut comparison) {
+        Err(JobFault::Refused(refusal)) => refusal_fault(alloc, case, &job, refusal, profile),
         Err(JobFault::Memory) => Err(AllocError),
-        Ok(()) if comparison.holds() && is_accepted(case) => written_fault(alloc, case, &job),
-        Ok(()) => Ok(Some(show_pages(alloc, &job, case.dpi)?)),
+        Ok(()) if comparison.holds() && is_accepted(case) => match profile {
+            Profile::Stated => written_fault(alloc, case, &job),
+            Profile::Drivers => Ok(None),
+        },
+        Ok(()) => Ok(Some(show_pages(alloc, &job, profile, case.dpi)?)),
     }
 }
 
@@ -69,12 +76,13 @@ fn is_accepted(case: &Case) -> bool {
     case.refusal.is_none() && case.no_page == case.pages.is_empty()
 }
 
-/// What is wrong with a refusal: it isn't the expected one, or the job isn't refused so when it is written.
+/// What is wrong with a refusal: it isn't the expected one, or by the stated profile the job isn't refused so when it is written.
 fn refusal_fault(
     alloc: Global,
     case: &Case,
     job: &[u8],
     refusal: Refusal,
+    profile: Profile,
 ) -> Result<Option<String>, AllocError> {
     let mut line = Vec::new(alloc);
     refusal.write_text(&mut line)?;
@@ -85,6 +93,9 @@ fn refusal_fault(
         .is_none_or(|expected| expected.as_str() != line)
     {
         return Ok(Some(format!(in alloc; "  refused {line}")?));
+    }
+    if profile == Profile::Drivers {
+        return Ok(None);
     }
     match minimize(alloc, job, case.dpi, Format::One) {
         Err(Fault::Refused(same)) if same == refusal => Ok(None),
@@ -103,7 +114,7 @@ fn written_fault(alloc: Global, case: &Case, job: &[u8]) -> Result<Option<String
     let mut comparison = Comparison::new(case);
     let read = perform(alloc, &output.job, case.dpi, &mut comparison);
     if read.is_err() || !comparison.holds() {
-        let pages = show_pages(alloc, &output.job, case.dpi)?;
+        let pages = show_pages(alloc, &output.job, Profile::Stated, case.dpi)?;
         return Ok(Some(format!(in alloc; "  the written job has\n{pages}")?));
     }
     let len = output.job.len();

@@ -1,7 +1,7 @@
 //! Whole jobs and what becomes of them: a table of named cases in text files, which `table` tells how to write.
 //! Each case is performed, and its pages are compared dot for dot, or its refusal word for word; then the job
-//! is written again, and what was written has to have the same pages. One more table has certificates that are
-//! changed and the verdicts on them (`certificates`).
+//! is written again, and what was written has to have the same pages. The jobs of `drivers.txt` are read by the drivers'
+//! profile, and not written. One more table has certificates that are changed and the verdicts on them (`certificates`).
 //!
 //! It prints how many cases hold; `stdout` has how many there are. A case that doesn't is printed with its job and
 //! with what came instead, and the status is then 1. The tables lie in the folder that its argument names, or
@@ -19,12 +19,13 @@ use case::Case;
 use case_tables::{RunFault, check_lines, read_text};
 use certificates::Certificates;
 use check::fault_of;
+use pcl_base::Profile;
 use std::alloc::Global;
 use std::io;
 use std::rt::Files;
 use table::cases_of;
 
-/// The tables, each a file of `data/`.
+/// The tables, each a file of `data/`, by the stated profile.
 const TABLES: [&str; 20] = [
     "bytes.txt",
     "sequences.txt",
@@ -48,6 +49,9 @@ const TABLES: [&str; 20] = [
     "least.txt",
 ];
 
+/// The table of jobs that are read by the drivers' profile, and not written.
+const DRIVERS_TABLE: &str = "drivers.txt";
+
 /// The table of certificates that are changed.
 const CERTIFICATES: &str = "certificates.txt";
 
@@ -56,10 +60,14 @@ fn main(rt: HostRuntime) -> Result<(), RunFault> {
     let folder = folder.as_ref().map_or(".", |folder| folder.as_str());
     let mut count = 0usize;
     let mut failed = 0usize;
-    for name in TABLES {
+    let tables = TABLES
+        .into_iter()
+        .map(|name| (name, Profile::Stated))
+        .chain([(DRIVERS_TABLE, Profile::Drivers)]);
+    for (name, profile) in tables {
         for case in read_table(&rt, rt.alloc(), folder, name)?.iter() {
             count = count.saturating_add(1);
-            if !holds(&rt, rt.alloc(), name, case)? {
+            if !holds(&rt, rt.alloc(), name, case, profile)? {
                 failed = failed.saturating_add(1);
             }
         }
@@ -87,9 +95,15 @@ fn read_table(
     cases_of(alloc, text.as_str()).map_err(|(line, fault)| RunFault::Table { name, line, fault })
 }
 
-/// Whether a case holds. One that doesn't is printed.
-fn holds(rt: &impl Print, alloc: Global, table: &str, case: &Case) -> io::Result<bool> {
-    let fault = fault_of(alloc, case)?;
+/// Whether a case holds by a profile. One that doesn't is printed.
+fn holds(
+    rt: &impl Print,
+    alloc: Global,
+    table: &str,
+    case: &Case,
+    profile: Profile,
+) -> io::Result<bool> {
+    let fault = fault_of(alloc, case, profile)?;
     if let Some(came) = &fault {
         println!(rt; "{table}: {}\n  job {}\n{came}", case.name, case.notation)?;
     }

@@ -1,8 +1,8 @@
 //! What came of a job, as a table would have it.
 
 use case_tables::ESC;
-use pcl_base::{Dpi, Size};
-use pcl_page::{Page, read_pages};
+use pcl_base::{Dpi, Profile, Size};
+use pcl_page::{Page, PageSink, perform_by};
 use std::alloc::{AllocError, Global};
 
 /// How many rows of a page are shown.
@@ -24,19 +24,35 @@ pub(crate) fn name_of(size: Size) -> &'static str {
     }
 }
 
-/// The pages of a job, each with its first rows that aren't white.
-pub(crate) fn show_pages(alloc: Global, job: &[u8], dpi: Dpi) -> Result<String, AllocError> {
-    let mut text = String::new(alloc);
-    match read_pages(alloc, job, dpi) {
-        Ok(pages) if pages.is_empty() => text.push_str("  no page")?,
-        Ok(pages) => {
-            for page in pages.iter() {
-                show_page(&mut text, page)?;
-            }
-        }
-        Err(_) => text.push_str("  a refusal")?,
+/// Shows the pages that come.
+#[derive(Drop)]
+struct Shown {
+    text: String,
+}
+
+impl PageSink for Shown {
+    ghost takes = { λ old page new. Unit {0} };
+
+    fn page(&mut self, page: &Page) -> Result<(), AllocError> {
+        show_page(&mut self.text, page)
     }
-    Ok(text)
+}
+
+/// The pages of a job by a profile, each with its first rows that aren't white.
+pub(crate) fn show_pages(
+    alloc: Global,
+    job: &[u8],
+    profile: Profile,
+    dpi: Dpi,
+) -> Result<String, AllocError> {
+    let mut shown = Shown {
+        text: String::new(alloc),
+    };
+    match perform_by(alloc, job, profile, dpi, &mut shown) {
+        Ok(()) if shown.text.is_empty() => String::from_str(alloc, "  no page"),
+        Ok(()) => Ok(shown.text),
+        Err(_) => String::from_str(alloc, "  a refusal"),
+    }
 }
 
 fn show_page(text: &mut String, page: &Page) -> Result<(), AllocError> {

@@ -1,7 +1,7 @@
 //! Parts of jobs alone: the text of a page, a font and its character, and a macro.
 
 use crate::jobs::{CHARACTER, HEADER};
-use pcl_base::{CallFault, Dpi, Size};
+use pcl_base::{CallFault, Dpi, Profile, Size};
 use pcl_bitmap::{Bitmap, Ink, Page};
 use pcl_fonts::Fonts;
 use pcl_macros::Macros;
@@ -49,8 +49,8 @@ fn page_text(alloc: Global) -> Result<usize, AllocError> {
 /// Prints what a font and its character are taken as.
 fn print_font<R: Print + AllocGlobal>(rt: &R) -> io::Result<()> {
     let mut fonts = Fonts::new(rt.alloc());
-    let header = match fonts.header(1, &HEADER) {
-        Err(CallFault::Memory) => fonts.header(1, &HEADER),
+    let header = match fonts.header(1, &HEADER, Profile::Stated, Dpi::Dpi300) {
+        Err(CallFault::Memory) => fonts.header(1, &HEADER, Profile::Stated, Dpi::Dpi300),
         answer => answer,
     };
     let character = match fonts.character(1, 65, &CHARACTER) {

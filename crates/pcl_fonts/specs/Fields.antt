@@ -1,5 +1,5 @@
 -- What the data of a soft font say: the header of a font, and a character (docs/LANGUAGE.md, "Soft fonts").
-use Rattle.std.specs.Prelude.{ℕ, ◌+◌, ◌*◌, ◌/◌, ℤ, Bool, true, false, ◌&&◌, ◌||◌, ◌==◌, if◌then◌else◌, nat_le, nat_eq, List, length, take, drop, slice_index}
+use Rattle.std.specs.Prelude.{ℕ, ◌+◌, ◌*◌, ◌/◌, ℤ, Bool, true, false, ◌&&◌, ◌||◌, ◌==◌, if◌then◌else◌, nat_le, nat_eq, List, length, take, drop, slice_index, Option, Some, None}
 use Rattle.std.specs.Int.{w16, cast_signed}
 use Rattle.byteorder.specs.Endian.{big_number}
 use Rattle.pcl_base.specs.declared.dpi.Dpi.{Dpi}
@@ -7,6 +7,7 @@ use Rattle.pcl_base.specs.declared.dpi.Dpi.TheVariants.{Dpi300, Dpi600}
 use Rattle.pcl_base.specs.declared.profile.Profile.{Profile}
 use Rattle.pcl_base.specs.declared.profile.Profile.TheVariants.{Stated, Drivers}
 use Rattle.pcl_base.specs.Dpi.{dots_per_inch, units_per_dot}
+use Rattle.pcl_fonts.specs.declared.header.FontInfo.{FontInfo}
 use Rattle.pcl_fonts.specs.declared.header.FontType.{FontType}
 use Rattle.pcl_fonts.specs.declared.header.FontType.TheVariants.{SevenBit, EightBit, EveryCode}
 
@@ -43,6 +44,11 @@ pub record Font : Type 0 where
   pub resolution : Dpi
   pub type : FontType
   pub permanent : Bool
+
+-- what text has to know of a font, if there is one
+abbrev pub info_of : Option Font → Option FontInfo
+info_of None = None
+info_of (Some font) = Some (record { proportional = font.proportional; pitch = font.pitch; resolution = font.resolution })
 
 -- a header of a format, which has this many bytes at least: all that the size field says, a type of three, no orientation, a spacing
 -- of two

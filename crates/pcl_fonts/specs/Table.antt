@@ -10,7 +10,6 @@ use Rattle.pcl_base.specs.declared.dpi.Dpi.{Dpi}
 use Rattle.pcl_base.specs.declared.profile.Profile.{Profile}
 use Rattle.pcl_fonts.specs.Fields.{Font, Character, has_code, is_header, is_character}
 use Rattle.pcl_fonts.specs.History.{FontEvent, header, character, font_step, font_after, character_step, character_after}
-use Rattle.pcl_fonts.specs.declared.header.FontInfo.{FontInfo}
 use Rattle.pcl_fonts.specs.declared.header.Header.{Header}
 use Rattle.pcl_fonts.specs.declared.fonts.Entry.{Entry}
 use Rattle.pcl_fonts.specs.declared.fonts.Fonts.TheInside.{Inside}
@@ -55,11 +54,6 @@ printed_in table id code (Some font) = if has_code font.type code then character
 
 abbrev pub printed : FontTable → ℕ → ℕ → Option Character
 printed table id code = printed_in table id code (font_at table id)
-
--- what text has to know of a font
-abbrev pub info_of : Option Font → Option FontInfo
-info_of None = None
-info_of (Some font) = Some (record { proportional = font.proportional; pitch = font.pitch; resolution = font.resolution })
 
 -- A header for an ID, by a profile and on pages of a resolution: it is taken, and refused exactly where it is no header. After a
 -- fault all is the same.

@@ -72,9 +72,9 @@ impl<'a> Fonts<'a> {
     ghost use Rattle.std.specs.Prelude.{ℕ, List, [], nat_eq, if◌then◌else◌};
     ghost use Rattle.std.specs.Map.{lookup};
     ghost use Rattle.std.specs.Option.{option_map};
-    ghost use Rattle.pcl_fonts.specs.Fields.{is_header, is_character};
+    ghost use Rattle.pcl_fonts.specs.Fields.{is_header, is_character, info_of};
     ghost use Rattle.pcl_fonts.specs.History.{FontEvent, header, character, control, has_permanent};
-    ghost use Rattle.pcl_fonts.specs.Table.{Holds, Follows, IsSame, HasHeader, HasCharacter, printed, font_at, info_of, character_in, stored_in};
+    ghost use Rattle.pcl_fonts.specs.Table.{Holds, Follows, IsSame, HasHeader, HasCharacter, printed, font_at, character_in, stored_in};
 
     /// No fonts.
     pub fn new(alloc: Global) -> Fonts<'a>

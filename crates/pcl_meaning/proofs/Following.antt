@@ -25,9 +25,9 @@ module _ (command : Said) (s : Situation) where
   drawn_same dpi Reset = refl
   drawn_same dpi other = refl
 
-  refusal_same : (operation : Operation) → draw_refusal operation command s ≡ draw_refusal operation (nameless command) s
-  refusal_same ControlFonts = refl
-  refusal_same other = refl
+  refusal_same : (dpi : Dpi) (operation : Operation) → draw_refusal dpi operation command s ≡ draw_refusal dpi operation (nameless command) s
+  refusal_same dpi ControlFonts = refl
+  refusal_same dpi other = refl
 
 after_same : (dpi : Dpi) (operation : Operation) (command : Said) (s : Situation)
     → after dpi operation command s ≡ after dpi operation (nameless command) s
@@ -39,7 +39,7 @@ after_same dpi operation command s =
   where
     drawn_alike : (o : Result Situation Kind) → (o |> drawn_on dpi operation command) ≡ (o |> drawn_on dpi operation (nameless command))
     drawn_alike (Err kind) = refl
-    drawn_alike (Ok now) = rw (refusal_same command now operation, drawn_same command now dpi operation) refl
+    drawn_alike (Ok now) = rw (refusal_same command now dpi operation, drawn_same command now dpi operation) refl
 
 -- ---- deeds one after the other
 

@@ -1,7 +1,7 @@
 -- What a command leaves alone.
 use Rattle.std.proofs.Common.{◌≡◌, ℕ, ◌<◌, Bool, true, false, cond, nat_le, List, [], ◌∷◌, Option, Some, None, Result, Ok, Err, refl, length-append, arith, rules}
 use Rattle.pcl_page.proofs.Names.{nat_tests, Dpi, Kind, TooManyCommands, Operation, PrintText, command_limit, operation_of, Character, Said, Effect, EjectMarked, Settings, defaults, font_in_use, Outcome, outcome, FontInfo, info_of, prints, ends_raster}
-use Rattle.pcl_page.specs.Situation.{Situation, font_now, blank_passed, code_printed, codes_printed, blanks_passed, printed_in, draw_refusal, unless_refused, ◌|>◌, end_raster, is_marked, ejects, sheet_of, turned_page, turned, turned_by, drawn, drawn_on, taken, counted, counted_in_limit, prepared, is_ignored, after, after_named, page_refusal, within_page_limit, tried, at_end}
+use Rattle.pcl_page.specs.Situation.{Situation, font_now, blank_passed, code_printed, codes_printed, blanks_passed, text_in, draw_refusal, unless_refused, ◌|>◌, end_raster, is_marked, ejects, sheet_of, turned_page, turned, turned_by, drawn, drawn_on, taken, counted, counted_in_limit, prepared, is_ignored, after, after_named, page_refusal, within_page_limit, tried, at_end}
 use Rattle.pcl_page.proofs.Sinks.{Onward, stays_there}
 use Rattle.pcl_page.proofs.Turns.{prepared_page}
 
@@ -31,7 +31,7 @@ blanks_keep (code ∷ codes) {s} =
     let more = blanks_keep codes {s = blank_passed code s} in
     record { pages = cc; performed = cc; macros = cc; begun = cc; asked = cc }
 
-text_keeps : (dpi : Dpi) (codes : List ℕ) (font : Option FontInfo) {s : Situation} → KeepsCounts s (printed_in dpi codes font s)
+text_keeps : (dpi : Dpi) (codes : List ℕ) (font : Option FontInfo) {s : Situation} → KeepsCounts s (text_in dpi codes font s)
 text_keeps dpi codes None = blanks_keep codes
 text_keeps dpi codes (Some font) {s} = codes_keep dpi font (prints s.fonts (font_in_use s.settings)) codes
 

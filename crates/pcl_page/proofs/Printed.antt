@@ -1,7 +1,7 @@
 -- What is drawn, text and fonts: the performer follows the situation.
 use Rattle.std.proofs.Common.{◌≡◌, ℕ, suc, ◌+◌, ◌-◌, ◌*◌, Bool, true, cond, List, ◌∷◌, Option, Some, None, ℤ, pos, negsuc, refl, sym, subst, ◌∙◌, rules, arith, ◌==◌}
 use Rattle.pcl_fonts.specs.Fields.{quarter_dot}
-use Rattle.pcl_page.proofs.Names.{Dpi, Side, NoFont, Black, Said, Font, Character, FontInfo, info_of, Settings, put_x, advance, font_of, font_in_use, Performer, Printed, Mark, prints, character_mark, are_spaces, select, select_there, text_refusal, behind_character, behind_blank, Situation, with_row_in, raster_for_row, blank_passed, code_printed, codes_printed, blanks_passed, printed_in, character_at, IsIn, IsFollowed, IsDrawn, IsInked, IsAtCursor, IsLastInked, IsSent, HasSettings}
+use Rattle.pcl_page.proofs.Names.{Dpi, Side, NoFont, Black, Said, Font, Character, FontInfo, info_of, Settings, put_x, advance, font_of, font_in_use, Performer, Printed, Mark, prints, character_mark, are_spaces, select, select_there, text_refusal, behind_character, behind_blank, Situation, with_row_in, raster_for_row, blank_passed, code_printed, codes_printed, blanks_passed, text_in, character_at, IsIn, IsFollowed, IsDrawn, IsInked, IsAtCursor, IsLastInked, IsSent, HasSettings}
 use Rattle.pcl_page.proofs.Turns.{still_sized, drawn_in}
 
 pub settings_in : {dpi : Dpi} {settings : Settings} {s : Situation} {old new : Performer} → IsIn dpi s old → HasSettings settings old new
@@ -154,5 +154,5 @@ pub with_its_font : (codes : List ℕ) (font : Option Font) {info : FontInfo} �
 with_its_font codes font e = grind arith
 
 pub printed_as : {dpi : Dpi} {one other : Option FontInfo} {new : Performer} (codes : List ℕ) (s : Situation) → one ≡ other
-    → IsIn dpi (printed_in dpi codes one s) new → IsIn dpi (printed_in dpi codes other s) new
+    → IsIn dpi (text_in dpi codes one s) new → IsIn dpi (text_in dpi codes other s) new
 printed_as codes s e i = rw (← e) i

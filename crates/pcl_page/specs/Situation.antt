@@ -26,9 +26,8 @@ use Rattle.pcl_env.specs.Outcome.{Outcome, outcome}
 use Rattle.pcl_fonts.specs.declared.fonts.FontControl.{FontControl}
 use Rattle.pcl_fonts.specs.declared.fonts.FontControl.TheVariants.{All, Temporary}
 use Rattle.pcl_fonts.specs.declared.header.FontInfo.{FontInfo}
-use Rattle.pcl_fonts.specs.Fields.{Font, Character}
+use Rattle.pcl_fonts.specs.Fields.{Font, Character, info_of}
 use Rattle.pcl_fonts.specs.History.{FontEvent, header, character, control, font_after, has_permanent as is_font_permanent}
-use Rattle.pcl_fonts.specs.Table.{info_of}
 use Rattle.pcl_macros.specs.History.{MacroEvent, has_permanent as is_macro_permanent}
 use Rattle.pcl_macros.specs.Table.{Begun}
 use Rattle.pcl_page.specs.Asks.{Asks, no_asks, with_page, with_exit, restarted, with_side, with_separation, lasting_if}
@@ -203,12 +202,12 @@ blanks_passed [] s = s
 blanks_passed (code ∷ codes) s = blanks_passed codes (blank_passed code s)
 
 -- without a font no code prints a character
-abbrev pub printed_in : Dpi → List ℕ → Option FontInfo → Situation → Situation
-printed_in dpi codes None s = blanks_passed codes s
-printed_in dpi codes (Some font) s = codes_printed dpi font (prints s.fonts (font_in_use s.settings)) codes s
+abbrev pub text_in : Dpi → List ℕ → Option FontInfo → Situation → Situation
+text_in dpi codes None s = blanks_passed codes s
+text_in dpi codes (Some font) s = codes_printed dpi font (prints s.fonts (font_in_use s.settings)) codes s
 
 abbrev pub text_printed : Dpi → List ℕ → Situation → Situation
-text_printed dpi codes s = printed_in dpi codes (info_of (font_now s)) s
+text_printed dpi codes s = text_in dpi codes (info_of (font_now s)) s
 
 -- ---- universal exits
 

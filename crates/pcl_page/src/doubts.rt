@@ -86,6 +86,8 @@ pub struct Doubts {
     is_left_open: bool,
     /// Whether the column width may be that of the font in use.
     is_width_open: bool,
+    /// Whether it is the pitch of a selected font.
+    is_width_pitch: bool,
     /// Why the line spacing may be another.
     spacing: Option<Doubt>,
     /// The rows of the raster that has begun, where they may go past the page's edge.
@@ -110,6 +112,7 @@ impl Doubts {
             is_seed_open: false,
             is_left_open: false,
             is_width_open: false,
+            is_width_pitch: false,
             spacing: None,
             rows: None,
         }
@@ -235,10 +238,19 @@ impl Doubts {
     /// Looks at what a command does to the column width, or by it.
     fn note_width(&mut self, operation: Operation, value: Value, environment: &Env) {
         match operation {
-            Operation::Reset | Operation::UniversalExit => self.is_width_open = false,
-            Operation::HorizontalMotionIndex => self.is_width_open = has_rest(value, HMI_UNIT),
+            Operation::Reset | Operation::UniversalExit => {
+                self.is_width_open = false;
+                self.is_width_pitch = false;
+            }
+            Operation::HorizontalMotionIndex => {
+                self.is_width_open = has_rest(value, HMI_UNIT);
+                self.is_width_pitch = false;
+            }
             Operation::Shift(_) => self.is_width_open = true,
-            Operation::SelectFont(side) => self.is_width_open = side != environment.in_use(),
+            Operation::SelectFont(side) => {
+                self.is_width_open = side != environment.in_use();
+                self.is_width_pitch = true;
+            }
             Operation::DownloadFont if is_selected(environment) => self.is_width_open = true,
             Operation::HorizontalTab
             | Operation::LeftMargin
@@ -247,9 +259,9 @@ impl Doubts {
         }
     }
 
-    /// Looks at something that goes by the column width. Where that is a font's, printers may round it to PCL units.
+    /// Looks at something that goes by the column width. Where that is a font's pitch, printers may round it to PCL units.
     fn note_column(&mut self, environment: &Env) {
-        let is_rounded = environment.font_in_use().is_some()
+        let is_rounded = self.is_width_pitch
             && has_part_of_unit(i64::from(environment.hmi()), environment);
         self.note_if(self.is_width_open || is_rounded, Doubt::ColumnWidth);
     }

@@ -22,7 +22,8 @@ impl<'a> Performer<'a> {
     ghost use Rattle.std.specs.Prelude.{ℕ, Some, IsTrue, OnOk};
     ghost use Rattle.std.specs.Option.{option_map};
     ghost use Rattle.pcl_env.specs.Settings.{font_in_use};
-    ghost use Rattle.pcl_fonts.specs.Table.{character_in, info_of};
+    ghost use Rattle.pcl_fonts.specs.Fields.{info_of};
+    ghost use Rattle.pcl_fonts.specs.Table.{character_in};
     ghost use Rattle.pcl_page.specs.Text.{prints, text_refusal, behind_character, behind_blank};
     ghost use Rattle.pcl_page.specs.Situation.{Situation, font_now, text_printed, code_printed, codes_printed, blank_passed, blanks_passed};
     ghost use Rattle.pcl_page.specs.inner.Reflecting.{character_at, IsIn, IsDrawn, IsInked, IsAtCursor, HasSettings, Draws};

@@ -1,5 +1,5 @@
 use super::assert_gives;
-use pcl_base::{CallFault, Kind};
+use pcl_base::{CallFault, Dpi, Kind, Profile};
 use pcl_fonts::{FontControl, Fonts};
 use std::alloc::{AllocError, Global};
 
@@ -57,10 +57,52 @@ const HEADERS: [Changed; 13] = [
 fn headers(rt: HostRuntime) -> Result<(), AllocError> {
     for (len, place, byte, wanted) in &HEADERS {
         let data = changed(rt.alloc(), &HEADER, *len, *place, *byte)?;
-        let taken = Fonts::new(rt.alloc()).header(1, &data);
+        let taken = Fonts::new(rt.alloc()).header(1, &data, Profile::Stated, Dpi::Dpi300);
         assert_gives(&rt, &(*len, *place, *byte), &taken, wanted);
     }
     Ok(())
+}
+
+/// A header of format 20 of 600 dots per inch: proportional, of type 0, with a pitch of 7 quarter dots.
+const FINE_HEADER: [u8; 68] = [
+    0, 68, 20, 0, 0, 0, 0, 0, 0, 0, 0, 0, 0, 1, 0, 0, 0, 7, 0, 0, 0, 0, 0, 0, 0, 0, 0, 0, 0, 0, 0,
+    0, 0, 0, 0, 0, 0, 0, 0, 0, 0, 0, 0, 0, 0, 0, 0, 0, 0, 0, 0, 0, 0, 0, 0, 0, 0, 0, 0, 0, 0, 0, 0,
+    0, 2, 88, 2, 88,
+];
+
+const FINE_HEADERS: [(Profile, Dpi, Changed); 9] = [
+    (Profile::Drivers, Dpi::Dpi600, (68, 14, 9, Ok(()))),
+    (Profile::Drivers, Dpi::Dpi300, (68, 14, 9, BAD_HEADER)),
+    (Profile::Stated, Dpi::Dpi600, (68, 14, 9, BAD_HEADER)),
+    (Profile::Drivers, Dpi::Dpi600, (67, 14, 9, BAD_HEADER)),
+    (Profile::Drivers, Dpi::Dpi600, (64, 1, 64, BAD_HEADER)),
+    (Profile::Drivers, Dpi::Dpi600, (68, 1, 67, BAD_HEADER)),
+    (Profile::Drivers, Dpi::Dpi600, (68, 65, 89, BAD_HEADER)),
+    (Profile::Drivers, Dpi::Dpi600, (68, 67, 89, BAD_HEADER)),
+    (Profile::Drivers, Dpi::Dpi600, (68, 2, 0, Ok(()))),
+];
+
+// Headers that state a resolution, by the profile and the resolution of the pages.
+#[test]
+fn fine_headers(rt: HostRuntime) -> Result<(), AllocError> {
+    for (profile, dpi, (len, place, byte, wanted)) in &FINE_HEADERS {
+        let data = changed(rt.alloc(), &FINE_HEADER, *len, *place, *byte)?;
+        let taken = Fonts::new(rt.alloc()).header(1, &data, *profile, *dpi);
+        assert_gives(&rt, &(*profile, *dpi, *len, *place), &taken, wanted);
+    }
+    Ok(())
+}
+
+// The width of a column, and an advance of 5 quarter dots to the left, in fonts of 300 dots per inch and of 600.
+#[test]
+fn lengths(rt: HostRuntime) {
+    let mut fonts = Fonts::new(rt.alloc());
+    let _ = fonts.header(1, &HEADER, Profile::Drivers, Dpi::Dpi600);
+    let _ = fonts.header(2, &FINE_HEADER, Profile::Drivers, Dpi::Dpi600);
+    for (id, wanted) in [(1, (48, -30)), (2, (21, -15))] {
+        let lengths = fonts.font(id).map(|font| (font.column(), font.advance(-5)));
+        assert_gives(&rt, &id, &lengths, &Some(wanted));
+    }
 }
 
 const CHARACTERS: [Changed; 11] = [
@@ -83,7 +125,7 @@ fn characters(rt: HostRuntime) -> Result<(), AllocError> {
     for (len, place, byte, wanted) in &CHARACTERS {
         let data = changed(rt.alloc(), &CHARACTER, *len, *place, *byte)?;
         let mut fonts = Fonts::new(rt.alloc());
-        let _ = fonts.header(0, &HEADER);
+        let _ = fonts.header(0, &HEADER, Profile::Stated, Dpi::Dpi300);
         let taken = fonts.character(0, 65, &data);
         assert_gives(&rt, &(*len, *place, *byte), &taken, wanted);
     }
@@ -95,7 +137,7 @@ fn characters(rt: HostRuntime) -> Result<(), AllocError> {
 fn left_by(alloc: Global, what: FontControl, id: u16, and_delete: bool) -> [bool; 4] {
     let mut fonts = Fonts::new(alloc);
     for id in [1, 2] {
-        let _ = fonts.header(id, &HEADER);
+        let _ = fonts.header(id, &HEADER, Profile::Stated, Dpi::Dpi300);
         let _ = fonts.character(id, 65, &CHARACTER);
     }
     fonts.control(2, 0, FontControl::MakePermanent);

@@ -1,6 +1,7 @@
 use Rattle.std.proofs.Common.{◌≡◌, ◌∙◌, ℕ, Option, Some, None, is_some, refl, ap}
 use Rattle.pcl_page.proofs.Names.{Dpi, Font, Performer, Situation, IsIn}
-use Rattle.pcl_fonts.specs.Table.{font_at, info_of}
+use Rattle.pcl_fonts.specs.Fields.{info_of}
+use Rattle.pcl_fonts.specs.Table.{font_at}
 use Rattle.pcl_page.specs.Situation.{font_lasts, is_font_sent}
 use Rattle.pcl_page.proofs.performer.Performer.note_control.Goals as goal
 

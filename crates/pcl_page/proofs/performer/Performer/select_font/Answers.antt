@@ -15,5 +15,5 @@ returns-in-Some c = λ dpi s i.
     let same : whole_of c.args.value ≡ id = search rules in
     let few : nat_le id 65535 ≡ true = grind (arith, nat_tests) in
     let by_id : select_by_id c.args.side (whole_of c.args.value) s.fonts s.settings
-        ≡ select c.args.side id (font.pitch * quarter_dot font.resolution) s.settings = rw (same, few) there in
+    ≡ select c.args.side id (font.pitch * quarter_dot font.resolution) s.settings = rw (same, few) there in
     search (rules, by_id, i.settings)
