@@ -3,10 +3,9 @@ use Rattle.std.proofs.Common.{◌≡◌, ℕ, zero, suc, ◌+◌, Bool, true, fa
 use Rattle.pcl_base.specs.declared.operation.Operation.TheVariants as operations
 use Rattle.pcl_base.specs.declared.kind.Kind.TheVariants.{FontHeader}
 use Rattle.pcl_fonts.specs.declared.header.FontInfo.{FontInfo}
-use Rattle.pcl_fonts.specs.Fields.{has_format}
-use Rattle.pcl_fonts.specs.Table.{info_of}
+use Rattle.pcl_fonts.specs.Fields.{has_format, info_of}
 use Rattle.pcl_page.specs.Text.{header_refusal}
-use Rattle.pcl_page.specs.Situation.{after, blank_passed, blanks_passed, printed_in}
+use Rattle.pcl_page.specs.Situation.{after, blank_passed, blanks_passed, text_in}
 use Rattle.pcl_page.proofs.Names.{Dpi, Kind, MacroOpen, Asking, SheetSide, Operation, ControlMacros, DownloadFont, PrintText, Stated, Drivers, Refusal, Value, macro_limit, operation_of, option_map, Effect, EjectMarked, Settings, defaults, font_in_use, Outcome, Said, Character, Action, Keeping, Raster, ends_raster, prints, Situation, at_begin, settings_below, end_raster, turned, turned_by, taken, code_printed, codes_printed, font_now, put_back, asked_for, drawn, drawn_on, draw_refusal, unless_refused, ◌|>◌, is_ignored, prepared, after_named, counted_in_limit, page_refusal, within_page_limit, tried, with_what_stays, at_end, Run, action_of, acted, lasting_by, managed, counting, defining, keeping_of, after_command, run_by, run_from, run_of, macro_ended, Performance, done, unless, then_on, in_order, concluded, and_run, step, commands_left, runs, end_refusal, ended, after_end, performance, performance_of}
 use Rattle.pcl_page.proofs.Profiles.{IsStated, set_by_drivers, AreSetAlike, AreTakenAlike, outcome_alike}
 
@@ -100,7 +99,7 @@ asked_for_alike SheetSide value s stated = (refl, stated)
 asked_for_alike other value s stated = (refl, stated)
 
 printed_alike : (dpi : Dpi) (codes : List ℕ) (font : Option FontInfo) (s : Situation) → IsStated s.settings
-    → StandAlike (printed_in dpi codes font s) (printed_in dpi codes font (by_drivers s))
+    → StandAlike (text_in dpi codes font s) (text_in dpi codes font (by_drivers s))
 printed_alike dpi codes None s stated = blanks_alike codes s stated
 printed_alike dpi codes (Some font) s stated =
     rw (font_alike s.settings) (codes_alike dpi font (prints s.fonts (font_in_use s.settings)) codes s stated)
