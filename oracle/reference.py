@@ -38,6 +38,10 @@ NAMES = WITHOUT_EFFECT | {
     b"&aG", b"&uD", b"&kH", b"&kG", b"&aL", b"*pX", b"*pY", b"&aH", b"&aV", b"&aC", b"&aR", b"&fS", b"&fY", b"&fX", b"*cA", b"*cB", b"*cH",
     b"*cV", b"*cP", b"*cD", b"*cE", b"*cF", b")sW", b"(sW", b"(X", b")X", b"&pX", b"*vN", b"*vT", b"*tR", b"*rS", b"*rT", b"*rF", b"*rA", b"*rB", b"*rC", b"*bM", b"*bY", b"*bW"}
 
+# What the drivers' profile has besides: what a page is asked with, and the seed row source.
+ASKED = {b"&lT", b"&kW", b"*oM", b"*oQ", b"*oD", b"*rQ"}
+DRIVERS_NAMES = ASKED | {b"*bS"}
+
 # Commands with as many bytes of data behind them as their values say.
 WITH_DATA = {b"*bW", b")sW", b"(sW", b"&pX"}
 
@@ -86,12 +90,21 @@ class Command:
         self.at, self.name, self.value, self.data = at, name, value or Value(), data
 
 
-def is_known(name):
-    """Whether a name stands in a table."""
-    return name in NAMES or len(name) == 2 and name[0] in b"()" and 64 <= name[1] <= 94
+class Profile(enum.Enum):
+    """Which commands there are, and what those of the printer take: the drivers' profile has more names, fonts of format 20, and
+    offsets of the page."""
+
+    STATED = enum.auto()
+    DRIVERS = enum.auto()
 
 
-def read(job):
+def is_known(name, profile):
+    """Whether a name stands in a table of a profile."""
+    return (name in NAMES or name in DRIVERS_NAMES and profile is Profile.DRIVERS
+            or len(name) == 2 and name[0] in b"()" and 64 <= name[1] <= 94)
+
+
+def read(job, profile):
     """The commands of a job, or its first fault."""
     commands, at = [], 0
     while at < len(job):
@@ -99,7 +112,7 @@ def read(job):
         if byte in (0, 7, 11):
             at += 1
         elif byte == ESC:
-            more, at = read_sequence(job, at)
+            more, at = read_sequence(job, at, profile)
             commands += more
         elif byte in CONTROL_CODES and byte != 8:
             commands.append(Command(at, bytes([byte])))
@@ -115,13 +128,13 @@ def read(job):
     return commands
 
 
-def read_sequence(job, start):
+def read_sequence(job, start, profile):
     """The commands of the sequence at a place, and the place behind it."""
     if start + 1 == len(job):
         raise Refused("Truncated", start, b"")
     first = job[start + 1]
     if 48 <= first <= 126:
-        if not is_known(bytes([first])):
+        if not is_known(bytes([first]), profile):
             raise Refused("UnsupportedCommand", start, bytes([first]))
         return [Command(start, bytes([first]))], start + 2
     if not 33 <= first <= 47:
@@ -129,13 +142,13 @@ def read_sequence(job, start):
     if start + 2 == len(job):
         raise Refused("Truncated", start, bytes([first]))
     if 96 <= job[start + 2] <= 126:
-        return read_parameters(job, start, job[start + 1:start + 3], start + 3)
+        return read_parameters(job, start, job[start + 1:start + 3], start + 3, profile)
     if first not in b"()%":
         raise Refused("BadSequence", start, bytes([first]))
-    return read_parameters(job, start, bytes([first]), start + 2)
+    return read_parameters(job, start, bytes([first]), start + 2, profile)
 
 
-def read_parameters(job, start, prefix, at):
+def read_parameters(job, start, prefix, at, profile):
     """The commands of the parameters at a place, and the place behind the sequence."""
     commands, place = [], start
     while True:
@@ -150,7 +163,7 @@ def read_parameters(job, start, prefix, at):
         name = prefix + bytes([letter - 32 if goes_on else letter])
         if value.parts > (32767 if value.sign == "-" else 65535) * 10000:
             raise Refused("ValueRange", place, name)
-        if not is_known(name):
+        if not is_known(name, profile):
             raise Refused("UnsupportedCommand", place, name)
         command = Command(place, name, value)
         if name in WITH_DATA:
@@ -223,11 +236,15 @@ class Raster:
 
 
 class Font:
-    """A font: which codes it has, its advance (None where each character has its own), and its characters by code."""
+    """A font: which codes it has, its dots to an inch, its pitch in quarters of them, and its characters by code."""
 
-    def __init__(self, kind, pitch, is_fixed):
-        self.kind, self.pitch, self.is_fixed = kind, pitch, is_fixed
+    def __init__(self, kind, resolution, pitch, is_fixed):
+        self.kind, self.resolution, self.pitch, self.is_fixed = kind, resolution, pitch, is_fixed
         self.is_permanent, self.characters = False, {}
+
+    def units(self, quarters):
+        """Quarter dots of the font in units."""
+        return quarters * (7200 // self.resolution) // 4
 
     def has(self, code):
         seven = 32 <= code <= 127
@@ -241,14 +258,20 @@ class Character:
         self.left, self.top, self.delta, self.bits = left, top, delta, bits
 
 
-def font_of(data):
+def font_of(data, dpi, profile):
     """The font that a header defines; None where the data are no header."""
-    if len(data) < 64:
+    has_resolution = profile is Profile.DRIVERS and data[2:3] == b"\x14"
+    least = 68 if has_resolution else 64
+    if len(data) < least:
         return None
-    size, pitch = int.from_bytes(data[:2], "big"), int.from_bytes(data[16:18], "big")
-    if not 64 <= size <= len(data) or data[2] != 0 or data[3] > 2 or data[12] != 0 or data[13] > 1:
+    size, pitch, across, down = (int.from_bytes(data[at:at + 2], "big") for at in (0, 16, 64, 66))
+    if not has_resolution:
+        across = down = 300
+    if not least <= size <= len(data) or data[2] != 0 and not has_resolution or data[3] > 2 or data[12] != 0 or data[13] > 1:
         return None
-    return Font(data[3], pitch, data[13] == 0)
+    if across != down or across not in {300, dpi}:
+        return None
+    return Font(data[3], across, pitch, data[13] == 0)
 
 
 def character_of(data):
@@ -263,13 +286,6 @@ def character_of(data):
     bits = [(column, row) for row in range(height) for column in range(width)
             if data[16 + row * in_row + column // 8] & 0x80 >> column % 8]
     return Character(left, top, delta, bits)
-
-
-class Profile(enum.Enum):
-    """Which commands ask the printer for something: no offset but 0 is of the stated profile."""
-
-    STATED = enum.auto()
-    DRIVERS = enum.auto()
 
 
 class Performer:
@@ -367,7 +383,7 @@ class Performer:
         name = command.name
         if self.raster and name in (b"*tR", b"*rF", b"*rS", b"*rT", b"*rA"):
             return
-        if self.raster and name not in (b"*bM", b"*bY", b"*bW"):
+        if self.raster and name not in (b"*bM", b"*bS", b"*bY", b"*bW"):
             self.end_raster()
         if name in PERFORM:
             PERFORM[name](self, command)
@@ -414,17 +430,16 @@ class Performer:
         for code in command.data:
             if font and font.has(code) and code in font.characters:
                 character = font.characters[code]
-                self.ink_character(character)
+                self.ink_character(character, self.dpi // font.resolution)
                 self.marked = True
-                self.move_to(self.x + (self.hmi if font.is_fixed else 6 * character.delta), self.y)
+                self.move_to(self.x + (self.hmi if font.is_fixed else font.units(character.delta)), self.y)
             elif code == 32:
                 self.move_to(self.x + self.hmi, self.y)
             elif not font and code > 32:
                 raise Refused("NoFont", command.at, command.name)
 
-    def ink_character(self, character):
-        """Inks a square of dots for each set bit, where the page has them."""
-        scale = self.dpi // 300
+    def ink_character(self, character, scale):
+        """Inks a square of this many dots for each set bit, where the page has them."""
         for column, row in character.bits:
             for y in range(scale):
                 for x in range(scale):
@@ -661,7 +676,7 @@ def macro_control(performer, command):
 
 def download_font(performer, command):
     if command.data:
-        font = font_of(command.data)
+        font = font_of(command.data, performer.dpi, performer.profile)
         if not font:
             raise Refused("FontHeader", command.at, command.name)
         performer.fonts[performer.font_id] = font
@@ -680,7 +695,8 @@ def select_font(which):
     def perform(performer, value):
         if value.whole() in performer.fonts:
             performer.selected[which] = value.whole()
-            performer.hmi = 6 * performer.fonts[value.whole()].pitch
+            font = performer.fonts[value.whole()]
+            performer.hmi = font.units(font.pitch)
     return from_zero(perform)
 
 
@@ -757,6 +773,7 @@ PERFORM = {
     b"*rA": taking({0, 1}, start),
     b"*rB": end_raster, b"*rC": end_raster,
     b"*bM": setting("method", range(4)),
+    b"*bS": taking({0}, nothing),
     b"*bY": from_zero(skip_rows),
     b"*bW": lambda p, c: p.row(c),
 }
@@ -765,7 +782,7 @@ PERFORM = {
 def pages_of(job, dpi, profile=Profile.STATED):
     """The pages of a job, or its refusal."""
     performer = Performer(dpi, profile)
-    for command in read(job):
+    for command in read(job, profile):
         performer.perform(command)
     if performer.definition:
         raise Refused("MacroOpen", len(job), b"")
