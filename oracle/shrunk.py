@@ -9,7 +9,7 @@ writes of an accepted one is no longer, has as many pages, each the same by the 
 resolution at which the plain program accepts the job. Without `--profile-only` it is the job as it came, or printers don't read it
 otherwise. A job that `shrink` refuses is refused by the plain program in the same line. A job that doesn't hold is kept in FOLDER
 (build/fuzz) as shrunk-SEED-NUMBER.pcl, with a line on standard output, and the status is then 1. The plain program reads by the drivers'
-profile, as `shrink` does, and jobs have offsets of the page. The number of workers is 1 if it isn't given; the jobs don't depend on it.
+profile, as `shrink` does, and jobs have what drivers send besides. The number of workers is 1 if it isn't given; the jobs don't depend on it.
 """
 
 import argparse
@@ -30,8 +30,10 @@ TRIES = 8
 def random_job(draw):
     """A job, and what is asked for its resolution."""
     count = draw.choice([1, 1, 2, 3]) if draw.random() < 0.9 else 0
-    jobs = [right_job(draw, has_offsets=True) for _ in range(count)] or [job_of(draw, has_offsets=True)]
-    return draw.choice([b"\f", b"", b"\x1bE"]).join(jobs), draw.choice(["300", "600", "auto"])
+    dpi = draw.choice(["300", "600", "auto"])
+    most = 300 if dpi == "300" else 600
+    jobs = [right_job(draw, drivers_dpi=most) for _ in range(count)] or [job_of(draw, drivers_dpi=most)]
+    return draw.choice([b"\f", b"", b"\x1bE"]).join(jobs), dpi
 
 
 class Looker:
