@@ -338,16 +338,19 @@ def asks(draw, has_font):
     again = draw.choice([said, ask(draw, form), ask(draw)])
     show = draw.choice(SHOWS)
     fresh = draw.choice([b"\f", b"\f", ESC + b"E", ESC + b"%-12345X", ESC + b"&l2A", ESC + b"&l1H", ESC + b"&a1G", b""])
-    way = draw.randint(0, 5)
+    way = draw.randint(0, 7)
     if way == 0:
         return fresh + said + draw.choice([b"", again, ask(draw)]) + show
     if way == 1:
         return fresh + show + said + draw.choice([b"", again]) + show
     if way == 2:
         return fresh + said + show + draw.choice([b"\f", ESC + b"E", ESC + b"&l2A", ESC + b"%-12345X"]) + draw.choice([b"", again]) + show
-    if way == 3:
-        row = with_data(b"*b", b"W", data(draw, 5))
-        return fresh + ESC + b"*r%dA" % draw.randint(0, 1) + draw.choice([b"", row, row + ESC + b"*b3Y"]) + said + draw.choice([row, show])
+    if 3 <= way <= 5:
+        row, after = (with_data(b"*b", b"W", data(draw, 5)) for _ in range(2))
+        # All of it shows where a raster goes on: its left edge, its height, and its seed row.
+        begin = draw.choice([b"", ESC + b"*p%dx40Y" % draw.randint(1, 99), ESC + b"*r%dT" % draw.randint(1, 3), ESC + b"*b3M"])
+        rows = draw.choice([b"", row, row, row + ESC + b"*b3Y"])
+        return fresh + begin + ESC + draw.choice([b"*r0A", b"*r1A", b"*r1A"]) + rows + said + draw.choice([after, after, show])
     number, run = draw.randint(0, 3), draw.choice([b"&f2X", b"&f3X", b"&f3X"])
     content = draw.choice([said, said + show, show + said, said + b"\f", ESC + b"*b1W\x80" + said, b"\f" + said + show + again])
     begin = draw.choice([b"", again, again + show, ESC + b"*r1A" + ESC + b"*b0W"])
@@ -362,7 +365,8 @@ def seed_rows(draw):
     begin = draw.choice([b"", ESC + b"*r1A", ESC + b"*p9x9Y" + ESC + b"*r1A", ESC + b"*r9s2t1A"])
     parts = draw.choice([[begin, sources[0], row[0], method, row[1]], [begin, row[0], method, sources[0], row[1], sources[1], row[2]],
                          [begin, method, sources[0]], [method, row[0], sources[0], ESC + b"*p7x40Y", row[1]],
-                         [begin, row[0], ESC + b"*b2Y", sources[0], row[1]], [begin, row[0], sources[0], ESC + b"*r0A", row[1]]])
+                         [begin, row[0], ESC + b"*b2Y", sources[0], row[1]], [begin, row[0], sources[0], ESC + b"*r0A", row[1]],
+                         [ESC + b"*p%dx9Y" % draw.randint(1, 99), sources[0]], [sources[0], ESC + b"*t%dR" % draw.choice([75, 300]), row[0]]])
     number = draw.randint(0, 3)
     if draw.random() < 0.2:
         parts = [macro_of(number, sources[2] + draw.choice([b"", row[0]])), *parts, ESC + b"&f%dy%dX" % (number, draw.randint(2, 3)), row[2]]
