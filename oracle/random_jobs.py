@@ -385,7 +385,7 @@ def header_with_resolution(draw, dpi):
     head[:4] = 0, draw.choice([68] * 40 + [count, 67, 64, 70]), 20, draw.choice([0, 1, 2, 2])
     head[13] = draw.choice([0, 1])
     head[16:18] = draw.choice([0, 1, 7, 8, 50, 120, 400, 65535]).to_bytes(2, "big")
-    resolution = draw.choice([300, dpi] if draw.random() < 0.95 else [0, 75, 150, 600, 1200])
+    resolution = draw.choice([300, dpi] if draw.random() < 0.95 else [0, 75, 150, 299, 301, 600, 601, 1200])
     head[64:68] = (resolution.to_bytes(2, "big") * 2)[:max(0, count - 64)]
     if draw.random() < 0.06:
         at, wrong = draw.choice(WRONG_FIELDS)
