@@ -23,8 +23,9 @@ of the plain program, and its `same` has to find the pages of an accepted one in
 profile, `min` has to write what the plain program writes, or to refuse it in the same line.
 
 With --model the status, the line of a refusal and the image of a page also have to be those of reference.py, and a job
-that was written again has to have the same pages by it; with --drivers these are the plain program's, by both profiles. The model takes
-most of the time then.
+that was written again has to have the same pages by it; with --drivers these are the plain program's, by both profiles. Of two jobs
+that differ in what they ask the printer, `same --asked` has to say what the model says, where pclmin is the program. The model takes most
+of the time then.
 
 A job on which the two differ is kept in FOLDER (build/fuzz) as SEED-NUMBER.pcl, and the output and the certificate of a triple beside it
 as .out and .cert, with a line on standard output, and the status is then 1. The number of workers is 1 if it isn't given; what is made
@@ -45,7 +46,7 @@ import time
 sys.dont_write_bytecode = True
 import programs
 import reference
-from random_jobs import job_of, long_job, picture, right_job
+from random_jobs import asking_job, asking_pair, job_of, long_job, picture, right_job
 from triples import Triple, changed
 
 TABLES = os.path.join(os.path.dirname(os.path.abspath(__file__)), "..", "crates", "job_cases", "data", "*.txt")
@@ -79,7 +80,7 @@ class Reached:
     """What became of jobs or triples, and what stands in them."""
 
     def __init__(self):
-        self.outcomes, self.names, self.pairs, self.refusals, self.verdicts = (collections.Counter() for _ in range(5))
+        self.outcomes, self.names, self.pairs, self.refusals, self.verdicts, self.asked = (collections.Counter() for _ in range(6))
 
     def add(self, other):
         for mine, others in zip(vars(self).values(), vars(other).values()):
@@ -220,6 +221,8 @@ class Comparison:
         if self.has_model and not fault:
             fault = yield from self.drivers_model_fault(job, dpi, written, count, draw)
             fault = fault or stated_model_fault(job, dpi, stated, stated_count)
+            if not fault and hasattr(self.pclmin, "asked_same"):
+                return self.asked_faults(number, job if written[0] == 0 and draw.random() < 0.3 else asking_job(draw), dpi, draw)
         if not fault:
             return []
         self.keep(number, job)
@@ -253,6 +256,24 @@ class Comparison:
         page = draw.randint(1, count)
         (came, _), = yield [(["pbm", "--page", str(page), "--drivers", "--dpi", str(dpi)], job)]
         return None if came == (0, image(pages[page - 1], dpi), b"") else "page %d isn't the model's" % page
+
+    def asked_faults(self, number, job, dpi, draw):
+        """What differs from the model in whether two jobs ask for the same, which are one but for a command."""
+        try:
+            commands = reference.read(job, reference.Profile.DRIVERS)
+        except reference.Refused:
+            return []
+        places = [command.at for command in commands if job[command.at] == reference.ESC] + [len(job)]
+        first, second = asking_pair(draw, job, places)
+        holds = reference.asks_the_same(first, second, dpi)
+        if holds is None:
+            return []
+        self.reached.asked["the same" if holds else "not the same"] += 1
+        came = self.pclmin.asked_same(first, second, dpi)
+        if (came[:2] == SAME) == holds and came[0] in (0, 1):
+            return []
+        self.keep(number, first, second)
+        return ["jobs %d at %d: same --asked: %s, where the model has %s" % (number, dpi, told(came), "the same" if holds else "others")]
 
     # Triples
 
@@ -408,6 +429,8 @@ def tell_reached(asked, reached):
         tables = tables_reached(asked.plain)
         print("commands one after the other there: %s" % beside(reached.pairs, tables.pairs))
         print("commands with a kind of refusal: %s" % beside(reached.refusals, tables.refusals))
+    if reached.asked:
+        print("pairs of jobs that ask for: %s" % counts(reached.asked))
     if reached.verdicts:
         print("verdicts: %s" % counts(reached.verdicts))
     if asked.triples:

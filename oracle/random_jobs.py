@@ -426,6 +426,34 @@ def drivers_part(draw, has_font, dpi):
     return seed_rows(draw) if kind == 2 else font_with_resolution(draw, dpi)
 
 
+# What else asks the printer for something, or forgets it.
+OTHER_ASKS = [b"&l1S", b"&l2S", b"&l3G", b"&l2M", b"&l60P", b"&l0H", b"&l2H", b"&a1G", b"&l2X", b"&l1X", b"&l2A", b"&l26A", b"&l-180U", b"&l36Z",
+              b"E", b"E", b"%-12345X", b"%-12345X@PJL SET X=1\r\n"]
+
+
+def asking_job(draw):
+    """A short job that asks for much, and seldom what only the same job asks for."""
+    parts = []
+    for _ in range(draw.randint(1, 6)):
+        number, content = draw.randint(0, 2), b"".join(ask(draw) for _ in range(draw.randint(1, 2)))
+        parts.append(draw.choice([ask(draw), ask(draw), ESC + draw.choice(OTHER_ASKS), draw.choice(SHOWS) + b"\f", b"\f", draw.choice(SHOWS),
+                                  macro_of(number, content + draw.choice([b"", b"\f"])) + ESC + b"&f%dX" % draw.randint(2, 3)]))
+    return b"".join(parts)
+
+
+def asking_pair(draw, job, places):
+    """Two jobs that ask for the same or not: one job with a command that asks put in at some of these places."""
+    form = draw.choice(sorted(ASKS))
+    at = draw.randrange(len(places))
+    near = places[min(max(at + draw.choice([-2, -1, 1, 1, 2, 5]), 0), len(places) - 1)]
+    first, at = ask(draw, form), places[at]
+    second, then = [(ask(draw, form), at), (first, near), (ask(draw, form) + first, at), (first + ask(draw), at), (b"", at),
+                    (ask(draw), at)][draw.choice([0, 0, 1, 1, 1, 2, 3, 4, 5])]
+    pair = [job[:at] + first + job[at:], job[:then] + second + job[then:]]
+    draw.shuffle(pair)
+    return pair
+
+
 def right_job(draw, drivers_dpi=None):
     """A job that is mostly accepted."""
     begin = draw.choice([b"", ESC + b"E", ESC + b"&l0E", ESC + b"&l0E" + ESC + b"*p0x0Y" + ESC + b"*t300R"])

@@ -30,17 +30,17 @@ UNITS_OF_MEASURE = {96, 100, 120, 144, 150, 160, 180, 200, 225, 240, 288, 300, 3
                     1200, 1440, 1800, 2400, 3600, 7200}
 LINES_PER_INCH = {1, 2, 3, 4, 6, 8, 12, 16, 24, 48}
 
-WITHOUT_EFFECT = {b"%A", b"&lS", b"&lG", b"&lM", b"&lP", b"&aM", b"&sC", b"&d@", b"*vO", b"*cG"} | {
+WITHOUT_EFFECT = {b"%A", b"&aM", b"&sC", b"&d@", b"*vO", b"*cG"} | {
     bytes([side]) + b"s" + bytes([letter]) for side in b"()" for letter in b"PHVSBT"}
 
 NAMES = WITHOUT_EFFECT | {
-    b"E", b"9", b"=", b"%X", b"&lA", b"&lX", b"&lC", b"&lD", b"&lE", b"&lF", b"&lL", b"&lO", b"&lU", b"&lZ", b"&aP", b"&lH",
+    b"E", b"9", b"=", b"%X", b"&lA", b"&lX", b"&lC", b"&lD", b"&lE", b"&lF", b"&lL", b"&lO", b"&lU", b"&lZ", b"&lS", b"&lG", b"&lM", b"&lP", b"&aP", b"&lH",
     b"&aG", b"&uD", b"&kH", b"&kG", b"&aL", b"*pX", b"*pY", b"&aH", b"&aV", b"&aC", b"&aR", b"&fS", b"&fY", b"&fX", b"*cA", b"*cB", b"*cH",
     b"*cV", b"*cP", b"*cD", b"*cE", b"*cF", b")sW", b"(sW", b"(X", b")X", b"&pX", b"*vN", b"*vT", b"*tR", b"*rS", b"*rT", b"*rF", b"*rA", b"*rB", b"*rC", b"*bM", b"*bY", b"*bW"}
 
-# What the drivers' profile has besides: what a page is asked with, and the seed row source.
-ASKED = {b"&lT", b"&kW", b"*oM", b"*oQ", b"*oD", b"*rQ"}
-DRIVERS_NAMES = ASKED | {b"*bS"}
+# What the drivers' profile has besides: commands that ask the printer, and the seed row source.
+DRIVERS_ASKS = {b"&lT", b"&kW", b"*oM", b"*oQ", b"*oD", b"*rQ"}
+DRIVERS_NAMES = DRIVERS_ASKS | {b"*bS"}
 
 # Commands with as many bytes of data behind them as their values say.
 WITH_DATA = {b"*bW", b")sW", b"(sW", b"&pX"}
@@ -169,7 +169,8 @@ def read_parameters(job, start, prefix, at, profile):
         if name in WITH_DATA:
             at = read_data(job, command, goes_on, at)
         elif name == b"%X" and value.whole() == -12345:
-            at = read_lines(job, at)
+            start_of_lines, at = at, read_lines(job, at)
+            command.data = job[start_of_lines:at]
         commands.append(command)
         if not goes_on:
             return commands, at
@@ -213,10 +214,12 @@ def read_lines(job, at):
 
 
 class Page:
-    """A page: its size, its copies, and its rows that aren't white, as numbers whose lowest bit is the left dot."""
+    """A page: its size, its copies, and its rows that aren't white, as numbers whose lowest bit is the left dot; and what it is asked
+    with beside these."""
 
-    def __init__(self, size, copies, rows):
+    def __init__(self, size, copies, rows, asked=None):
         self.size, self.copies, self.rows = size, copies, {y: row for y, row in rows.items() if row}
+        self.asked = asked
 
     def __eq__(self, other):
         return (self.size, self.copies, self.rows) == (other.size, other.copies, other.rows)
@@ -298,6 +301,9 @@ class Performer:
         # Macros by ID: their commands, and whether they are permanent. The definition that is open: an ID and its commands.
         # How many macros run.
         self.macros, self.definition, self.running = {}, None, 0
+        # The universal exits: how many pages were ejected before each, and its lines. Whether the job changes what stays in the printer,
+        # counts on it, or asks for something on a marked page.
+        self.exits, self.counts_whole = [], False
         self.begin()
 
     def begin(self):
@@ -314,6 +320,8 @@ class Performer:
         self.fonts = {number: font for number, font in self.fonts.items() if font.is_permanent}
         self.macro_id = 0
         self.macros = {number: macro for number, macro in self.macros.items() if macro[1]}
+        # What was said to the printer, by the command that says it; the side of the sheet, for the next page alone; whether that begins one.
+        self.said, self.sheet_side, self.begins_sheet = {}, None, True
         self.set_size("Letter")
 
     def set_size(self, size):
@@ -335,8 +343,9 @@ class Performer:
     def eject(self, command):
         if len(self.pages) == MOST_PAGES:
             raise Refused("TooManyPages", command.at, command.name)
-        self.pages.append(Page(self.size, self.copies, self.rows))
-        self.rows, self.marked = {}, False
+        asked = dict(self.said, side=self.sheet_side, begins_sheet=self.begins_sheet)
+        self.pages.append(Page(self.size, self.copies, self.rows, asked))
+        self.rows, self.marked, self.sheet_side, self.begins_sheet = {}, False, None, False
         self.to_first_line()
 
     def eject_marked(self, command):
@@ -358,6 +367,7 @@ class Performer:
     def run_macro(self, command):
         """Runs the macro of the ID, where it is there: a call puts back what was set before."""
         if self.macro_id not in self.macros:
+            self.counts_whole = True
             return
         if self.running == MOST_MACROS:
             raise Refused("MacroDepth", command.at, command.name)
@@ -371,6 +381,10 @@ class Performer:
         if is_call:
             if self.raster:
                 self.end_raster()
+            # The size that was said stays, as the size does.
+            saved["said"].pop("&lA", None)
+            saved["said"].update({name: value for name, value in self.said.items() if name == "&lA"})
+            self.counts_whole |= self.marked and saved["offsets"] != self.offsets
             for field, value in saved.items():
                 setattr(self, field, value)
 
@@ -560,6 +574,8 @@ def page_size(performer, command):
         refuse(command)
     performer.eject_marked(command)
     performer.set_size(size)
+    performer.said.pop("&lP", None)
+    performer.said["&lA"] = size
 
 
 def offset(side):
@@ -573,14 +589,41 @@ def offset(side):
             is_taken = not performer.marked or said == performer.offsets[side]
         if not is_taken:
             refuse(command)
-        performer.offsets[side] = said
+        performer.offsets[side] = performer.said[command.name.decode()] = said
     return perform
+
+
+def asking(performer, command):
+    """Says something to the printer."""
+    performer.counts_whole |= performer.marked and command.name != b"&lG"
+    performer.said[command.name.decode()] = command.value.whole()
+
+
+def page_length(performer, command):
+    performer.said["&lP"] = command.value.whole() * performer.vmi
+
+
+def copies(performer, whole):
+    performer.copies = performer.said["&lX"] = whole
+
+
+def paper_source(performer, command):
+    performer.eject_marked(command)
+    if command.value.whole() != 0:
+        performer.said["&lH"] = command.value.whole()
+
+
+def side_of_sheet(performer, command):
+    performer.eject_marked(command)
+    performer.sheet_side = command.value.whole()
 
 
 def reset(performer, command):
     if command.name == b"%X" and command.value.whole() != -12345:
         refuse(command)
     performer.eject_marked(command)
+    if command.name == b"%X":
+        performer.exits.append((len(performer.pages), command.data))
     performer.begin()
 
 
@@ -639,6 +682,7 @@ def side(name, unit):
 
 def font_control(performer, what):
     fonts, number = performer.fonts, performer.font_id
+    performer.counts_whole |= what == 0 or what > 1 and number not in fonts
     if what == 0:
         fonts.clear()
     elif what == 1:
@@ -655,6 +699,7 @@ def macro_control(performer, command):
     what, number, macros = command.value.whole(), performer.macro_id, performer.macros
     if what not in (0, 1, 2, 3, 6, 7, 8, 9, 10):
         refuse(command)
+    performer.counts_whole |= what == 6 or what > 7 and number not in macros
     if what == 0:
         performer.definition = (number, [])
     elif what == 1:
@@ -727,7 +772,7 @@ ANY_FROM_ZERO = range(65536)
 
 # All that is set, but for the page size, the cursor and its stack.
 CALL_RESTORES = ("copies", "pcl_unit", "hmi", "vmi", "top", "bottom", "left", "skips", "termination", "macro_id", "font_id", "code",
-                 "selected", "in_use", "rectangle", "offsets", "resolution", "raster_width", "raster_height", "method")
+                 "selected", "in_use", "rectangle", "offsets", "said", "resolution", "raster_width", "raster_height", "method")
 
 PERFORM = {
     b"E": reset, b"%X": reset,
@@ -742,7 +787,7 @@ PERFORM = {
     b")sW": download_font, b"(sW": download_character,
     b"(X": select_font("primary"), b")X": select_font("secondary"),
     b"&lA": page_size,
-    b"&lX": setting("copies", range(1, 100)),
+    b"&lX": taking(range(1, 100), copies),
     b"&lC": from_zero(lambda p, value: setattr(p, "vmi", value.times(150))),
     b"&lD": taking(LINES_PER_INCH, lambda p, whole: setattr(p, "vmi", 7200 // whole)),
     b"&lE": from_zero(top_margin),
@@ -750,7 +795,8 @@ PERFORM = {
     b"&lL": taking({0, 1}, lambda p, whole: setattr(p, "skips", whole == 1)),
     b"&lO": taking({0}, nothing), b"&aP": taking({0}, nothing),
     b"&lU": offset("left"), b"&lZ": offset("top"),
-    b"&lH": Performer.eject_marked, b"&aG": Performer.eject_marked,
+    b"&lH": paper_source, b"&aG": side_of_sheet, b"&lP": page_length,
+    **{name: asking for name in DRIVERS_ASKS | {b"&lS", b"&lG", b"&lM"}},
     b"&uD": taking(UNITS_OF_MEASURE, lambda p, whole: setattr(p, "pcl_unit", 7200 // whole)),
     b"&kH": from_zero(lambda p, value: setattr(p, "hmi", value.times(60))),
     b"&kG": setting("termination", range(4)),
@@ -779,15 +825,33 @@ PERFORM = {
 }
 
 
-def pages_of(job, dpi, profile=Profile.STATED):
-    """The pages of a job, or its refusal."""
+def performed(job, dpi, profile=Profile.STATED):
+    """The performer at the end of a job, or its refusal."""
     performer = Performer(dpi, profile)
     for command in read(job, profile):
         performer.perform(command)
     if performer.definition:
         raise Refused("MacroOpen", len(job), b"")
     reset(performer, Command(len(job), b""))
-    return performer.pages
+    performer.counts_whole |= bool(performer.fonts or performer.macros)
+    return performer
+
+
+def pages_of(job, dpi, profile=Profile.STATED):
+    """The pages of a job, or its refusal."""
+    return performed(job, dpi, profile).pages
+
+
+def asks_the_same(first, second, dpi):
+    """Whether two jobs have the same pages by the drivers' profile and ask the printer for the same; none where either is refused."""
+    if first == second:
+        return True
+    try:
+        one, other = (performed(job, dpi, Profile.DRIVERS) for job in (first, second))
+    except Refused:
+        return None
+    return (not one.counts_whole and not other.counts_whole and one.exits == other.exits and one.pages == other.pages
+            and [page.asked for page in one.pages] == [page.asked for page in other.pages])
 
 
 # Tables
