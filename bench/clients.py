@@ -108,7 +108,8 @@ def lines_of(page):
 # Documents of FOP.
 FORMATTED = {
     "text": formatted([lines_of(0)]), "pages": formatted([lines_of(1), lines_of(2), lines_of(3)]),
-    "form": formatted([['<fo:block border="0.5pt solid black" padding="6pt">%d. %s</fo:block>' % (line + 1, WORDS[line]) for line in range(20)]]),
+    "form": formatted([['<fo:block border="0.5pt solid black" padding="6pt">%d. %s</fo:block>' % (line + 1, WORDS[line])
+                        for line in range(20)]]),
 }
 # FOP sends pages as rasters, not text in the printer's own fonts.
 BITMAPS = ('<fop version="1.0"><renderers><renderer mime="application/x-pcl"><rendering>bitmap</rendering></renderer></renderers></fop>')
@@ -175,7 +176,8 @@ def hpcups():
         for sides in ("", " Duplex=DuplexNoTumble"):
             for document in DOCUMENTS if not sides else ("pages",):
                 options = "PageSize=Letter OutputMode=" + mode + sides
-                yield Job("hpcups LaserJet", "%d%s" % (dpi, sides and " two-sided"), document, setting + filters % (options, document, options))
+                command = setting + filters % (options, document, options)
+                yield Job("hpcups LaserJet", "%d%s" % (dpi, sides and " two-sided"), document, command)
 
 
 def cups():
