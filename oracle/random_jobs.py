@@ -293,7 +293,8 @@ def offsets(draw, has_font):
     if way == 0:
         return fresh + draw.choice([said + offset(draw), ESC + b"&l-180u36Z", ESC + b"&l0e0u2x1.5Z", ESC + b"&l36z0oU"]) + show
     if way == 1:
-        return fresh + said + show + parts_of(draw, 1, has_font) + again + show
+        keeps = draw.choice([b"", b"", ESC + b"&l2A", b"\f", ESC + b"&l1H"])
+        return fresh + said + keeps + show + parts_of(draw, 1, has_font) + again + show
     if way == 2:
         return fresh + said + show + draw.choice([b"\f", ESC + b"E", ESC + b"&l2A", b"\n" * 60]) + again + show
     if way == 3:
