@@ -4,8 +4,9 @@
     python3 oracle/reference.py [--drivers] TABLE..            checks each case
     python3 oracle/reference.py [--drivers] --fill TABLE..     prints the tables with what is expected written into the cases
                                                               that say nothing of it
+    python3 oracle/reference.py --pairs TABLE..                checks tables of pairs of jobs (crates/same_cases/data)
 
-With --drivers jobs are read by the drivers' profile, else by the stated one.
+With --drivers jobs are read by the drivers' profile, else by the stated one. Of a pair it is checked whether both ask for the same.
 
 The tables are those of crates/job_cases/data; src/table.rt there and crates/case_tables/src/notation.rt tell how
 they are written. What a job means is worked out here from docs/LANGUAGE.md, rule by rule, plain and slow, and shares no
@@ -1116,6 +1117,26 @@ def filled(lines, profile):
     return lines
 
 
+def failing_pairs(lines):
+    """The pairs of a table that ask for the same, or don't, where the model says otherwise, and how many pairs there are."""
+    failing, count = [], 0
+    for line in lines:
+        word, _, rest = line.strip().partition(" ")
+        if word == "case":
+            name, dpi, jobs = rest, 300, {}
+        elif word == "dpi":
+            dpi = int(rest)
+        elif word in ("first", "second"):
+            jobs[word] = bytes_of(rest)
+        elif word == "answer":
+            count += 1
+            wanted = None if rest.startswith(("first ", "second ")) else rest == "same"
+            came = asks_the_same(jobs["first"], jobs["second"], dpi)
+            if came != wanted:
+                failing.append("%s: %s, where the model has %s" % (name, rest, came))
+    return failing, count
+
+
 def main(words):
     profile = Profile.DRIVERS if "--drivers" in words else Profile.STATED
     fills = "--fill" in words
@@ -1123,6 +1144,11 @@ def main(words):
     for path in (word for word in words if not word.startswith("--")):
         with open(path, encoding="latin-1") as source:
             lines = source.read().split("\n")
+        if "--pairs" in words:
+            failing, count = failing_pairs(lines)
+            failed += len(failing)
+            print("".join("%s: %s\n" % (path, line) for line in failing) + "%s: %d pairs" % (path, count))
+            continue
         if fills:
             print("\n".join(filled(lines, profile)), end="")
             continue
