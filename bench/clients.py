@@ -7,12 +7,12 @@ PROGRAM is a built pclmin. The jobs are made anew in a temporary folder: documen
 tried at 300 and then at 600 dots per inch, until it is accepted. It holds then if what `shrink` writes is no longer than the
 job, and if `same` says `same` of the job and what `min` writes, and `same --asked` of the job and what `shrink` writes. A job that
 `shrink` alone accepts, by the drivers' profile, has no bytes by `min`. A refused one holds if both refuse it and write nothing, and in
-the same words unless it has offsets of the page. The result is a table by client, with the bytes of the accepted jobs, then each
-refusal, and `N of M hold`; the status is 1 if not all do. With WORDs only jobs whose names have all of these are made, and each has
-its own row.
+the same words unless `min` refuses what the drivers' profile takes. The result is a table by client, with the bytes of the accepted
+jobs, then each refusal, and `N of M hold`; the status is 1 if not all do. With WORDs only jobs whose names have all of these are made,
+and each has its own row.
 
-Needs ghostscript, cups, cups-ppdc, cups-ipp-utils, printer-driver-gutenprint, printer-driver-hpijs, netpbm, imagemagick,
-hp2xx, barcode, texlive-binaries and texlive-base.
+Needs ghostscript, cups, cups-filters, cups-ppdc, cups-ipp-utils, printer-driver-gutenprint, printer-driver-hpcups,
+printer-driver-hpijs, netpbm, imagemagick, hp2xx, barcode, texlive-binaries, texlive-base and fop.
 """
 
 import collections
@@ -28,8 +28,9 @@ import tempfile
 PROCESSORS, RESOLUTIONS = 2, (300, 600)
 REFUSED = re.compile(r"pclmin: refused: (.+)")
 # A refusal of the stated profile alone.
-OFFSET = re.compile(r"UnsupportedValue at [0-9]+ &l[UZ]")
-NEEDS = ("gs ppdc pbmtolj ppmtolj convert hp2xx barcode tex dvilj dvilj2p hpijs /usr/sbin/ippevepcl /usr/lib/cups/filter/rastertohp "
+STATED = re.compile(r"(UnsupportedValue at \d+ &l[UZ]|UnsupportedCommand at \d+ (&lT|&kW|\*o[MQD]|\*rQ|\*bS)|FontHeader at \d+ \)sW)")
+NEEDS = ("gs ppdc pbmtolj ppmtolj convert hp2xx barcode tex dvilj dvilj2p dvilj4 dvilj4l dvilj6 hpijs fop /usr/sbin/ippevepcl "
+         "/usr/lib/cups/filter/rastertohp /usr/lib/cups/filter/gstoraster /usr/lib/cups/filter/hpcups "
          "/usr/lib/cups/filter/rastertogutenprint.5.3 /usr/lib/cups/driver/gutenprint.5.3")
 WORDS = "the printer at the far end of a slow line waits for each byte of a page while its paper and its toner wait too".split()
 
@@ -78,6 +79,42 @@ def mixed():
 DOCUMENTS = {"text": text(), "form": form(), "grey": shades(72, 162, 468) + ["showpage"], "mixed": mixed(),
              "pages": text(1) + text(2) + text(3)}
 
+# ---- the same for other clients
+
+def letter():
+    """Two pages of text and rules in TeX's fonts, few enough for dvilj4, which ends by a fault of its own where there are eleven."""
+    lines = [r"\magnification=\magstep1", r"\centerline{\bf %s}\medskip\hrule\bigskip" % " ".join(WORDS[:5])]
+    for page in range(2):
+        for line in range(20):
+            lines.append(r"\noindent " + " ".join(WORDS[(line + 7 * word + page) % len(WORDS)] for word in range(12)) + r"\par")
+        lines.append(r"\vskip 12pt\vrule height 60pt width 1pt\quad\vrule height 8pt width 200pt\vfil\eject")
+    return "\n".join(lines + [r"\bye"])
+
+
+def formatted(pages):
+    """A document of XSL-FO, of one page for each list of blocks."""
+    blocks = "".join('<fo:block break-before="page">%s</fo:block>' % "".join(page) for page in pages)
+    return ('<fo:root xmlns:fo="http://www.w3.org/1999/XSL/Format"><fo:layout-master-set><fo:simple-page-master master-name="page" '
+            'page-width="8.5in" page-height="11in" margin="1in"><fo:region-body/></fo:simple-page-master></fo:layout-master-set>'
+            '<fo:page-sequence master-reference="page"><fo:flow flow-name="xsl-region-body" font-family="Times" font-size="11pt">'
+            '%s</fo:flow></fo:page-sequence></fo:root>' % blocks)
+
+
+def lines_of(page):
+    return ["<fo:block>%s</fo:block>" % " ".join(WORDS[(7 * line + 5 * word + 3 * page) % len(WORDS)] for word in range(15))
+            for line in range(40)]
+
+
+# Documents of FOP.
+FORMATTED = {
+    "text": formatted([lines_of(0)]), "pages": formatted([lines_of(1), lines_of(2), lines_of(3)]),
+    "form": formatted([['<fo:block border="0.5pt solid black" padding="6pt">%d. %s</fo:block>' % (line + 1, WORDS[line])
+                        for line in range(20)]]),
+}
+# FOP sends pages as rasters, not text in the printer's own fonts.
+BITMAPS = ('<fop version="1.0"><renderers><renderer mime="application/x-pcl"><rendering>bitmap</rendering></renderer></renderers></fop>')
+
+
 def write_document(folder, name, lines):
     """Writes a document as PostScript."""
     with open(os.path.join(folder, name + ".ps"), "w") as out:
@@ -95,10 +132,14 @@ def make_documents(folder):
     write_documents(folder)
     with open(os.path.join(folder, "drawing"), "w") as out:
         out.write("IN;SP1;PU400,400;PD4000,400,4000,3000,400,3000,400,400;PU1000,1000;PD3000,2500;PU2000,1700;CI600;PU;SP0;\n")
+    for name, content in [("letter.tex", letter()), ("bitmaps.xml", BITMAPS)] + [(name + ".fo", FORMATTED[name]) for name in FORMATTED]:
+        with open(os.path.join(folder, name), "w") as out:
+            out.write(content)
     document = os.path.join(os.path.dirname(os.path.realpath(__file__)), "document.tex")
     for command in ("ppdc -d . /usr/share/cups/drv/sample.drv",
+                    "ppdc -d hpcups /usr/share/cups/drv/hpcups.drv && cp hpcups/hp-laserjet_4050_series-pcl3.ppd hpcups.ppd",
                     "/usr/lib/cups/driver/gutenprint.5.3 cat gutenprint.5.3://pcl-g_5e/expert > gutenprint.ppd",
-                    "tex -interaction=batchmode '%s'" % document):
+                    "tex -interaction=batchmode '%s'" % document, "tex -interaction=batchmode letter.tex"):
         subprocess.run(["bash", "-c", command], cwd=folder, check=True, stdout=subprocess.DEVNULL, stderr=subprocess.DEVNULL)
 
 
@@ -110,8 +151,8 @@ def painted(device, dpi, document, options=""):
 
 def ghostscript():
     devices = {"laserjet": (75, 150, 300), "ljetplus": (75, 150, 300), "ljet2p": (75, 150, 300), "lj4dith": (300, 600), "fs600": (300, 600),
-               "ljet3": RESOLUTIONS, "ljet4": RESOLUTIONS, "ljet4d": RESOLUTIONS, "hl1250": (600,), "deskjet": (300,),
-               "lj5gray": (300,), "pclm": (300,)}
+               "ljet3": RESOLUTIONS, "ljet4": RESOLUTIONS, "ljet4d": RESOLUTIONS, "hl1250": RESOLUTIONS, "deskjet": (300,),
+               "djet500": (300,), "lj5gray": (300,), "pclm": (300,)}
     for device, resolutions in devices.items():
         for dpi in resolutions:
             for document in DOCUMENTS:
@@ -125,6 +166,18 @@ def hpijs():
         for document in DOCUMENTS:
             yield Job("hpijs LaserJet", str(dpi), document, painted("ijs", dpi, document, options % ("HP LaserJet", quality)))
     yield Job("hpijs DeskJet", "300", "text", painted("ijs", 300, "text", options % ("DESKJET 600", 1)))
+
+
+def hpcups():
+    """hpcups for a LaserJet: all PPDs of its language `ljmono` send the same commands."""
+    filters = "/usr/lib/cups/filter/gstoraster 1 user title 1 '%s' ../%s.ps | /usr/lib/cups/filter/hpcups 1 user title 1 '%s'"
+    setting = "export PPD=../hpcups.ppd CONTENT_TYPE=application/postscript TMPDIR=. && "
+    for dpi, mode in ((300, "Draft"), (600, "Normal")):
+        for sides in ("", " Duplex=DuplexNoTumble"):
+            for document in DOCUMENTS if not sides else ("pages",):
+                options = "PageSize=Letter OutputMode=" + mode + sides
+                command = setting + filters % (options, document, options)
+                yield Job("hpcups LaserJet", "%d%s" % (dpi, sides and " two-sided"), document, command)
 
 
 def cups():
@@ -162,10 +215,20 @@ def drawings():
         yield Job("GNU barcode", options, encoding, "barcode -b 1234567 -e %s %s" % (encoding, options))
     for program in ("dvilj", "dvilj2p"):
         yield Job(program, "300", "TeX", "%s -q -ejob ../document.dvi && cat job" % program)
+    for program, dpi in (("dvilj4", 600), ("dvilj4l", 300), ("dvilj6", 600)):
+        for raw in ("", " -n"):  # characters without compression
+            yield Job(program, "%d%s" % (dpi, raw), "letter", "%s -q%s -ejob ../letter.dvi && cat job" % (program, raw))
+
+
+def formatters():
+    for dpi in RESOLUTIONS:
+        for document in FORMATTED:
+            yield Job("Apache FOP", str(dpi), document, "fop -q -c ../bitmaps.xml -dpi %d -fo ../%s.fo -pcl job && cat job" % (dpi, document))
+    yield Job("Apache FOP", "fonts", "text", "fop -q -fo ../text.fo -pcl job && cat job")
 
 
 def all_jobs():
-    return [job for client in (ghostscript, hpijs, cups, bitmaps, drawings) for job in client()]
+    return [job for client in (ghostscript, hpijs, hpcups, cups, bitmaps, drawings, formatters) for job in client()]
 
 
 # ---- one job
@@ -189,7 +252,7 @@ def again(program, job, outs):
     """Has a job written both ways, and gives the resolution at which `shrink` accepts it, or none and its refusal."""
     for dpi in RESOLUTIONS:
         least, smaller = (written(program, how, dpi, job, out) for how, out in outs.items())
-        if least != smaller and not OFFSET.fullmatch(least or ""):
+        if least != smaller and not STATED.fullmatch(least or ""):
             raise ValueError("min and shrink end in different ways: %s, %s" % (least, smaller))
         if smaller is None:
             return dpi, None

@@ -19,8 +19,8 @@ still comes to the backend. The first two have to end the same, after a part of 
 Prints of each job the queue, the document, the kind, the bytes without the backend and with it, and how they compare; then the
 sums by driver, what the cancelled jobs came to, and how many jobs hold; status 1 if anything doesn't.
 
-Needs Debian's packages cups, cups-ppdc, cups-filters, ghostscript, foomatic-db-compressed-ppds, printer-driver-gutenprint and
-printer-driver-hpijs.
+Needs Debian's packages cups, cups-ppdc, cups-filters, ghostscript, foomatic-db-compressed-ppds, printer-driver-gutenprint,
+printer-driver-hpcups and printer-driver-hpijs.
 """
 import os
 import re
@@ -39,6 +39,7 @@ ANSWER = b"@PJL USTATUS DEVICE\r\nCODE=10001\r\nDISPLAY=\"PROCESSING JOB\"\r\nON
 ANSWERS = 100
 # How many bytes of a job have come when it is cancelled.
 START = 100000
+HPCUPS = "drv:///hpcups.drv/hp-laserjet_4050_series-pcl3.ppd"
 FOOMATIC = "foomatic-db-compressed-ppds:0/ppd/foomatic-ppd/"
 # A queue's name, its driver as the server names it (None: RASTERTOHP), options of each of its jobs, and whether all of them
 # have to be accepted.
@@ -47,6 +48,8 @@ DRIVERS = [
     ("rastertohp-600", None, ["Resolution=600dpi"], True),
     ("gutenprint", "gutenprint.5.3://hp-lj_4_plus/expert", [], True),
     ("hpijs", "drv:///hpijs.drv/hp-laserjet_4050_series-hpijs-pcl3.ppd", [], True),
+    ("hpcups-300", HPCUPS, ["OutputMode=Draft"], True),
+    ("hpcups-600", HPCUPS, [], True),
     ("ljet2p", FOOMATIC + "HP-LaserJet_2P-ljet2p.ppd", [], True),
     ("ljet4", FOOMATIC + "Generic-PCL_5e_Printer-ljet4.ppd", [], True),
     ("ljet4d", FOOMATIC + "Generic-PCL_5e_Printer-ljet4d.ppd", [], True),

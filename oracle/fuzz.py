@@ -18,12 +18,14 @@ With --triples COUNT triples of a job, an output and a certificate are made, eig
 be what the plain program writes, byte for byte, and be proved. In the others some of the three are changed (triples.py). Both programs
 have to give the same status and the same line of `check`, and an output that is proved has to be as long as the one that was written.
 
-With --drivers jobs have offsets too, and are read by the drivers' profile: pclmin's `pages` has to refuse a job in the line of the plain
-program, and its `same` has to find the pages of an accepted one in what the plain program writes of it.
+With --drivers jobs have what drivers send besides, and are read by the drivers' profile: pclmin's `pages` has to refuse a job in the line
+of the plain program, and its `same` has to find the pages of an accepted one in what the plain program writes of it. By the stated
+profile, `min` has to write what the plain program writes, or to refuse it in the same line.
 
 With --model the status, the line of a refusal and the image of a page also have to be those of reference.py, and a job
-that was written again has to have the same pages by it; with --drivers these are the plain program's. The model takes most of the time
-then.
+that was written again has to have the same pages by it; with --drivers these are the plain program's, by both profiles. Of two jobs
+that differ in what they ask the printer, `same --asked` has to say what the model says, where pclmin is the program. The model takes most
+of the time then.
 
 A job on which the two differ is kept in FOLDER (build/fuzz) as SEED-NUMBER.pcl, and the output and the certificate of a triple beside it
 as .out and .cert, with a line on standard output, and the status is then 1. The number of workers is 1 if it isn't given; what is made
@@ -44,7 +46,7 @@ import time
 sys.dont_write_bytecode = True
 import programs
 import reference
-from random_jobs import job_of, long_job, picture, right_job
+from random_jobs import asking_job, asking_pair, job_of, long_job, picture, right_job
 from triples import Triple, changed
 
 TABLES = os.path.join(os.path.dirname(os.path.abspath(__file__)), "..", "crates", "job_cases", "data", "*.txt")
@@ -64,6 +66,7 @@ KINDS = ["Truncated", "BadSequence", "ValueRange", "UnsupportedCommand", "Unsupp
          "MacroOpen", "MacroControl", "MacroDepth", "TooManyCommands", "TooManyPages", "NotPcl"]
 NAMES = sorted([name.decode() for name in reference.NAMES] + ["text", "HT", "LF", "FF", "CR", "SO", "SI"]
                + [side + chr(letter) for side in "()" for letter in range(64, 95) if chr(letter) != "X"])
+DRIVERS_NAMES = sorted(name.decode() for name in reference.DRIVERS_NAMES)
 VERDICTS = (["proved", "proved with another output", "proved with another certificate", "refused", "page count", "frame"]
             + ["NotGrammar", "OtherPage", "Rows", "Length"]
             + ["certificate " + fault for fault in ("BadMagic", "Short", "Rows", "Places", "Extra")]
@@ -77,7 +80,7 @@ class Reached:
     """What became of jobs or triples, and what stands in them."""
 
     def __init__(self):
-        self.outcomes, self.names, self.pairs, self.refusals, self.verdicts = (collections.Counter() for _ in range(5))
+        self.outcomes, self.names, self.pairs, self.refusals, self.verdicts, self.asked = (collections.Counter() for _ in range(6))
 
     def add(self, other):
         for mine, others in zip(vars(self).values(), vars(other).values()):
@@ -140,7 +143,7 @@ class Comparison:
         job = long_job(draw) if draw.random() < LONG_JOBS and not self.has_model else job_of(draw)
         dpi = draw.choice([300] * 5 + [600])
         at = ["--dpi", str(dpi)]
-        (first, pages), (named, _) = yield [self.question(["pbm", "--page", "1"] + at, job), (["names"], job)]
+        (first, pages), (named, _) = yield [self.question(["pbm", "--page", "1"] + at, job), self.question(["names"], job)]
         self.reached.add_job(first, named)
         if first[2].startswith(b"pclmin: refused: "):
             words = draw.choice([["min"], ["pbm", "--page", "1"]]) + at
@@ -158,7 +161,7 @@ class Comparison:
 
     def question(self, words, job):
         """What the plain program is asked where pclmin is asked with these words."""
-        return words + ["--drivers"] * (words[0] == "pbm" and self.pclmin.shows_by_drivers), job
+        return words + ["--drivers"] * (words[0] in ("pbm", "names") and self.pclmin.shows_by_drivers), job
 
     def accepted_fault(self, number, job, dpi, first, pages, draw):
         """What differs in pages or what is written; of the first page the plain program's answer is there."""
@@ -208,13 +211,18 @@ class Comparison:
 
     def compare_by_drivers(self, number):
         draw = random.Random("%d %d drivers" % (self.seed, number))
-        job, dpi = job_of(draw, has_offsets=True), draw.choice([300] * 5 + [600])
-        by = ["--drivers", "--dpi", str(dpi)]
-        (first, count), (written, _), (named, _) = yield [(["pbm", "--page", "1"] + by, job), (["min"] + by, job), (["names"], job)]
+        dpi = draw.choice([300, 300, 600])
+        job, at = job_of(draw, drivers_dpi=dpi), ["--dpi", str(dpi)]
+        by = ["--drivers"] + at
+        (first, count), (written, _), (stated, stated_count), (named, _) = yield [
+            (["pbm", "--page", "1"] + by, job), (["min"] + by, job), (["min"] + at, job), (["names", "--drivers"], job)]
         self.reached.add_job(first, named)
-        fault = self.drivers_fault(job, written, dpi)
+        fault = self.drivers_fault(job, written, dpi) or self.stated_fault(job, stated, dpi)
         if self.has_model and not fault:
             fault = yield from self.drivers_model_fault(job, dpi, written, count, draw)
+            fault = fault or stated_model_fault(job, dpi, stated, stated_count)
+            if not fault and hasattr(self.pclmin, "asked_same"):
+                return self.asked_faults(number, job if written[0] == 0 and draw.random() < 0.3 else asking_job(draw), dpi, draw)
         if not fault:
             return []
         self.keep(number, job)
@@ -231,6 +239,11 @@ class Comparison:
                 return "what the plain program writes: %s" % told(came)
         return None
 
+    def stated_fault(self, job, stated, dpi):
+        """What differs by the stated profile, by which the plain program's answer to `min` is there."""
+        came = self.pclmin.run(["min", "--dpi", str(dpi)], job)
+        return None if came == stated else "min: pclmin %s, plain %s" % (told(came), told(stated))
+
     def drivers_model_fault(self, job, dpi, written, count, draw):
         """What differs between the model and the plain program."""
         pages, line = modelled(job, dpi, reference.Profile.DRIVERS)
@@ -243,6 +256,24 @@ class Comparison:
         page = draw.randint(1, count)
         (came, _), = yield [(["pbm", "--page", str(page), "--drivers", "--dpi", str(dpi)], job)]
         return None if came == (0, image(pages[page - 1], dpi), b"") else "page %d isn't the model's" % page
+
+    def asked_faults(self, number, job, dpi, draw):
+        """What differs from the model in whether two jobs ask for the same, which are one but for a command."""
+        try:
+            commands = reference.read(job, reference.Profile.DRIVERS)
+        except reference.Refused:
+            return []
+        places = [command.at for command in commands if job[command.at] == reference.ESC] + [len(job)]
+        first, second = asking_pair(draw, job, places)
+        holds = reference.asks_the_same(first, second, dpi)
+        if holds is None:
+            return []
+        self.reached.asked["the same" if holds else "not the same"] += 1
+        came = self.pclmin.asked_same(first, second, dpi)
+        if (came[:2] == SAME) == holds and came[0] in (0, 1):
+            return []
+        self.keep(number, first, second)
+        return ["jobs %d at %d: same --asked: %s, where the model has %s" % (number, dpi, told(came), "the same" if holds else "others")]
 
     # Triples
 
@@ -346,6 +377,15 @@ def modelled(job, dpi, profile=reference.Profile.STATED):
         return None, b"pclmin: refused: %s\n" % str(refused).encode()
 
 
+def stated_model_fault(job, dpi, stated, count):
+    """What differs between the model and the plain program by the stated profile."""
+    pages, line = modelled(job, dpi)
+    if pages is None:
+        return None if stated == (1, b"", line) else "plain %s by the stated profile, where the model has %s" % (told(stated), line)
+    return None if (stated[0], count) == (0, len(pages)) else "plain %s by the stated profile, where the model has %d pages" % (
+        told(stated), len(pages))
+
+
 # What was reached
 
 
@@ -385,10 +425,12 @@ def tell_reached(asked, reached):
     if reached.outcomes:
         print("outcomes of jobs: %s" % counts(reached.outcomes))
         print("kinds of refusal: %s" % missing(KINDS, reached.outcomes))
-        print("commands in accepted jobs: %s" % missing(NAMES, reached.names))
+        print("commands in accepted jobs: %s" % missing(NAMES + DRIVERS_NAMES * asked.drivers, reached.names))
         tables = tables_reached(asked.plain)
         print("commands one after the other there: %s" % beside(reached.pairs, tables.pairs))
         print("commands with a kind of refusal: %s" % beside(reached.refusals, tables.refusals))
+    if reached.asked:
+        print("pairs of jobs that ask for: %s" % counts(reached.asked))
     if reached.verdicts:
         print("verdicts: %s" % counts(reached.verdicts))
     if asked.triples:

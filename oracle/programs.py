@@ -59,6 +59,10 @@ class Program:
         """The answer of `same`."""
         return self.asked_of_files(["same", *options, "--dpi", str(dpi)], first, second)
 
+    def asked_same(self, first, second, dpi):
+        """The answer of `same --asked`."""
+        return self.same(first, second, dpi, "--asked")
+
     def check(self, job, output, certificate, dpi):
         """The answer of `check`."""
         return self.asked_of_files(["check", "--dpi", str(dpi)], job, output, certificate)

@@ -1,8 +1,8 @@
 """Random print jobs of every part of docs/LANGUAGE.md, with values at and near their bounds.
 
 Each is drawn from a `random.Random`: `job_of` gives a job of any kind, `right_job` one that is mostly accepted, and `long_job` one that
-performs as many commands as a job may, or one more. `has_offsets` puts offsets of the page into a job, as the drivers' profile takes
-them.
+performs as many commands as a job may, or one more. With `drivers_dpi` a job has what the drivers' profile takes besides at this
+resolution: offsets of the page, what else a page is asked with, the seed row source, and fonts with a resolution of their own.
 """
 
 ESC = b"\x1b"
@@ -293,7 +293,8 @@ def offsets(draw, has_font):
     if way == 0:
         return fresh + draw.choice([said + offset(draw), ESC + b"&l-180u36Z", ESC + b"&l0e0u2x1.5Z", ESC + b"&l36z0oU"]) + show
     if way == 1:
-        return fresh + said + show + parts_of(draw, 1, has_font) + again + show
+        keeps = draw.choice([b"", b"", ESC + b"&l2A", b"\f", ESC + b"&l1H"])
+        return fresh + said + keeps + show + parts_of(draw, 1, has_font) + again + show
     if way == 2:
         return fresh + said + show + draw.choice([b"\f", ESC + b"E", ESC + b"&l2A", b"\n" * 60]) + again + show
     if way == 3:
@@ -304,7 +305,157 @@ def offsets(draw, has_font):
     return macro_of(number, content) + fresh + begin + ESC + b"&f%dY" % number + ESC + run + draw.choice([b"", again, b"\f" + again]) + show
 
 
-def right_job(draw, has_offsets=False):
+# What a page is asked with, and the forms of other commands that stand in one sequence with it.
+ASKS = {b"&l%sT": [b"2X", b"0E", b"1L", b"0O"], b"&k%sW": [b"0G", b"12H", b"2G"], b"*o%sM": [b"%sQ", b"%sD"], b"*o%sQ": [b"%sM", b"%sD"],
+        b"*o%sD": [b"%sM", b"%sQ"], b"*r%sQ": [b"1A", b"0F", b"B", b"9S", b"C"]}
+
+
+def ask(draw, form=None):
+    """What a page is asked with: a small number that is spelled in several ways, or one at a bound."""
+    few = ["0", "1", "1", "2", "-1", "+1", "01", "1.0", "1.9999", "-0", "", "-", "0.9999", "-0.5", "-1.5", ".", "3"]
+    bounds = ["32767", "32768", "-32767", "65535", "65535.00009"]
+    wrong = ["65536", "65535.0001", "-32768", "-32767.0001"]
+    form = form or draw.choice(sorted(ASKS))
+    said = [draw.choice(few if draw.random() < 0.9 else bounds if draw.random() < 0.9 else wrong).encode() for _ in range(2)]
+    if draw.random() < 0.7:
+        return ESC + form % said[0]
+    pair = [form[2:] % said[0], draw.choice(ASKS[form]).replace(b"%s", said[1])]
+    draw.shuffle(pair)
+    return ESC + form[:2] + pair[0].lower() + pair[1]
+
+
+def seed_row_source(draw):
+    """The seed row source, alone or with other commands of a raster in one sequence."""
+    wrong = [b"1", b"-1", b"1.0", b"2", b"65535", b"65536"]
+    said = draw.choice([b"0", b"0", b"0", b"", b"-0", b"+0", b"0.9999", b"-0.5"] if draw.random() < 0.95 else wrong)
+    way = draw.choice([b"*b%sS"] * 4 + [b"*b0m%sS", b"*b%ss3M", b"*b%ss0Y", b"*b1y%sS", b"*b2m%ss0W", b"*b%ss%sS"])
+    return ESC + way.replace(b"%s", said)
+
+
+def asks(draw, has_font):
+    """What a page is asked with: before marks and after them, in rasters, again after other commands, and in macros."""
+    form = draw.choice(sorted(ASKS))
+    said = ask(draw, form)
+    again = draw.choice([said, ask(draw, form), ask(draw)])
+    show = draw.choice(SHOWS)
+    fresh = draw.choice([b"\f", b"\f", ESC + b"E", ESC + b"%-12345X", ESC + b"&l2A", ESC + b"&l1H", ESC + b"&a1G", b""])
+    way = draw.randint(0, 7)
+    if way == 0:
+        return fresh + said + draw.choice([b"", again, ask(draw)]) + show
+    if way == 1:
+        return fresh + show + said + draw.choice([b"", again]) + show
+    if way == 2:
+        return fresh + said + show + draw.choice([b"\f", ESC + b"E", ESC + b"&l2A", ESC + b"%-12345X"]) + draw.choice([b"", again]) + show
+    if 3 <= way <= 5:
+        row, after = (with_data(b"*b", b"W", data(draw, 5)) for _ in range(2))
+        # All of it shows where a raster goes on: its left edge, its height, and its seed row.
+        begin = draw.choice([b"", ESC + b"*p%dx40Y" % draw.randint(1, 99), ESC + b"*r%dT" % draw.randint(1, 3), ESC + b"*b3M"])
+        rows = draw.choice([b"", row, row, row + ESC + b"*b3Y"])
+        return fresh + begin + ESC + draw.choice([b"*r0A", b"*r1A", b"*r1A"]) + rows + said + draw.choice([after, after, show])
+    number, run = draw.randint(0, 3), draw.choice([b"&f2X", b"&f3X", b"&f3X"])
+    content = draw.choice([said, said + show, show + said, said + b"\f", ESC + b"*b1W\x80" + said, b"\f" + said + show + again])
+    begin = draw.choice([b"", again, again + show, ESC + b"*r1A" + ESC + b"*b0W"])
+    return macro_of(number, content) + fresh + begin + ESC + b"&f%dY" % number + ESC + run + draw.choice([b"", again, b"\f" + again]) + show
+
+
+def seed_rows(draw):
+    """Rows of any method with the seed row source before, between and behind them, and what shows whether a raster went on."""
+    row = [with_data(b"*b", b"W", data(draw, 5)) for _ in range(3)]
+    sources = [seed_row_source(draw) for _ in range(3)]
+    method = ESC + b"*b%dM" % draw.choice([0, 2, 3, 3, 3])
+    begin = draw.choice([b"", ESC + b"*r1A", ESC + b"*p9x9Y" + ESC + b"*r1A", ESC + b"*r9s2t1A"])
+    parts = draw.choice([[begin, sources[0], row[0], method, row[1]], [begin, row[0], method, sources[0], row[1], sources[1], row[2]],
+                         [begin, method, sources[0]], [method, row[0], sources[0], ESC + b"*p7x40Y", row[1]],
+                         [begin, row[0], ESC + b"*b2Y", sources[0], row[1]], [begin, row[0], sources[0], ESC + b"*r0A", row[1]],
+                         [ESC + b"*p%dx9Y" % draw.randint(1, 99), sources[0]], [sources[0], ESC + b"*t%dR" % draw.choice([75, 300]), row[0]]])
+    number = draw.randint(0, 3)
+    if draw.random() < 0.2:
+        parts = [macro_of(number, sources[2] + draw.choice([b"", row[0]])), *parts, ESC + b"&f%dy%dX" % (number, draw.randint(2, 3)), row[2]]
+    return b"".join(parts) + draw.choice([b"", ESC + b"*rB", ESC + b"*rC"]) + draw.choice(SHOWS)
+
+
+# Fields of a header of format 20: where they are, and what else they may wrongly have.
+WRONG_FIELDS = [(0, 1), (0, 255), (1, 64), (1, 67), (1, 69), (2, 0), (2, 16), (2, 19), (2, 21), (3, 3), (12, 1), (13, 2), (64, 0), (64, 2),
+                (65, 43), (65, 45), (66, 0), (66, 2), (67, 43), (67, 0), (67, 88), (65, 88)]
+
+
+def header_with_resolution(draw, dpi):
+    """The header of a font with a resolution of its own: mostly right, or with one field that may be wrong."""
+    count = draw.choice([68] * 40 + [69, 90, 90, 67, 64])
+    head = bytearray(count)
+    head[:4] = 0, draw.choice([68] * 40 + [count, 67, 64, 70]), 20, draw.choice([0, 1, 2, 2])
+    head[13] = draw.choice([0, 1])
+    head[16:18] = draw.choice([0, 1, 7, 8, 50, 120, 400, 65535]).to_bytes(2, "big")
+    resolution = draw.choice([300, dpi] if draw.random() < 0.95 else [0, 75, 150, 299, 301, 600, 601, 1200])
+    head[64:68] = (resolution.to_bytes(2, "big") * 2)[:max(0, count - 64)]
+    if draw.random() < 0.06:
+        at, wrong = draw.choice(WRONG_FIELDS)
+        if at < len(head):
+            head[at] = wrong
+    for at in (4, 14, 18, 30, 63):
+        head[at] = draw.choice([0, 0, 1, 255])
+    return bytes(head)
+
+
+def font_with_resolution(draw, dpi):
+    """A font with a resolution of its own, its characters, and text in it; another of the same ID may come before it or behind it."""
+    number = draw.randint(0, 2)
+    heads = [header_with_resolution(draw, dpi)]
+    if draw.random() < 0.25:
+        heads.insert(draw.randint(0, 1), draw.choice([header(draw), header_with_resolution(draw, dpi)]))
+    letters = b"".join(ESC + b"*c%dE" % code + with_data(b"(s", b"W", character(draw)) for code in draw.choice([[65], [65, 66], [65, 200]]))
+    select = ESC + draw.choice([b"(%dX", b"(%dX", b")%dX"]) % number
+    place = draw.choice([b"", ESC + b"*p%dx%dY" % (draw.randint(0, 2400), draw.randint(0, 3300)), ESC + b"&u600D" + ESC + b"*p51x51Y"])
+    use = draw.choice([b"\x0f", b"\x0f", b"\x0e"]) if b")" in select else b""
+    text = draw.choice([b"A", b"AB A", b"A A", b" A", b"\tA", b"A\xc8"])
+    parts = [ESC + b"*c%dD" % number, *(with_data(b")s", b"W", head) for head in heads), letters, select]
+    if draw.random() < 0.2:
+        parts.insert(draw.randint(0, len(parts) - 1), ESC + b"*c%dF" % draw.choice([2, 3, 4, 5]))
+    if draw.random() < 0.15:
+        parts = [macro_of(3, b"".join(parts)), ESC + b"&f3y%dX" % draw.randint(2, 3)]
+    stays = ESC + b"*c5F" + ESC + b"E" + select + use + text
+    return b"".join(parts) + place + use + text + draw.choice([b"", stays, draw.choice(SHOWS), draw.choice(SHOWS)])
+
+
+def drivers_part(draw, has_font, dpi):
+    """What the drivers' profile takes besides, of one kind."""
+    kind = draw.randint(0, 3)
+    if kind == 0:
+        return offsets(draw, has_font)
+    if kind == 1:
+        return asks(draw, has_font)
+    return seed_rows(draw) if kind == 2 else font_with_resolution(draw, dpi)
+
+
+# What else asks the printer for something, or forgets it.
+OTHER_ASKS = [b"&l1S", b"&l2S", b"&l3G", b"&l2M", b"&l60P", b"&l0H", b"&l2H", b"&a1G", b"&l2X", b"&l1X", b"&l2A", b"&l26A", b"&l-180U", b"&l36Z",
+              b"E", b"E", b"%-12345X", b"%-12345X@PJL SET X=1\r\n"]
+
+
+def asking_job(draw):
+    """A short job that asks for much, and seldom what only the same job asks for."""
+    parts = []
+    for _ in range(draw.randint(1, 6)):
+        number, content = draw.randint(0, 2), b"".join(ask(draw) for _ in range(draw.randint(1, 2)))
+        parts.append(draw.choice([ask(draw), ask(draw), ESC + draw.choice(OTHER_ASKS), draw.choice(SHOWS) + b"\f", b"\f", draw.choice(SHOWS),
+                                  macro_of(number, content + draw.choice([b"", b"\f"])) + ESC + b"&f%dX" % draw.randint(2, 3)]))
+    return b"".join(parts)
+
+
+def asking_pair(draw, job, places):
+    """Two jobs that ask for the same or not: one job with a command that asks put in at some of these places."""
+    form = draw.choice(sorted(ASKS))
+    at = draw.randrange(len(places))
+    near = places[min(max(at + draw.choice([-2, -1, 1, 1, 2, 5]), 0), len(places) - 1)]
+    first, at = ask(draw, form), places[at]
+    second, then = [(ask(draw, form), at), (first, near), (ask(draw, form) + first, at), (first + ask(draw), at), (b"", at),
+                    (ask(draw), at)][draw.choice([0, 0, 1, 1, 1, 2, 3, 4, 5])]
+    pair = [job[:at] + first + job[at:], job[:then] + second + job[then:]]
+    draw.shuffle(pair)
+    return pair
+
+
+def right_job(draw, drivers_dpi=None):
     """A job that is mostly accepted."""
     begin = draw.choice([b"", ESC + b"E", ESC + b"&l0E", ESC + b"&l0E" + ESC + b"*p0x0Y" + ESC + b"*t300R"])
     has_font = draw.random() < 0.5
@@ -315,9 +466,9 @@ def right_job(draw, has_offsets=False):
         parts.insert(draw.randint(0, len(parts)), b"\f" * draw.choice([254, 255, 256, 257]))
     if draw.random() < 0.04:
         parts.insert(draw.randint(0, len(parts)), picture(draw, 300) + ESC + b"*rC")
-    if has_offsets:
+    if drivers_dpi:
         for _ in range(draw.choice([0, 1, 1, 2, 4])):
-            parts.insert(draw.randint(0, len(parts)), offsets(draw, has_font))
+            parts.insert(draw.randint(0, len(parts)), drivers_part(draw, has_font, drivers_dpi))
     if draw.random() < 0.6:
         parts.append(draw.choice(SHOWS))
     return begin + (FONT if has_font else b"") + b"".join(parts)
@@ -339,10 +490,10 @@ def mutated(draw, job):
     return bytes(job)
 
 
-def job_of(draw, has_offsets=False):
-    job = right_job(draw, has_offsets)
+def job_of(draw, drivers_dpi=None):
+    job = right_job(draw, drivers_dpi)
     if draw.random() < 0.25:
-        job = mutated(draw, job if draw.random() < 0.7 else job + right_job(draw, has_offsets))
+        job = mutated(draw, job if draw.random() < 0.7 else job + right_job(draw, drivers_dpi))
     return job
 
 

@@ -4,8 +4,9 @@
     python3 oracle/reference.py [--drivers] TABLE..            checks each case
     python3 oracle/reference.py [--drivers] --fill TABLE..     prints the tables with what is expected written into the cases
                                                               that say nothing of it
+    python3 oracle/reference.py --pairs TABLE..                checks tables of pairs of jobs (crates/same_cases/data)
 
-With --drivers jobs are read by the drivers' profile, else by the stated one.
+With --drivers jobs are read by the drivers' profile, else by the stated one. Of a pair it is checked whether both ask for the same.
 
 The tables are those of crates/job_cases/data; src/table.rt there and crates/case_tables/src/notation.rt tell how
 they are written. What a job means is worked out here from docs/LANGUAGE.md, rule by rule, plain and slow, and shares no
@@ -30,13 +31,17 @@ UNITS_OF_MEASURE = {96, 100, 120, 144, 150, 160, 180, 200, 225, 240, 288, 300, 3
                     1200, 1440, 1800, 2400, 3600, 7200}
 LINES_PER_INCH = {1, 2, 3, 4, 6, 8, 12, 16, 24, 48}
 
-WITHOUT_EFFECT = {b"%A", b"&lS", b"&lG", b"&lM", b"&lP", b"&aM", b"&sC", b"&d@", b"*vO", b"*cG"} | {
+WITHOUT_EFFECT = {b"%A", b"&aM", b"&sC", b"&d@", b"*vO", b"*cG"} | {
     bytes([side]) + b"s" + bytes([letter]) for side in b"()" for letter in b"PHVSBT"}
 
 NAMES = WITHOUT_EFFECT | {
-    b"E", b"9", b"=", b"%X", b"&lA", b"&lX", b"&lC", b"&lD", b"&lE", b"&lF", b"&lL", b"&lO", b"&lU", b"&lZ", b"&aP", b"&lH",
+    b"E", b"9", b"=", b"%X", b"&lA", b"&lX", b"&lC", b"&lD", b"&lE", b"&lF", b"&lL", b"&lO", b"&lU", b"&lZ", b"&lS", b"&lG", b"&lM", b"&lP", b"&aP", b"&lH",
     b"&aG", b"&uD", b"&kH", b"&kG", b"&aL", b"*pX", b"*pY", b"&aH", b"&aV", b"&aC", b"&aR", b"&fS", b"&fY", b"&fX", b"*cA", b"*cB", b"*cH",
     b"*cV", b"*cP", b"*cD", b"*cE", b"*cF", b")sW", b"(sW", b"(X", b")X", b"&pX", b"*vN", b"*vT", b"*tR", b"*rS", b"*rT", b"*rF", b"*rA", b"*rB", b"*rC", b"*bM", b"*bY", b"*bW"}
+
+# What the drivers' profile has besides: commands that ask the printer, and the seed row source.
+DRIVERS_ASKS = {b"&lT", b"&kW", b"*oM", b"*oQ", b"*oD", b"*rQ"}
+DRIVERS_NAMES = DRIVERS_ASKS | {b"*bS"}
 
 # Commands with as many bytes of data behind them as their values say.
 WITH_DATA = {b"*bW", b")sW", b"(sW", b"&pX"}
@@ -86,12 +91,21 @@ class Command:
         self.at, self.name, self.value, self.data = at, name, value or Value(), data
 
 
-def is_known(name):
-    """Whether a name stands in a table."""
-    return name in NAMES or len(name) == 2 and name[0] in b"()" and 64 <= name[1] <= 94
+class Profile(enum.Enum):
+    """Which commands there are, and what those of the printer take: the drivers' profile has more names, fonts of format 20, and
+    offsets of the page."""
+
+    STATED = enum.auto()
+    DRIVERS = enum.auto()
 
 
-def read(job):
+def is_known(name, profile):
+    """Whether a name stands in a table of a profile."""
+    return (name in NAMES or name in DRIVERS_NAMES and profile is Profile.DRIVERS
+            or len(name) == 2 and name[0] in b"()" and 64 <= name[1] <= 94)
+
+
+def read(job, profile):
     """The commands of a job, or its first fault."""
     commands, at = [], 0
     while at < len(job):
@@ -99,7 +113,7 @@ def read(job):
         if byte in (0, 7, 11):
             at += 1
         elif byte == ESC:
-            more, at = read_sequence(job, at)
+            more, at = read_sequence(job, at, profile)
             commands += more
         elif byte in CONTROL_CODES and byte != 8:
             commands.append(Command(at, bytes([byte])))
@@ -115,13 +129,13 @@ def read(job):
     return commands
 
 
-def read_sequence(job, start):
+def read_sequence(job, start, profile):
     """The commands of the sequence at a place, and the place behind it."""
     if start + 1 == len(job):
         raise Refused("Truncated", start, b"")
     first = job[start + 1]
     if 48 <= first <= 126:
-        if not is_known(bytes([first])):
+        if not is_known(bytes([first]), profile):
             raise Refused("UnsupportedCommand", start, bytes([first]))
         return [Command(start, bytes([first]))], start + 2
     if not 33 <= first <= 47:
@@ -129,13 +143,13 @@ def read_sequence(job, start):
     if start + 2 == len(job):
         raise Refused("Truncated", start, bytes([first]))
     if 96 <= job[start + 2] <= 126:
-        return read_parameters(job, start, job[start + 1:start + 3], start + 3)
+        return read_parameters(job, start, job[start + 1:start + 3], start + 3, profile)
     if first not in b"()%":
         raise Refused("BadSequence", start, bytes([first]))
-    return read_parameters(job, start, bytes([first]), start + 2)
+    return read_parameters(job, start, bytes([first]), start + 2, profile)
 
 
-def read_parameters(job, start, prefix, at):
+def read_parameters(job, start, prefix, at, profile):
     """The commands of the parameters at a place, and the place behind the sequence."""
     commands, place = [], start
     while True:
@@ -150,13 +164,14 @@ def read_parameters(job, start, prefix, at):
         name = prefix + bytes([letter - 32 if goes_on else letter])
         if value.parts > (32767 if value.sign == "-" else 65535) * 10000:
             raise Refused("ValueRange", place, name)
-        if not is_known(name):
+        if not is_known(name, profile):
             raise Refused("UnsupportedCommand", place, name)
         command = Command(place, name, value)
         if name in WITH_DATA:
             at = read_data(job, command, goes_on, at)
         elif name == b"%X" and value.whole() == -12345:
-            at = read_lines(job, at)
+            start_of_lines, at = at, read_lines(job, at)
+            command.data = job[start_of_lines:at]
         commands.append(command)
         if not goes_on:
             return commands, at
@@ -200,10 +215,12 @@ def read_lines(job, at):
 
 
 class Page:
-    """A page: its size, its copies, and its rows that aren't white, as numbers whose lowest bit is the left dot."""
+    """A page: its size, its copies, and its rows that aren't white, as numbers whose lowest bit is the left dot; and what it is asked
+    with beside these."""
 
-    def __init__(self, size, copies, rows):
+    def __init__(self, size, copies, rows, asked=None):
         self.size, self.copies, self.rows = size, copies, {y: row for y, row in rows.items() if row}
+        self.asked = asked
 
     def __eq__(self, other):
         return (self.size, self.copies, self.rows) == (other.size, other.copies, other.rows)
@@ -223,11 +240,15 @@ class Raster:
 
 
 class Font:
-    """A font: which codes it has, its advance (None where each character has its own), and its characters by code."""
+    """A font: which codes it has, its dots to an inch, its pitch in quarters of them, and its characters by code."""
 
-    def __init__(self, kind, pitch, is_fixed):
-        self.kind, self.pitch, self.is_fixed = kind, pitch, is_fixed
+    def __init__(self, kind, resolution, pitch, is_fixed):
+        self.kind, self.resolution, self.pitch, self.is_fixed = kind, resolution, pitch, is_fixed
         self.is_permanent, self.characters = False, {}
+
+    def units(self, quarters):
+        """Quarter dots of the font in units."""
+        return quarters * (7200 // self.resolution) // 4
 
     def has(self, code):
         seven = 32 <= code <= 127
@@ -241,14 +262,20 @@ class Character:
         self.left, self.top, self.delta, self.bits = left, top, delta, bits
 
 
-def font_of(data):
+def font_of(data, dpi, profile):
     """The font that a header defines; None where the data are no header."""
-    if len(data) < 64:
+    has_resolution = profile is Profile.DRIVERS and data[2:3] == b"\x14"
+    least = 68 if has_resolution else 64
+    if len(data) < least:
         return None
-    size, pitch = int.from_bytes(data[:2], "big"), int.from_bytes(data[16:18], "big")
-    if not 64 <= size <= len(data) or data[2] != 0 or data[3] > 2 or data[12] != 0 or data[13] > 1:
+    size, pitch, across, down = (int.from_bytes(data[at:at + 2], "big") for at in (0, 16, 64, 66))
+    if not has_resolution:
+        across = down = 300
+    if not least <= size <= len(data) or data[2] != 0 and not has_resolution or data[3] > 2 or data[12] != 0 or data[13] > 1:
         return None
-    return Font(data[3], pitch, data[13] == 0)
+    if across != down or across not in {300, dpi}:
+        return None
+    return Font(data[3], across, pitch, data[13] == 0)
 
 
 def character_of(data):
@@ -265,13 +292,6 @@ def character_of(data):
     return Character(left, top, delta, bits)
 
 
-class Profile(enum.Enum):
-    """Which commands ask the printer for something: no offset but 0 is of the stated profile."""
-
-    STATED = enum.auto()
-    DRIVERS = enum.auto()
-
-
 class Performer:
     """Performs the commands of a job."""
 
@@ -282,6 +302,9 @@ class Performer:
         # Macros by ID: their commands, and whether they are permanent. The definition that is open: an ID and its commands.
         # How many macros run.
         self.macros, self.definition, self.running = {}, None, 0
+        # The universal exits: how many pages were ejected before each, and its lines. Whether the job changes what stays in the printer,
+        # counts on it, or asks for something on a marked page.
+        self.exits, self.counts_whole = [], False
         self.begin()
 
     def begin(self):
@@ -298,6 +321,8 @@ class Performer:
         self.fonts = {number: font for number, font in self.fonts.items() if font.is_permanent}
         self.macro_id = 0
         self.macros = {number: macro for number, macro in self.macros.items() if macro[1]}
+        # What was said to the printer, by the command that says it; the side of the sheet, for the next page alone; whether that begins one.
+        self.said, self.sheet_side, self.begins_sheet = {}, None, True
         self.set_size("Letter")
 
     def set_size(self, size):
@@ -319,8 +344,9 @@ class Performer:
     def eject(self, command):
         if len(self.pages) == MOST_PAGES:
             raise Refused("TooManyPages", command.at, command.name)
-        self.pages.append(Page(self.size, self.copies, self.rows))
-        self.rows, self.marked = {}, False
+        asked = dict(self.said, side=self.sheet_side, begins_sheet=self.begins_sheet)
+        self.pages.append(Page(self.size, self.copies, self.rows, asked))
+        self.rows, self.marked, self.sheet_side, self.begins_sheet = {}, False, None, False
         self.to_first_line()
 
     def eject_marked(self, command):
@@ -342,6 +368,7 @@ class Performer:
     def run_macro(self, command):
         """Runs the macro of the ID, where it is there: a call puts back what was set before."""
         if self.macro_id not in self.macros:
+            self.counts_whole = True
             return
         if self.running == MOST_MACROS:
             raise Refused("MacroDepth", command.at, command.name)
@@ -355,6 +382,10 @@ class Performer:
         if is_call:
             if self.raster:
                 self.end_raster()
+            # The size that was said stays, as the size does.
+            saved["said"].pop("&lA", None)
+            saved["said"].update({name: value for name, value in self.said.items() if name == "&lA"})
+            self.counts_whole |= self.marked and saved["offsets"] != self.offsets
             for field, value in saved.items():
                 setattr(self, field, value)
 
@@ -367,7 +398,7 @@ class Performer:
         name = command.name
         if self.raster and name in (b"*tR", b"*rF", b"*rS", b"*rT", b"*rA"):
             return
-        if self.raster and name not in (b"*bM", b"*bY", b"*bW"):
+        if self.raster and name not in (b"*bM", b"*bS", b"*bY", b"*bW"):
             self.end_raster()
         if name in PERFORM:
             PERFORM[name](self, command)
@@ -414,17 +445,16 @@ class Performer:
         for code in command.data:
             if font and font.has(code) and code in font.characters:
                 character = font.characters[code]
-                self.ink_character(character)
+                self.ink_character(character, self.dpi // font.resolution)
                 self.marked = True
-                self.move_to(self.x + (self.hmi if font.is_fixed else 6 * character.delta), self.y)
+                self.move_to(self.x + (self.hmi if font.is_fixed else font.units(character.delta)), self.y)
             elif code == 32:
                 self.move_to(self.x + self.hmi, self.y)
             elif not font and code > 32:
                 raise Refused("NoFont", command.at, command.name)
 
-    def ink_character(self, character):
-        """Inks a square of dots for each set bit, where the page has them."""
-        scale = self.dpi // 300
+    def ink_character(self, character, scale):
+        """Inks a square of this many dots for each set bit, where the page has them."""
         for column, row in character.bits:
             for y in range(scale):
                 for x in range(scale):
@@ -545,6 +575,8 @@ def page_size(performer, command):
         refuse(command)
     performer.eject_marked(command)
     performer.set_size(size)
+    performer.said.pop("&lP", None)
+    performer.said["&lA"] = size
 
 
 def offset(side):
@@ -558,14 +590,41 @@ def offset(side):
             is_taken = not performer.marked or said == performer.offsets[side]
         if not is_taken:
             refuse(command)
-        performer.offsets[side] = said
+        performer.offsets[side] = performer.said[command.name.decode()] = said
     return perform
+
+
+def asking(performer, command):
+    """Says something to the printer."""
+    performer.counts_whole |= performer.marked and command.name != b"&lG"
+    performer.said[command.name.decode()] = command.value.whole()
+
+
+def page_length(performer, command):
+    performer.said["&lP"] = command.value.whole() * performer.vmi
+
+
+def copies(performer, whole):
+    performer.copies = performer.said["&lX"] = whole
+
+
+def paper_source(performer, command):
+    performer.eject_marked(command)
+    if command.value.whole() != 0:
+        performer.said["&lH"] = command.value.whole()
+
+
+def side_of_sheet(performer, command):
+    performer.eject_marked(command)
+    performer.sheet_side = command.value.whole()
 
 
 def reset(performer, command):
     if command.name == b"%X" and command.value.whole() != -12345:
         refuse(command)
     performer.eject_marked(command)
+    if command.name == b"%X":
+        performer.exits.append((len(performer.pages), command.data))
     performer.begin()
 
 
@@ -624,6 +683,7 @@ def side(name, unit):
 
 def font_control(performer, what):
     fonts, number = performer.fonts, performer.font_id
+    performer.counts_whole |= what == 0 or what > 1 and number not in fonts
     if what == 0:
         fonts.clear()
     elif what == 1:
@@ -640,6 +700,7 @@ def macro_control(performer, command):
     what, number, macros = command.value.whole(), performer.macro_id, performer.macros
     if what not in (0, 1, 2, 3, 6, 7, 8, 9, 10):
         refuse(command)
+    performer.counts_whole |= what == 6 or what > 7 and number not in macros
     if what == 0:
         performer.definition = (number, [])
     elif what == 1:
@@ -661,7 +722,7 @@ def macro_control(performer, command):
 
 def download_font(performer, command):
     if command.data:
-        font = font_of(command.data)
+        font = font_of(command.data, performer.dpi, performer.profile)
         if not font:
             raise Refused("FontHeader", command.at, command.name)
         performer.fonts[performer.font_id] = font
@@ -680,7 +741,8 @@ def select_font(which):
     def perform(performer, value):
         if value.whole() in performer.fonts:
             performer.selected[which] = value.whole()
-            performer.hmi = 6 * performer.fonts[value.whole()].pitch
+            font = performer.fonts[value.whole()]
+            performer.hmi = font.units(font.pitch)
     return from_zero(perform)
 
 
@@ -711,7 +773,7 @@ ANY_FROM_ZERO = range(65536)
 
 # All that is set, but for the page size, the cursor and its stack.
 CALL_RESTORES = ("copies", "pcl_unit", "hmi", "vmi", "top", "bottom", "left", "skips", "termination", "macro_id", "font_id", "code",
-                 "selected", "in_use", "rectangle", "offsets", "resolution", "raster_width", "raster_height", "method")
+                 "selected", "in_use", "rectangle", "offsets", "said", "resolution", "raster_width", "raster_height", "method")
 
 PERFORM = {
     b"E": reset, b"%X": reset,
@@ -726,7 +788,7 @@ PERFORM = {
     b")sW": download_font, b"(sW": download_character,
     b"(X": select_font("primary"), b")X": select_font("secondary"),
     b"&lA": page_size,
-    b"&lX": setting("copies", range(1, 100)),
+    b"&lX": taking(range(1, 100), copies),
     b"&lC": from_zero(lambda p, value: setattr(p, "vmi", value.times(150))),
     b"&lD": taking(LINES_PER_INCH, lambda p, whole: setattr(p, "vmi", 7200 // whole)),
     b"&lE": from_zero(top_margin),
@@ -734,7 +796,8 @@ PERFORM = {
     b"&lL": taking({0, 1}, lambda p, whole: setattr(p, "skips", whole == 1)),
     b"&lO": taking({0}, nothing), b"&aP": taking({0}, nothing),
     b"&lU": offset("left"), b"&lZ": offset("top"),
-    b"&lH": Performer.eject_marked, b"&aG": Performer.eject_marked,
+    b"&lH": paper_source, b"&aG": side_of_sheet, b"&lP": page_length,
+    **{name: asking for name in DRIVERS_ASKS | {b"&lS", b"&lG", b"&lM"}},
     b"&uD": taking(UNITS_OF_MEASURE, lambda p, whole: setattr(p, "pcl_unit", 7200 // whole)),
     b"&kH": from_zero(lambda p, value: setattr(p, "hmi", value.times(60))),
     b"&kG": setting("termination", range(4)),
@@ -757,20 +820,39 @@ PERFORM = {
     b"*rA": taking({0, 1}, start),
     b"*rB": end_raster, b"*rC": end_raster,
     b"*bM": setting("method", range(4)),
+    b"*bS": taking({0}, nothing),
     b"*bY": from_zero(skip_rows),
     b"*bW": lambda p, c: p.row(c),
 }
 
 
-def pages_of(job, dpi, profile=Profile.STATED):
-    """The pages of a job, or its refusal."""
+def performed(job, dpi, profile=Profile.STATED):
+    """The performer at the end of a job, or its refusal."""
     performer = Performer(dpi, profile)
-    for command in read(job):
+    for command in read(job, profile):
         performer.perform(command)
     if performer.definition:
         raise Refused("MacroOpen", len(job), b"")
     reset(performer, Command(len(job), b""))
-    return performer.pages
+    performer.counts_whole |= bool(performer.fonts or performer.macros)
+    return performer
+
+
+def pages_of(job, dpi, profile=Profile.STATED):
+    """The pages of a job, or its refusal."""
+    return performed(job, dpi, profile).pages
+
+
+def asks_the_same(first, second, dpi):
+    """Whether two jobs have the same pages by the drivers' profile and ask the printer for the same; none where either is refused."""
+    if first == second:
+        return True
+    try:
+        one, other = (performed(job, dpi, Profile.DRIVERS) for job in (first, second))
+    except Refused:
+        return None
+    return (not one.counts_whole and not other.counts_whole and one.exits == other.exits and one.pages == other.pages
+            and [page.asked for page in one.pages] == [page.asked for page in other.pages])
 
 
 # Tables
@@ -1035,6 +1117,26 @@ def filled(lines, profile):
     return lines
 
 
+def failing_pairs(lines):
+    """The pairs of a table that ask for the same, or don't, where the model says otherwise, and how many pairs there are."""
+    failing, count = [], 0
+    for line in lines:
+        word, _, rest = line.strip().partition(" ")
+        if word == "case":
+            name, dpi, jobs = rest, 300, {}
+        elif word == "dpi":
+            dpi = int(rest)
+        elif word in ("first", "second"):
+            jobs[word] = bytes_of(rest)
+        elif word == "answer":
+            count += 1
+            wanted = None if rest.startswith(("first ", "second ")) else rest == "same"
+            came = asks_the_same(jobs["first"], jobs["second"], dpi)
+            if came != wanted:
+                failing.append("%s: %s, where the model has %s" % (name, rest, came))
+    return failing, count
+
+
 def main(words):
     profile = Profile.DRIVERS if "--drivers" in words else Profile.STATED
     fills = "--fill" in words
@@ -1042,6 +1144,11 @@ def main(words):
     for path in (word for word in words if not word.startswith("--")):
         with open(path, encoding="latin-1") as source:
             lines = source.read().split("\n")
+        if "--pairs" in words:
+            failing, count = failing_pairs(lines)
+            failed += len(failing)
+            print("".join("%s: %s\n" % (path, line) for line in failing) + "%s: %d pairs" % (path, count))
+            continue
         if fills:
             print("\n".join(filled(lines, profile)), end="")
             continue

@@ -1,15 +1,16 @@
 #!/usr/bin/env python3
 """Sends random jobs through `pclmin shrink` and back, and has the plain program (plain/) look at all pages of both.
 
-    python3 oracle/shrunk.py PCLMIN PLAIN COUNT SEED [--workers N] [--folder FOLDER]
+    python3 oracle/shrunk.py PCLMIN PLAIN COUNT SEED [--model] [--workers N] [--folder FOLDER]
 
 The jobs are those of random_jobs.py: one to three that are mostly accepted, joined, or one of any kind, by `--dpi 300`, `--dpi 600` or
 `--dpi auto`, which is drawn too; the first of eight that is accepted, or the last. Four of five go by `--profile-only`. What `shrink`
-writes of an accepted one is no longer, has as many pages, each the same by the plain program, and is the same by `same --asked`; by `--dpi auto` it has these pages at each
-resolution at which the plain program accepts the job. Without `--profile-only` it is the job as it came, or printers don't read it
-otherwise. A job that `shrink` refuses is refused by the plain program in the same line. A job that doesn't hold is kept in FOLDER
-(build/fuzz) as shrunk-SEED-NUMBER.pcl, with a line on standard output, and the status is then 1. The plain program reads by the drivers'
-profile, as `shrink` does, and jobs have offsets of the page. The number of workers is 1 if it isn't given; the jobs don't depend on it.
+writes of an accepted one is no longer, has as many pages, each the same by the plain program, and is the same by `same --asked`; by
+`--dpi auto` it has these pages at each resolution at which the plain program accepts the job. With --model both also have the same pages
+by reference.py, and ask the printer for the same. Without `--profile-only` it is the job as it came, or printers don't read it otherwise.
+A job that `shrink` refuses is refused by the plain program in the same line. A job that doesn't hold is kept in FOLDER (build/fuzz) as
+shrunk-SEED-NUMBER.pcl, with a line on standard output, and the status is then 1. The plain program reads by the drivers' profile, as
+`shrink` does, and jobs have what drivers send besides. The number of workers is 1 if it isn't given; the jobs don't depend on it.
 """
 
 import argparse
@@ -21,6 +22,7 @@ import sys
 
 sys.dont_write_bytecode = True
 import programs
+import reference
 from random_jobs import job_of, right_job
 
 # How many jobs are drawn for one that is accepted.
@@ -30,8 +32,10 @@ TRIES = 8
 def random_job(draw):
     """A job, and what is asked for its resolution."""
     count = draw.choice([1, 1, 2, 3]) if draw.random() < 0.9 else 0
-    jobs = [right_job(draw, has_offsets=True) for _ in range(count)] or [job_of(draw, has_offsets=True)]
-    return draw.choice([b"\f", b"", b"\x1bE"]).join(jobs), draw.choice(["300", "600", "auto"])
+    dpi = draw.choice(["300", "600", "auto"])
+    most = 300 if dpi == "300" else 600
+    jobs = [right_job(draw, drivers_dpi=most) for _ in range(count)] or [job_of(draw, drivers_dpi=most)]
+    return draw.choice([b"\f", b"", b"\x1bE"]).join(jobs), dpi
 
 
 class Looker:
@@ -39,7 +43,7 @@ class Looker:
 
     def __init__(self, asked):
         self.pclmin, self.plain = programs.Program(asked.pclmin, asked.folder), programs.Plain(asked.plain)
-        self.seed, self.folder = asked.seed, asked.folder
+        self.seed, self.folder, self.has_model = asked.seed, asked.folder, asked.model
 
     def pages(self, job, dpi):
         """The images of all pages by the plain program at a resolution, or the line of its refusal."""
@@ -90,6 +94,8 @@ class Looker:
             return "other pages", "others"
         if self.pclmin.same(job, written, dpi, "--asked")[:2] != (0, b"same\n"):
             return "not the same by same --asked", "others"
+        if self.has_model and any(not reference.asks_the_same(job, written, int(at)) for at in accepted):
+            return "asks for other things by the model", "others"
         return None, "shorter" if len(written) < len(job) else "as it came"
 
 
@@ -106,6 +112,7 @@ def main():
     parser = argparse.ArgumentParser()
     for name, kind in (("pclmin", str), ("plain", str), ("count", int), ("seed", int)):
         parser.add_argument(name, type=kind)
+    parser.add_argument("--model", action="store_true")
     parser.add_argument("--workers", type=int, default=1)
     parser.add_argument("--folder", default="build/fuzz")
     asked = parser.parse_args()

@@ -1,8 +1,9 @@
 //! The bytes of certificates (docs/CERTIFICATE.md, "The bytes"): reading them, and writing those of a job, in plain Rust over std alone.
 
 use crate::bitmap::Bitmap;
+use crate::commands::Profile;
 use crate::linear;
-use crate::performing::{Profile, Task, perform};
+use crate::performing::{Task, perform};
 use crate::plan;
 use crate::refusals::Refusal;
 use crate::settings::Size;

@@ -3,8 +3,9 @@
 
 use crate::bitmap::Bitmap;
 use crate::certificates::{self, Claim, Malformed, numbers_of};
+use crate::commands::Profile;
 use crate::linear;
-use crate::performing::{Profile, Task, perform};
+use crate::performing::{Task, perform};
 use crate::plan::{Rows, digits};
 use crate::refusals::Refusal;
 use crate::texts::Text;

@@ -2,6 +2,15 @@
 
 use crate::refusals::{Kind, Name, Refusal};
 
+/// Which commands there are, and what those of the printer take. By no profile does what is asked of the printer move a dot.
+#[derive(Clone, Copy)]
+pub enum Profile {
+    /// That of `min`, `check` and `pbm`, which takes an offset of 0 alone.
+    Stated,
+    /// That of `shrink`, `same`, `pages` and `explain`, which has more names and fonts, and takes any offset on an unmarked page.
+    Drivers,
+}
+
 #[derive(Clone, Copy)]
 pub enum Axis {
     X,
@@ -71,6 +80,7 @@ pub enum Operation {
     EndRaster,
     EndRasterAndMethod,
     Method,
+    SeedRowSource,
     SkipRows,
     Row,
     /// Takes 0, and does nothing.
@@ -80,8 +90,24 @@ pub enum Operation {
 }
 
 impl Operation {
-    /// What the command of a name does, where the language has one.
-    pub fn named(name: Name) -> Option<Operation> {
+    /// What the command of a name does, where the profile has one.
+    pub fn named(name: Name, profile: Profile) -> Option<Operation> {
+        match (Operation::stated(name), profile) {
+            (None, Profile::Drivers) => Operation::of_drivers(name),
+            (stated, _) => stated,
+        }
+    }
+
+    /// What drivers send besides: nothing of it shows on a page.
+    fn of_drivers(name: Name) -> Option<Operation> {
+        Some(match &name.0 {
+            b"&lT" | b"&kW" | b"*oM" | b"*oQ" | b"*oD" | b"*rQ" => Operation::Nothing,
+            b"*bS" => Operation::SeedRowSource,
+            _ => return None,
+        })
+    }
+
+    fn stated(name: Name) -> Option<Operation> {
         use {Axis::*, Measure::*, Operation::*, Slot::*};
         Some(match &name.0 {
             b" \0\0" | b"&pX" => Print,

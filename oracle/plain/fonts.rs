@@ -1,11 +1,16 @@
 //! Soft fonts.
 
+use crate::commands::Profile;
+
+/// The dots to an inch of a font whose header doesn't say them, and of the page at the lower resolution.
+const COARSE: u32 = 300;
+
 /// A character: a pattern of whole rows, and where it lies about the cursor.
 pub struct Glyph<'a> {
     pub left: i16,
     pub top: i16,
     pub width: usize,
-    /// In quarter dots.
+    /// In quarter dots of the font.
     pub advance: i16,
     pub pattern: &'a [u8],
 }
@@ -33,27 +38,50 @@ pub struct Font<'a> {
     kind: u8,
     pub is_proportional: bool,
     pub is_permanent: bool,
-    /// In quarter dots.
-    pub pitch: u16,
+    /// To an inch.
+    dots: u32,
+    /// In quarter dots of the font.
+    pitch: u16,
     pub glyphs: Vec<Option<Glyph<'a>>>,
 }
 
 impl<'a> Font<'a> {
-    /// The font of a header, without characters.
-    pub fn read(data: &[u8]) -> Option<Font<'a>> {
-        let head = data.get(..64)?;
+    /// The font of a header, without characters, for pages of a resolution.
+    pub fn read(data: &[u8], dpi: u32, profile: Profile) -> Option<Font<'a>> {
+        let (length, dots) = match (data.get(2)?, profile) {
+            (0, _) => (64, COARSE),
+            (20, Profile::Drivers) => (68, resolution(data)?),
+            _ => return None,
+        };
+        let head = data.get(..length)?;
         let size = usize::from(u16::from_be_bytes([head[0], head[1]]));
-        let is_known = head[2] == 0 && head[3] <= 2 && head[12] == 0 && head[13] <= 1;
-        if !is_known || !(64..=data.len()).contains(&size) {
+        let is_known = head[3] <= 2 && head[12] == 0 && head[13] <= 1 && (dots == COARSE || dots == dpi);
+        if !is_known || !(length..=data.len()).contains(&size) {
             return None;
         }
         Some(Font {
             kind: head[3],
             is_proportional: head[13] == 1,
             is_permanent: false,
+            dots,
             pitch: u16::from_be_bytes([head[16], head[17]]),
             glyphs: (0..256).map(|_| None).collect(),
         })
+    }
+
+    /// The dots of a page of a resolution that a bit is wide and high.
+    pub fn scale(&self, dpi: u32) -> usize {
+        (dpi / self.dots) as usize
+    }
+
+    /// The units of a quarter dot.
+    pub fn quarter_dot(&self) -> u32 {
+        1800 / self.dots
+    }
+
+    /// The pitch in units.
+    pub fn column_width(&self) -> u64 {
+        u64::from(self.pitch) * u64::from(self.quarter_dot())
     }
 
     /// The character that a code prints.
@@ -65,4 +93,11 @@ impl<'a> Font<'a> {
         };
         self.glyphs[usize::from(code)].as_ref().filter(|_| is_printed)
     }
+}
+
+/// The dots to an inch that a header says, where they are as many across as down.
+fn resolution(header: &[u8]) -> Option<u32> {
+    let fields = header.get(64..68)?;
+    let (across, down) = fields.split_at(2);
+    (across == down).then(|| u32::from(fields[0]) << 8 | u32::from(fields[1]))
 }

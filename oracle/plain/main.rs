@@ -5,7 +5,7 @@
 //!     plain min [--dpi 300|600] [--drivers] < job.pcl > written.pcl
 //!     plain cert [--format 1|2] [--dpi 300|600] < job.pcl > certificate
 //!     plain check [--dpi 300|600] IN OUT CERT
-//!     plain names < job.pcl
+//!     plain names [--drivers] < job.pcl
 //!     plain jobs < requests > answers
 //!
 //! Status 0: the page, the job or its certificate was written, or the output is proved. 1: it isn't, the job is refused, or has no
@@ -37,14 +37,15 @@ mod settings;
 mod texts;
 
 use checking::Verdict;
-use performing::{Done, Profile, Task, perform};
+use commands::Profile;
+use performing::{Done, Task, perform};
 use refusals::Refusal;
 use std::fmt;
 use std::io::{self, BufRead, Read, Write};
 use std::process::ExitCode;
 
 const USAGE: &str = "usage: plain pbm --page N [--dpi 300|600] [--drivers], plain min [--dpi 300|600] [--drivers], \
-                     plain cert [--format 1|2] [--dpi 300|600], plain check [--dpi 300|600] IN OUT CERT, plain names, or plain jobs";
+                     plain cert [--format 1|2] [--dpi 300|600], plain check [--dpi 300|600] IN OUT CERT, plain names [--drivers], or plain jobs";
 const USAGE_STATUS: u8 = 2;
 
 fn main() -> ExitCode {
@@ -79,7 +80,7 @@ enum Order {
     Rewrite { dpi: u32, profile: Profile },
     Certify { has_lists: bool, dpi: u32 },
     Check { dpi: u32 },
-    Name,
+    Name { profile: Profile },
 }
 
 /// What came of a job that isn't refused.
@@ -97,7 +98,7 @@ impl Order {
         while let [option, behind @ ..] = words
             && option.starts_with("--")
         {
-            if let ("--drivers", "pbm" | "min") = (*option, *name) {
+            if let ("--drivers", "pbm" | "min" | "names") = (*option, *name) {
                 (profile, words) = (Profile::Drivers, behind);
                 continue;
             }
@@ -121,7 +122,7 @@ impl Order {
                 Order::Certify { has_lists, dpi }
             }
             "check" => Order::Check { dpi },
-            "names" => Order::Name,
+            "names" => Order::Name { profile },
             _ => return None,
         };
         Some((order, words))
@@ -142,7 +143,7 @@ impl Order {
             Order::Rewrite { dpi, profile } => Made::Pages(perform(job, Task::Rewrite(b"\x1bE".to_vec()), dpi, profile)?),
             Order::Certify { has_lists, dpi } => Made::Bytes(certificates::write(job, has_lists, dpi)?),
             Order::Check { dpi } => Made::Verdict(checking::check(job, &inputs[1], &inputs[2], dpi)?),
-            Order::Name => Made::Bytes(reading::names(job)?.into_bytes()),
+            Order::Name { profile } => Made::Bytes(reading::names(job, profile)?.into_bytes()),
         })
     }
 }

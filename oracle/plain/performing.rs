@@ -1,7 +1,7 @@
 //! Performing: the commands of a job in turn, on the bitmap of a page.
 
 use crate::bitmap::Bitmap;
-use crate::commands::{Axis, Command, Measure, Number, Operation, Slot};
+use crate::commands::{Axis, Command, Measure, Number, Operation, Profile, Slot};
 use crate::fonts::{Font, Glyph};
 use crate::macros::{Macros, Step};
 use crate::raster::Raster;
@@ -12,17 +12,7 @@ use std::collections::HashMap;
 
 const COMMAND_LIMIT: u32 = 100_000_000;
 const PAGE_LIMIT: usize = 256;
-const QUARTER_DOT: u64 = 6;
 const GREATEST_ID: u32 = 32767;
-
-/// Which commands ask the printer for something. By no profile do they move a dot.
-#[derive(Clone, Copy)]
-pub enum Profile {
-    /// That of `min`, `check` and `pbm`, which takes an offset of 0 alone.
-    Stated,
-    /// That of `shrink`, `same`, `pages` and `explain`, which takes any offset on an unmarked page.
-    Drivers,
-}
 
 /// What becomes of the pages.
 pub enum Task<'a> {
@@ -43,7 +33,7 @@ pub struct Done<'a> {
 /// Performs a job as it is read. A fault of the reading comes before every refusal of the performing.
 pub fn perform<'a>(job: &'a [u8], task: Task<'a>, dpi: u32, profile: Profile) -> Result<Done<'a>, Refusal> {
     let mut performer = Performer::new(task, dpi, profile);
-    let mut reader = Reader::new(job);
+    let mut reader = Reader::new(job, profile);
     loop {
         match reader.next_command() {
             // Borrowed where the reader leaves it: to move each command would take a part of the time that a row takes.
@@ -136,7 +126,7 @@ impl<'a> Performer<'a> {
         use Operation::*;
         match command.operation {
             Resolution | Presentation | RasterWidth | RasterHeight | StartRaster if self.raster.is_some() => return Ok(()),
-            Method | SkipRows | Row => {}
+            Method | SeedRowSource | SkipRows | Row => {}
             _ => self.end_raster(),
         }
         self.act(command)
@@ -155,6 +145,7 @@ impl<'a> Performer<'a> {
                     raster.skip(count as usize);
                 }
             }
+            Operation::SeedRowSource => drop(value.taken(|source| source == 0)?),
             Operation::Method => settings.method = value.taken(|method| method <= 3)?,
 
             Operation::Print => self.print(data)?,
@@ -165,7 +156,7 @@ impl<'a> Performer<'a> {
             Operation::CharacterCode => settings.code = value.taken(|code| code <= 255)? as u8,
             Operation::FontControl => self.control_fonts(value.count()?)?,
             Operation::FontHeader if !data.is_empty() => {
-                let font = Font::read(data).ok_or(Kind::FontHeader)?;
+                let font = Font::read(data, self.dpi, self.profile).ok_or(Kind::FontHeader)?;
                 self.fonts.insert(settings.font_id, font);
             }
             Operation::Character if !data.is_empty() => {
@@ -275,7 +266,6 @@ impl<'a> Performer<'a> {
 
     /// Prints codes in the font that is selected and in use.
     fn print(&mut self, codes: &[u8]) -> Result<(), Kind> {
-        let scale = i64::from(self.dpi / 300);
         let unit = self.unit();
         let settings = &self.settings;
         let font = settings.selected[settings.in_use as usize].and_then(|id| self.fonts.get(&id));
@@ -284,12 +274,13 @@ impl<'a> Performer<'a> {
         }
         for &code in codes {
             if let Some((font, glyph)) = font.and_then(|font| Some((font, font.glyph(code)?))) {
-                let left = (self.cursor.x / unit) as i64 + i64::from(glyph.left) * scale;
-                let top = (self.cursor.y / unit) as i64 - i64::from(glyph.top) * scale;
-                self.bitmap.paint_pattern(left, top, scale as usize, glyph);
+                let scale = font.scale(self.dpi);
+                let left = (self.cursor.x / unit) as i64 + i64::from(glyph.left) * scale as i64;
+                let top = (self.cursor.y / unit) as i64 - i64::from(glyph.top) * scale as i64;
+                self.bitmap.paint_pattern(left, top, scale, glyph);
                 self.is_marked = true;
                 if font.is_proportional {
-                    self.cursor.advance(i64::from(glyph.advance) * QUARTER_DOT as i64);
+                    self.cursor.advance(i64::from(glyph.advance) * i64::from(font.quarter_dot()));
                 } else {
                     self.cursor.advance(settings.column_width as i64);
                 }
@@ -327,7 +318,7 @@ impl<'a> Performer<'a> {
     fn select_font(&mut self, slot: Slot, id: u32) {
         if let Some(font) = self.fonts.get(&id) {
             self.settings.selected[slot as usize] = Some(id);
-            self.settings.column_width = u64::from(font.pitch) * QUARTER_DOT;
+            self.settings.column_width = font.column_width();
         }
     }
 

@@ -1,9 +1,10 @@
 //! Reading: the commands of a job in turn, or its first fault.
 
-use crate::commands::{Command, Number, Operation, Sign};
+use crate::commands::{Command, Number, Operation, Profile, Sign};
 use crate::refusals::{Kind, Name, Refusal};
 
 pub struct Reader<'a> {
+    profile: Profile,
     length: usize,
     rest: &'a [u8],
     /// What the names of a sequence that goes on at `rest` begin with.
@@ -31,8 +32,8 @@ fn refused<T>(kind: Kind, place: usize, name: Name) -> Result<T, Refusal> {
 }
 
 /// The names of a job's commands, each on a line.
-pub fn names(job: &[u8]) -> Result<String, Refusal> {
-    let mut reader = Reader::new(job);
+pub fn names(job: &[u8], profile: Profile) -> Result<String, Refusal> {
+    let mut reader = Reader::new(job, profile);
     let mut names = String::new();
     while let Some(command) = reader.next_command()? {
         names += &format!("{}\n", command.name);
@@ -41,8 +42,9 @@ pub fn names(job: &[u8]) -> Result<String, Refusal> {
 }
 
 impl<'a> Reader<'a> {
-    pub fn new(job: &'a [u8]) -> Reader<'a> {
+    pub fn new(job: &'a [u8], profile: Profile) -> Reader<'a> {
         Reader {
+            profile,
             length: job.len(),
             rest: job,
             group: None,
@@ -114,7 +116,7 @@ impl<'a> Reader<'a> {
     /// A command of one byte, which has neither value nor data.
     fn bare(&self, place: usize, code: u8) -> Result<Start<'a>, Refusal> {
         let name = Name::one(code);
-        let Some(operation) = Operation::named(name) else {
+        let Some(operation) = Operation::named(name, self.profile) else {
             return refused(Kind::UnsupportedCommand, place, name);
         };
         Ok(Start::Complete(Command {
@@ -169,7 +171,7 @@ impl<'a> Reader<'a> {
         if !value.is_in_range() {
             return refused(Kind::ValueRange, place, name);
         }
-        let Some(operation) = Operation::named(name) else {
+        let Some(operation) = Operation::named(name, self.profile) else {
             return refused(Kind::UnsupportedCommand, place, name);
         };
         let mut command = Command {
