@@ -40,8 +40,8 @@ NAMES = WITHOUT_EFFECT | {
     b"*cV", b"*cP", b"*cD", b"*cE", b"*cF", b")sW", b"(sW", b"(X", b")X", b"&pX", b"*vN", b"*vT", b"*tR", b"*rS", b"*rT", b"*rF", b"*rA", b"*rB", b"*rC", b"*bM", b"*bY", b"*bW"}
 
 # What the drivers' profile has besides: commands that ask the printer, and the seed row source.
-DRIVERS_ASKS = {b"&lT", b"&kW", b"*oM", b"*oQ", b"*oD", b"*rQ"}
-DRIVERS_NAMES = DRIVERS_ASKS | {b"*bS"}
+DRIVERS_ASKS = {b"&kW", b"*oM", b"*oQ", b"*oD", b"*rQ"}
+DRIVERS_NAMES = DRIVERS_ASKS | {b"&lT", b"*bS"}
 
 # Commands with as many bytes of data behind them as their values say.
 WITH_DATA = {b"*bW", b")sW", b"(sW", b"&pX"}
@@ -305,6 +305,8 @@ class Performer:
         # The universal exits: how many pages were ejected before each, and its lines. Whether the job changes what stays in the printer,
         # counts on it, or asks for something on a marked page.
         self.exits, self.counts_whole = [], False
+        # How the job is separated from the next, where that is said.
+        self.separation = None
         self.begin()
 
     def begin(self):
@@ -346,6 +348,7 @@ class Performer:
             raise Refused("TooManyPages", command.at, command.name)
         asked = dict(self.said, side=self.sheet_side, begins_sheet=self.begins_sheet)
         self.pages.append(Page(self.size, self.copies, self.rows, asked))
+        self.counts_whole |= self.separation is not None
         self.rows, self.marked, self.sheet_side, self.begins_sheet = {}, False, None, False
         self.to_first_line()
 
@@ -600,6 +603,12 @@ def asking(performer, command):
     performer.said[command.name.decode()] = command.value.whole()
 
 
+def separation(performer, command):
+    """Separates jobs: once, after a page and before a reset, or all bytes of the job count."""
+    performer.counts_whole |= performer.marked or performer.begins_sheet or performer.separation is not None
+    performer.separation = command.value.whole()
+
+
 def page_length(performer, command):
     performer.said["&lP"] = command.value.whole() * performer.vmi
 
@@ -796,7 +805,7 @@ PERFORM = {
     b"&lL": taking({0, 1}, lambda p, whole: setattr(p, "skips", whole == 1)),
     b"&lO": taking({0}, nothing), b"&aP": taking({0}, nothing),
     b"&lU": offset("left"), b"&lZ": offset("top"),
-    b"&lH": paper_source, b"&aG": side_of_sheet, b"&lP": page_length,
+    b"&lH": paper_source, b"&aG": side_of_sheet, b"&lP": page_length, b"&lT": separation,
     **{name: asking for name in DRIVERS_ASKS | {b"&lS", b"&lG", b"&lM"}},
     b"&uD": taking(UNITS_OF_MEASURE, lambda p, whole: setattr(p, "pcl_unit", 7200 // whole)),
     b"&kH": from_zero(lambda p, value: setattr(p, "hmi", value.times(60))),
@@ -851,8 +860,8 @@ def asks_the_same(first, second, dpi):
         one, other = (performed(job, dpi, Profile.DRIVERS) for job in (first, second))
     except Refused:
         return None
-    return (not one.counts_whole and not other.counts_whole and one.exits == other.exits and one.pages == other.pages
-            and [page.asked for page in one.pages] == [page.asked for page in other.pages])
+    return (not one.counts_whole and not other.counts_whole and one.exits == other.exits and one.separation == other.separation
+            and one.pages == other.pages and [page.asked for page in one.pages] == [page.asked for page in other.pages])
 
 
 # Tables
