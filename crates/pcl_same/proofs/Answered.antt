@@ -105,7 +105,8 @@ compared_so dpi pages kept others found (Some (difference.Page number by)) k f i
     (cc (kept_count dpi pages kept k, found_count dpi kept others found f), rw first.counted differ)
 
 -- a job beside one that is kept
-pub beside_kept : {profile : Profile} → OnePages profile → {dpi : Dpi} {first second : List ℕ} {kept : KeptJob} {others : List Sheet} {other_asks : Asks}
+pub beside_kept : {profile : Profile} → OnePages profile
+    → {dpi : Dpi} {first second : List ℕ} {kept : KeptJob} {others : List Sheet} {other_asks : Asks}
     → (k : IsKept profile dpi first kept) → HasPagesBy profile dpi second others → HasAsksBy profile dpi second other_asks
     → (difference : Option PagesDifference) (found : List (Option Difference)) → FindAll dpi kept.pages.items others found
     → IsConcluded (length kept.pages.items) found difference → (result : AskedComparison) → of_pages result ≡ comparison_of difference

@@ -39,8 +39,10 @@ AreReadBy Stated dpi first second = IsAccepted Stated dpi first × IsAccepted St
 AreReadBy Drivers dpi first second = IsRefused Stated dpi first ⊎ IsRefused Stated dpi second
 
 -- what is answered by a profile, of the one by which two jobs are read
-abbrev pub IsAnsweredByOne : {C : Type 0} → (Profile → Result C SameFault → Type 0) → Dpi → (first second : List ℕ) → Result C SameFault → Type 0
-IsAnsweredByOne IsBy dpi first second (Ok comparison) = (profile : Profile) × AreReadBy profile dpi first second × IsBy profile (Ok comparison)
+abbrev pub IsAnsweredByOne : {C : Type 0} → (Profile → Result C SameFault → Type 0) → Dpi → (first second : List ℕ) → Result C SameFault
+    → Type 0
+IsAnsweredByOne IsBy dpi first second (Ok comparison) =
+    (profile : Profile) × AreReadBy profile dpi first second × IsBy profile (Ok comparison)
 IsAnsweredByOne IsBy dpi first second (Err (Refused which refusal)) =
     AreReadBy Drivers dpi first second × IsBy Drivers (Err (Refused which refusal))
 IsAnsweredByOne IsBy dpi first second (Err Memory) = Unit {0}
@@ -103,7 +105,8 @@ IsComparedAskedBy profile dpi first second (Ok comparison) = IsAskedComparisonBy
 IsComparedAskedBy profile dpi first second (Err fault) = IsComparedBy profile dpi first second (Err fault)
 
 abbrev pub IsComparedAsked : Dpi → List ℕ → List ℕ → Result AskedComparison SameFault → Type 0
-IsComparedAsked dpi first second answer = IsAnsweredByOne (λ profile it. IsComparedAskedBy profile dpi first second it) dpi first second answer
+IsComparedAsked dpi first second answer =
+    IsAnsweredByOne (λ profile it. IsComparedAskedBy profile dpi first second it) dpi first second answer
 
 abbrev pub IsAskedComparison : Dpi → List ℕ → List ℕ → AskedComparison → Type 0
 IsAskedComparison dpi first second comparison = IsComparedAsked dpi first second (Ok comparison)

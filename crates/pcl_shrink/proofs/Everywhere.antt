@@ -8,11 +8,13 @@ use Rattle.pcl_shrink.proofs.Written.{accepted_for}
 
 -- a job that is accepted isn't refused
 abbrev pub Apart : Profile → Type 0
-Apart profile = (dpi : Dpi) (job : List ℕ) (pages : List Sheet) (refusal : Refusal) → HasPagesBy profile dpi job pages → IsRefusalBy profile dpi job refusal → ⊥
+Apart profile =
+    (dpi : Dpi) (job : List ℕ) (pages : List Sheet) (refusal : Refusal) → HasPagesBy profile dpi job pages → IsRefusalBy profile dpi job refusal → ⊥
 
 -- ---- keeping
 
-pub refused_also : {profile : Profile} → Apart profile → (dpi : Dpi) {other : Dpi} (also : Option Dpi) (job : List ℕ) (fault : JobFault) → also ≡ Some other
+pub refused_also : {profile : Profile} → Apart profile → (dpi : Dpi) {other : Dpi} (also : Option Dpi) (job : List ℕ) (fault : JobFault)
+    → also ≡ Some other
     → IsAcceptedAlso profile also job → KeepsJob profile other job (Err fault) → KeepsJobs profile dpi also job (Err fault)
 refused_also {profile} apart dpi {other} also job (Refused refusal) is accepted k =
     let there : IsAccepted profile other job = rw is at accepted in absurd (apart other job there.0 refusal there.1 k)
@@ -20,19 +22,23 @@ refused_also apart dpi also job Memory is accepted k = tt
 
 -- ---- comparing
 
-pub kept_there : {profile : Profile} {other : Dpi} {k : KeptJob} (also : Option Dpi) (job : List ℕ) (kept : Option KeptJob) → also ≡ Some other → kept ≡ Some k
+pub kept_there : {profile : Profile} {other : Dpi} {k : KeptJob} (also : Option Dpi) (job : List ℕ) (kept : Option KeptJob)
+    → also ≡ Some other → kept ≡ Some k
     → IsKeptAlso profile also job kept → IsKept profile other job k
 kept_there also job kept counts is there = rw is at (rw counts at there)
 
-pub kept_alone : (profile : Profile) (also : Option Dpi) (job candidate : List ℕ) (kept : Option KeptJob) → kept ≡ None → IsKeptAlso profile also job kept
+pub kept_alone : (profile : Profile) (also : Option Dpi) (job candidate : List ℕ) (kept : Option KeptJob) → kept ≡ None
+    → IsKeptAlso profile also job kept
     → IsSameAlso profile also job candidate
 kept_alone profile None job candidate kept none k = tt
 kept_alone profile (Some dpi) job candidate kept none k = absurd (rw none at k)
 
 pub found_also : (profile : Profile) {E : Type 0} (dpi : Dpi) {other : Dpi} (also : Option Dpi) (job candidate : List ℕ) (first : Bool) (result : Result Bool E)
-    → first ≡ true → also ≡ Some other → SaysIfSame profile dpi job candidate first → IfOk result (λ same. SaysIfSame profile other job candidate same)
+    → first ≡ true → also ≡ Some other → SaysIfSame profile dpi job candidate first
+    → IfOk result (λ same. SaysIfSame profile other job candidate same)
     → IfOk result (λ same. SaysIfSameAt profile dpi also job candidate same)
-found_also profile dpi also job candidate first (Ok same) is counts look again = answered_also profile dpi also job candidate first same is counts look again
+found_also profile dpi also job candidate first (Ok same) is counts look again =
+    answered_also profile dpi also job candidate first same is counts look again
 found_also profile dpi also job candidate first (Err fault) is counts look again = tt
 
 -- ---- shrinking

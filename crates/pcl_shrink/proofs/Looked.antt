@@ -17,13 +17,16 @@ unlike one {dpi} {job} {candidate} found other is same =
     let equal = one dpi job candidate (Ok found) (Ok Same) is same (λ e. cc) (λ e. cc) in other cc
 
 -- an answer, by whether it is that they are the same
-pub answered : {profile : Profile} → OneAnswer profile → {dpi : Dpi} {job candidate : List ℕ} (found : AskedComparison) (same : Bool) → Decides same (found ≡ Same)
+pub answered : {profile : Profile} → OneAnswer profile → {dpi : Dpi} {job candidate : List ℕ} (found : AskedComparison) (same : Bool)
+    → Decides same (found ≡ Same)
     → IsAskedComparisonBy profile dpi job candidate found → SaysIfSame profile dpi job candidate same
-answered {profile} one {dpi} {job} {candidate} found true decides is = subst (IsAskedComparisonBy profile dpi job candidate) (decides.0 refl) is
+answered {profile} one {dpi} {job} {candidate} found true decides is =
+    subst (IsAskedComparisonBy profile dpi job candidate) (decides.0 refl) is
 answered one found false decides is = unlike one found (λ e. false≢true (decides.1 e)) is
 
 -- the candidate is refused
-pub refused : {profile : Profile} → OneAnswer profile → (dpi : Dpi) (job candidate : List ℕ) {fault : JobFault} {refusal : Refusal} → fault ≡ faults.Refused refusal
+pub refused : {profile : Profile} → OneAnswer profile → (dpi : Dpi) (job candidate : List ℕ) {fault : JobFault} {refusal : Refusal}
+    → fault ≡ faults.Refused refusal
     → IsComparedBeside profile dpi job candidate (Err fault) → IsAskedComparisonBy profile dpi job candidate Same → ⊥
 refused {profile} one dpi job candidate {fault} {refusal} is beside same =
     let why : IsRefusalBy profile dpi candidate refusal = rw is at beside in
@@ -37,7 +40,8 @@ pub unlike_first : (profile : Profile) (dpi : Dpi) (also : Option Dpi) (job cand
 unlike_first profile dpi also job candidate same is look = λ both. (rw is at look) both.0
 
 -- it is at the first, and the other has its answer
-pub answered_also : (profile : Profile) (dpi : Dpi) {other : Dpi} (also : Option Dpi) (job candidate : List ℕ) (first same : Bool) → first ≡ true
+pub answered_also : (profile : Profile) (dpi : Dpi) {other : Dpi} (also : Option Dpi) (job candidate : List ℕ) (first same : Bool)
+    → first ≡ true
     → also ≡ Some other → SaysIfSame profile dpi job candidate first → SaysIfSame profile other job candidate same
     → SaysIfSameAt profile dpi also job candidate same
 answered_also profile dpi also job candidate first true is there look again = (rw is at look, rw there again)
@@ -45,10 +49,12 @@ answered_also profile dpi also job candidate first false is there look again = �
 
 -- ---- what follows of an answer, on bytes that were lent
 
-pub says_same : (profile : Profile) (dpi : Dpi) (also : Option Dpi) (job : List ℕ) {lent bytes : List ℕ} (same : Bool) → same ≡ true → lent ≡ bytes
+pub says_same : (profile : Profile) (dpi : Dpi) (also : Option Dpi) (job : List ℕ) {lent bytes : List ℕ} (same : Bool) → same ≡ true
+    → lent ≡ bytes
     → SaysIfSameAt profile dpi also job lent same → IsSameAt profile dpi also job bytes
 says_same profile dpi also job same is there look = rw there at (rw is at look)
 
-pub says_unlike : (profile : Profile) (dpi : Dpi) (also : Option Dpi) (job : List ℕ) {lent bytes : List ℕ} (same : Bool) → same ≡ false → lent ≡ bytes
+pub says_unlike : (profile : Profile) (dpi : Dpi) (also : Option Dpi) (job : List ℕ) {lent bytes : List ℕ} (same : Bool) → same ≡ false
+    → lent ≡ bytes
     → SaysIfSameAt profile dpi also job lent same → IsSameAt profile dpi also job bytes → ⊥
 says_unlike profile dpi also job same is there look = rw there at (rw is at look)

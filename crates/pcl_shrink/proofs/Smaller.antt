@@ -4,14 +4,17 @@ use Rattle.pcl_shrink.proofs.Names.{Profile, Dpi, Asks, asks_of, Sheet, HasPages
 
 -- a job has one list of pages, and asks for one thing
 abbrev pub OnePages : Profile → Type 0
-OnePages profile = (dpi : Dpi) (job : List ℕ) (pages others : List Sheet) → HasPagesBy profile dpi job pages → HasPagesBy profile dpi job others → pages ≡ others
+OnePages profile =
+    (dpi : Dpi) (job : List ℕ) (pages others : List Sheet) → HasPagesBy profile dpi job pages → HasPagesBy profile dpi job others → pages ≡ others
 
 abbrev pub OneAsks : Profile → Type 0
-OneAsks profile = (dpi : Dpi) (job : List ℕ) (asks others : Asks) → HasAsksBy profile dpi job asks → HasAsksBy profile dpi job others → asks ≡ others
+OneAsks profile =
+    (dpi : Dpi) (job : List ℕ) (asks others : Asks) → HasAsksBy profile dpi job asks → HasAsksBy profile dpi job others → asks ≡ others
 
 -- a least raster job asks for what its page texts say
 abbrev pub SayTheSame : Profile → Type 0
-SayTheSame profile = (dpi : Dpi) (job output : List ℕ) → (w : IsJobOfBy profile dpi job output) → HasAsksBy profile dpi output (said_for w.pages)
+SayTheSame profile =
+    (dpi : Dpi) (job output : List ℕ) → (w : IsJobOfBy profile dpi job output) → HasAsksBy profile dpi output (said_for w.pages)
 
 -- pages are like themselves
 same_pages : (dpi : Dpi) (pages : List Sheet) → AllAlike dpi pages pages
@@ -19,7 +22,8 @@ same_pages dpi [] = tt
 same_pages dpi (sheet ∷ sheets) = (record { size = refl; copies = refl; dots = λ x y across down. refl }, same_pages dpi sheets)
 
 -- an accepted job is the same as itself
-same_as_itself : {profile : Profile} {dpi : Dpi} {job : List ℕ} {pages : List Sheet} {asks : Asks} → HasPagesBy profile dpi job pages → HasAsksBy profile dpi job asks
+same_as_itself : {profile : Profile} {dpi : Dpi} {job : List ℕ} {pages : List Sheet} {asks : Asks} → HasPagesBy profile dpi job pages
+    → HasAsksBy profile dpi job asks
     → IsAskedComparisonBy profile dpi job job Same
 same_as_itself {profile} {dpi} {job} {pages} {asks} meaning asked = record {
   pages = pages;
@@ -39,7 +43,8 @@ accepted_asks : {profile : Profile} {dpi : Dpi} {job : List ℕ} {pages : List S
     → HasAsksBy profile dpi job (of_job job (asks_among (performance_of profile dpi job h.commands)))
 accepted_asks h = record { commands = h.commands; reading = h.reading; accepted = h.accepted; asked = refl }
 
-kept_also : (profile : Profile) (also : Option Dpi) (job : List ℕ) (kept : Option KeptJob) → IsKeptAlso profile also job kept → IsSameAlso profile also job job
+kept_also : (profile : Profile) (also : Option Dpi) (job : List ℕ) (kept : Option KeptJob) → IsKeptAlso profile also job kept
+    → IsSameAlso profile also job job
 kept_also profile None job None k = tt
 kept_also profile (Some dpi) job (Some kept) k = same_as_itself k.meaning k.asked
 kept_also profile also job kept k = absurd (grind arith)
@@ -49,7 +54,8 @@ accepted_also profile None job k = tt
 accepted_also profile (Some dpi) job k = same_as_itself k.1 (accepted_asks k.1)
 
 -- the job itself
-pub input_best : {profile : Profile} {dpi : Dpi} {also : Option Dpi} {job : List ℕ} (kept : KeptJobs) → AreKept profile dpi also job kept → IsBest profile dpi also job job
+pub input_best : {profile : Profile} {dpi : Dpi} {also : Option Dpi} {job : List ℕ} (kept : KeptJobs) → AreKept profile dpi also job kept
+    → IsBest profile dpi also job job
 input_best {profile} {dpi} {also} {job} kept k = record {
   pages = k.0.pages;
   meaning = k.0.meaning;
@@ -61,7 +67,8 @@ input_best {profile} {dpi} {also} {job} kept k = record {
   within_input = omega arith;
 }
 
-pub limit_best : {profile : Profile} {dpi : Dpi} {also : Option Dpi} {job : List ℕ} {limit : ℕ} → IsAcceptedAlso profile also job → IsLimit profile dpi job limit
+pub limit_best : {profile : Profile} {dpi : Dpi} {also : Option Dpi} {job : List ℕ} {limit : ℕ} → IsAcceptedAlso profile also job
+    → IsLimit profile dpi job limit
     → IsBest profile dpi also job job
 limit_best {profile} {dpi} {also} {job} accepted k = record {
   pages = k.pages;
@@ -75,7 +82,8 @@ limit_best {profile} {dpi} {also} {job} accepted k = record {
 }
 
 -- a least raster job is the same as a job that asks for no more
-pub same_as_raster : {profile : Profile} → SayTheSame profile → {dpi : Dpi} {job raster : List ℕ} (w : IsJobOfBy profile dpi job raster) (asks : Asks) → HasAsksBy profile dpi job asks
+pub same_as_raster : {profile : Profile} → SayTheSame profile
+    → {dpi : Dpi} {job raster : List ℕ} (w : IsJobOfBy profile dpi job raster) (asks : Asks) → HasAsksBy profile dpi job asks
     → asks ≡ said_for w.pages → IsAskedComparisonBy profile dpi job raster Same
 same_as_raster {profile} say_the_same {dpi} {job} {raster} w asks asked nothing = record {
   pages = w.pages;
@@ -91,7 +99,8 @@ same_as_raster {profile} say_the_same {dpi} {job} {raster} w asks asked nothing 
 }
 
 -- a proposal that was compared
-pub proposal_smaller : {profile : Profile} → OnePages profile → OneAsks profile → {dpi : Dpi} {also : Option Dpi} {job best proposal : List ℕ} → IsBest profile dpi also job best
+pub proposal_smaller : {profile : Profile} → OnePages profile → OneAsks profile
+    → {dpi : Dpi} {also : Option Dpi} {job best proposal : List ℕ} → IsBest profile dpi also job best
     → IsSameAt profile dpi also job proposal → length proposal < length best → IsBest profile dpi also job proposal
 proposal_smaller {profile} one one_asks {dpi} {also} {job} {best} {proposal} s (looked, same_also) short = record {
   pages = s.pages;
@@ -108,13 +117,17 @@ proposal_smaller {profile} one one_asks {dpi} {also} {job} {best} {proposal} s (
   within_input = omega (arith, s.within_input, short);
 }
 
-pub prints_itself : {profile : Profile} {dpi : Dpi} {job : List ℕ} {pages : List Sheet} → HasPagesBy profile dpi job pages → PrintsAlike profile dpi pages job
+pub prints_itself : {profile : Profile} {dpi : Dpi} {job : List ℕ} {pages : List Sheet} → HasPagesBy profile dpi job pages
+    → PrintsAlike profile dpi pages job
 prints_itself {profile} {dpi} {job} {pages} meaning = record { again = pages; accepted = meaning; alike = same_pages dpi pages }
 
-pub prints_pages : {profile : Profile} → OnePages profile → (dpi : Dpi) (job output : List ℕ) (pages : List Sheet) → IsSmallerJob profile dpi job output → HasPagesBy profile dpi job pages
+pub prints_pages : {profile : Profile} → OnePages profile → (dpi : Dpi) (job output : List ℕ) (pages : List Sheet)
+    → IsSmallerJob profile dpi job output → HasPagesBy profile dpi job pages
     → PrintsAlike profile dpi pages output
 prints_pages one dpi job output pages s meaning = rw (one dpi job s.pages pages s.meaning meaning) at s.prints
 
-pub asks_again : {profile : Profile} → OneAsks profile → (dpi : Dpi) (job output : List ℕ) (asks : Asks) → IsSmallerJob profile dpi job output → HasAsksBy profile dpi job asks
+pub asks_again : {profile : Profile} → OneAsks profile → (dpi : Dpi) (job output : List ℕ) (asks : Asks)
+    → IsSmallerJob profile dpi job output → HasAsksBy profile dpi job asks
     → HasAsksBy profile dpi output asks
-asks_again {profile} one dpi job output asks s asked = subst (HasAsksBy profile dpi output) (one dpi job s.asks asks s.asked asked) s.asked_again
+asks_again {profile} one dpi job output asks s asked =
+    subst (HasAsksBy profile dpi output) (one dpi job s.asks asks s.asked asked) s.asked_again

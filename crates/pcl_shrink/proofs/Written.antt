@@ -52,13 +52,15 @@ module _ (profile : Profile) (dpi : Dpi) (job : List ℕ) (shrunk : Shrunk) wher
 
   -- ---- what is promised of it
 
-  pub prints_for : OnePages profile → (pages : List Sheet) (readers : Readers) (doubt : Option Doubt) → IsShrunkFor readers doubt profile dpi None job shrunk
+  pub prints_for : OnePages profile → (pages : List Sheet) (readers : Readers) (doubt : Option Doubt)
+      → IsShrunkFor readers doubt profile dpi None job shrunk
       → HasPagesBy profile dpi job pages → PrintsAlike profile dpi pages shrunk.job.items
   prints_for one pages reader.Printers (Some doubt) s meaning = subst (PrintsAlike profile dpi pages) (sym s.same) (prints_itself meaning)
   prints_for one pages reader.Printers None s meaning = prints_pages one dpi job shrunk.job.items pages s.smaller meaning
   prints_for one pages reader.Profile doubt s meaning = prints_pages one dpi job shrunk.job.items pages s.smaller meaning
 
-  pub asks_for : OneAsks profile → (asks : Asks) (readers : Readers) (doubt : Option Doubt) → IsShrunkFor readers doubt profile dpi None job shrunk
+  pub asks_for : OneAsks profile → (asks : Asks) (readers : Readers) (doubt : Option Doubt)
+      → IsShrunkFor readers doubt profile dpi None job shrunk
       → HasAsksBy profile dpi job asks → HasAsksBy profile dpi shrunk.job.items asks
   asks_for one asks reader.Printers (Some doubt) s asked = subst (λ (it : List ℕ). HasAsksBy profile dpi it asks) (sym s.same) asked
   asks_for one asks reader.Printers None s asked = asks_again one dpi job shrunk.job.items asks s.smaller asked

@@ -108,7 +108,8 @@ CountsAt profile job Dpi600 None = IsRefused profile Dpi300 job × IsAccepted pr
 CountsAt profile job dpi also = ⊥
 
 abbrev pub IsSmallerEverywhere : Profile → List ℕ → List ℕ → Type 0
-IsSmallerEverywhere profile job output = (dpi : Dpi) × (also : Option Dpi) × CountsAt profile job dpi also × IsSmallerJobAt profile dpi also job output
+IsSmallerEverywhere profile job output =
+    (dpi : Dpi) × (also : Option Dpi) × CountsAt profile job dpi also × IsSmallerJobAt profile dpi also job output
 
 -- at each of them a job is read by the stated profile where that accepts it at one, else by the drivers'
 abbrev pub IsReadEverywhere : Profile → List ℕ → Type 0
@@ -121,7 +122,8 @@ IsWrittenEverywhereBy reader.Printers profile job output =
 IsWrittenEverywhereBy reader.Profile profile job output = IsSmallerEverywhere profile job output
 
 abbrev pub IsWrittenEverywhere : Readers → List ℕ → List ℕ → Type 0
-IsWrittenEverywhere readers job output = (profile : Profile) × IsReadEverywhere profile job × IsWrittenEverywhereBy readers profile job output
+IsWrittenEverywhere readers job output =
+    (profile : Profile) × IsReadEverywhere profile job × IsWrittenEverywhereBy readers profile job output
 
 -- it is refused at both, at 300 dots per inch so
 abbrev pub IsRefusedEverywhereBy : Profile → List ℕ → Refusal → Type 0

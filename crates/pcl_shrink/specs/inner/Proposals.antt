@@ -42,6 +42,7 @@ IsBestWithin profile dpi also job (Err Memory) = Unit {0}
 
 -- a job that was the best so far becomes one that is no longer than least page texts with what is asked for around them
 abbrev pub IsWithin : Profile → Dpi → Option Dpi → List ℕ → Option Proposal → Result (Option Proposal) JobFault → Type 0
-IsWithin profile dpi also job best (Ok last) = IsBest profile dpi also job (best_bytes job best) → IsSmallerJobAt profile dpi also job (best_bytes job last)
+IsWithin profile dpi also job best (Ok last) =
+    IsBest profile dpi also job (best_bytes job best) → IsSmallerJobAt profile dpi also job (best_bytes job last)
 IsWithin profile dpi also job best (Err (Refused refusal)) = IsRefusalBy profile dpi job refusal
 IsWithin profile dpi also job best (Err Memory) = Unit {0}
