@@ -4,6 +4,7 @@ use case_tables::ESC;
 use pcl_base::{Dpi, Profile, Size};
 use pcl_page::{Page, PageSink, perform_by};
 use std::alloc::{AllocError, Global};
+use std::marker::Model;
 
 /// How many rows of a page are shown.
 const MOST_ROWS: usize = 20;
@@ -24,17 +25,27 @@ pub(crate) fn name_of(size: Size) -> &'static str {
     }
 }
 
-/// Shows the pages that come.
+/// The pages that came.
 #[derive(Drop)]
 struct Shown {
-    text: String,
+    pages: Vec<Page>,
+}
+
+impl Model for Shown {
+    ghost use Rattle.std.specs.Prelude.{List};
+    ghost use Rattle.pcl_bitmap.specs.declared.page.Page.{Page};
+
+    ghost Value = { List Page };
+
+    ghost view = { λ a. a.pages.items };
 }
 
 impl PageSink for Shown {
     ghost takes = { λ old page new. Unit {0} };
 
     fn page(&mut self, page: &Page) -> Result<(), AllocError> {
-        show_page(&mut self.text, page)
+        self.pages.push(page.try_clone()?)?;
+        Ok(())
     }
 }
 
@@ -45,14 +56,20 @@ pub(crate) fn show_pages(
     profile: Profile,
     dpi: Dpi,
 ) -> Result<String, AllocError> {
+    let mut text = String::new(alloc);
     let mut shown = Shown {
-        text: String::new(alloc),
+        pages: Vec::new(alloc),
     };
     match perform_by(alloc, job, profile, dpi, &mut shown) {
-        Ok(()) if shown.text.is_empty() => String::from_str(alloc, "  no page"),
-        Ok(()) => Ok(shown.text),
-        Err(_) => String::from_str(alloc, "  a refusal"),
+        Ok(()) if shown.pages.is_empty() => text.push_str("  no page")?,
+        Ok(()) => {
+            for page in shown.pages.iter() {
+                show_page(&mut text, page)?;
+            }
+        }
+        Err(_) => text.push_str("  a refusal")?,
     }
+    Ok(text)
 }
 
 fn show_page(text: &mut String, page: &Page) -> Result<(), AllocError> {
