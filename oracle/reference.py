@@ -305,7 +305,7 @@ class Performer:
         # The universal exits: how many pages were ejected before each, and its lines. Whether the job changes what stays in the printer,
         # counts on it, or asks for something on a marked page.
         self.exits, self.counts_whole = [], False
-        # How the job is separated from the next, where that is said.
+        # The job separation that was said: once, after the last page.
         self.separation = None
         self.begin()
 
@@ -346,9 +346,9 @@ class Performer:
     def eject(self, command):
         if len(self.pages) == MOST_PAGES:
             raise Refused("TooManyPages", command.at, command.name)
+        self.counts_whole |= self.separation is not None
         asked = dict(self.said, side=self.sheet_side, begins_sheet=self.begins_sheet)
         self.pages.append(Page(self.size, self.copies, self.rows, asked))
-        self.counts_whole |= self.separation is not None
         self.rows, self.marked, self.sheet_side, self.begins_sheet = {}, False, None, False
         self.to_first_line()
 
@@ -603,8 +603,8 @@ def asking(performer, command):
     performer.said[command.name.decode()] = command.value.whole()
 
 
-def separation(performer, command):
-    """Separates jobs: once, after a page and before a reset, or all bytes of the job count."""
+def job_separation(performer, command):
+    """Separates the job from the next one, where a page stands between it and a reset before it, and none behind it."""
     performer.counts_whole |= performer.marked or performer.begins_sheet or performer.separation is not None
     performer.separation = command.value.whole()
 
@@ -805,8 +805,8 @@ PERFORM = {
     b"&lL": taking({0, 1}, lambda p, whole: setattr(p, "skips", whole == 1)),
     b"&lO": taking({0}, nothing), b"&aP": taking({0}, nothing),
     b"&lU": offset("left"), b"&lZ": offset("top"),
-    b"&lH": paper_source, b"&aG": side_of_sheet, b"&lP": page_length, b"&lT": separation,
-    **{name: asking for name in DRIVERS_ASKS | {b"&lS", b"&lG", b"&lM"}},
+    b"&lH": paper_source, b"&aG": side_of_sheet, b"&lP": page_length,
+    **{name: asking for name in DRIVERS_ASKS | {b"&lS", b"&lG", b"&lM"}}, b"&lT": job_separation,
     b"&uD": taking(UNITS_OF_MEASURE, lambda p, whole: setattr(p, "pcl_unit", 7200 // whole)),
     b"&kH": from_zero(lambda p, value: setattr(p, "hmi", value.times(60))),
     b"&kG": setting("termination", range(4)),
@@ -854,14 +854,15 @@ def pages_of(job, dpi, profile=Profile.STATED):
 
 def asks_the_same(first, second, dpi):
     """Whether two jobs have the same pages by the drivers' profile and ask the printer for the same; none where either is refused."""
-    if first == second:
-        return True
     try:
         one, other = (performed(job, dpi, Profile.DRIVERS) for job in (first, second))
     except Refused:
         return None
-    return (not one.counts_whole and not other.counts_whole and one.exits == other.exits and one.separation == other.separation
-            and one.pages == other.pages and [page.asked for page in one.pages] == [page.asked for page in other.pages])
+    if first == second:
+        return True
+    return (not one.counts_whole and not other.counts_whole
+            and (one.exits, one.separation, one.pages) == (other.exits, other.separation, other.pages)
+            and [page.asked for page in one.pages] == [page.asked for page in other.pages])
 
 
 # Tables
