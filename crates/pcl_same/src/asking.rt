@@ -67,10 +67,18 @@ fn setting_difference(one: &AskedPage, other: &AskedPage) -> Option<SettingDiffe
         .or(differing(Setting::LeftOffset, said.left_offset, others.left_offset))
         .or(differing(Setting::TopOffset, said.top_offset, others.top_offset))
         .or(differing(Setting::TextScale, said.text_scale, others.text_scale))
-        .or(differing(Setting::PrintQuality, said.print_quality, others.print_quality))
+        .or(differing(
+            Setting::PrintQuality,
+            said.print_quality,
+            others.print_quality,
+        ))
         .or(differing(Setting::Shingling, said.shingling, others.shingling))
         .or(differing(Setting::Depletion, said.depletion, others.depletion))
-        .or(differing(Setting::RasterQuality, said.raster_quality, others.raster_quality))
+        .or(differing(
+            Setting::RasterQuality,
+            said.raster_quality,
+            others.raster_quality,
+        ))
         .or(differing(
             Setting::SheetSide,
             one.start.sheet_side,

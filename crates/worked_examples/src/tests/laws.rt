@@ -73,7 +73,9 @@ fn assert_runs(
 #[test]
 fn runs_commands(rt: HostRuntime) -> Result<(), Fail> {
     let job = b"\x0c\x1b*t300R\x1b*b0W";
-    let commands = read_job(rt.alloc(), Profile::Stated, job).ok().ok_or("the job is right")?;
+    let commands = read_job(rt.alloc(), Profile::Stated, job)
+        .ok()
+        .ok_or("the job is right")?;
     assert_runs(&rt, rt.alloc(), &commands, job.len(), &(Ok(()), 2));
     let refused = (Err(JobFault::Refused(REFUSAL)), 1);
     assert_runs(&rt, rt.alloc(), &COMMANDS, 9, &refused);
