@@ -25,7 +25,8 @@ module _ (command : Said) (s : Situation) where
   drawn_same dpi Reset = refl
   drawn_same dpi other = refl
 
-  refusal_same : (dpi : Dpi) (operation : Operation) → draw_refusal dpi operation command s ≡ draw_refusal dpi operation (nameless command) s
+  refusal_same : (dpi : Dpi) (operation : Operation)
+      → draw_refusal dpi operation command s ≡ draw_refusal dpi operation (nameless command) s
   refusal_same dpi ControlFonts = refl
   refusal_same dpi other = refl
 
