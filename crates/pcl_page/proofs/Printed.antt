@@ -21,13 +21,15 @@ row_in {dpi} {s} command i m =
 -- ---- one code
 
 -- a character is drawn at the cursor
-cursor_drawn : {dpi : Dpi} {here : Printed} (font : FontInfo) (old : Performer) {begun new : Performer} (c : Character) → IsAtCursor dpi here old.environment
+cursor_drawn : {dpi : Dpi} {here : Printed} (font : FontInfo) (old : Performer) {begun new : Performer} (c : Character)
+    → IsAtCursor dpi here old.environment
     → IsDrawn (character_at dpi font c here.x here.y) begun new → IsDrawn (character_mark dpi font c old.environment) begun new
 cursor_drawn font old c at d = rw (at.x, at.y) at d
 
 pub character_printed : {dpi : Dpi} {here : Printed} {s : Situation} {old begun middle new : Performer} (font : FontInfo)
     (c : Character) (code : ℕ) → IsIn dpi s old → IsAtCursor dpi here old.environment → IsFollowed old.environment.size old begun
-    → IsDrawn (character_at dpi font c here.x here.y) begun middle → middle.raster ≡ begun.raster → HasSettings (behind_character font c middle.environment) middle new
+    → IsDrawn (character_at dpi font c here.x here.y) begun middle → middle.raster ≡ begun.raster
+    → HasSettings (behind_character font c middle.environment) middle new
     → IsIn dpi (code_printed dpi font (Some c) code s) new
 character_printed {old = old} {middle = middle} {new} font c code i at f d r h =
     let inked = rw i.settings at (drawn_in i f (cursor_drawn font old c at d) (r ∙ f.raster ∙ i.raster)) in
@@ -59,7 +61,8 @@ pub inked_still : {mark : Mark} {settings : Settings} {old new : Performer} → 
     → IsInked mark new
 inked_still i h = search (rules, h.bitmap)
 
-pub last_still : (dpi : Dpi) (font : FontInfo) (characters : ℕ → Option Character) (last : Option Printed) {settings : Settings} {old new : Performer}
+pub last_still : (dpi : Dpi) (font : FontInfo) (characters : ℕ → Option Character) (last : Option Printed)
+    {settings : Settings} {old new : Performer}
     → IsLastInked dpi font characters last old → HasSettings settings old new → IsLastInked dpi font characters last new
 last_still dpi font characters None i h = i
 last_still dpi font characters (Some last) i h = λ c is. inked_still (i c is) h

@@ -112,7 +112,8 @@ module _ {S : Type 0} (takes : S → Page → S → Type 0) (dpi : Dpi) (operati
   -- what is drawn of the command after the turn
   abbrev DrawsOn : Performer → Result (Unit {0}) CallFault → Performer → Type 0
   DrawsOn middle result new =
-      (now : Situation) → IsIn dpi now middle → Draws dpi (draw_refusal dpi operation command now) (drawn dpi operation command now) result new
+      (now : Situation) → IsIn dpi now middle
+      → Draws dpi (draw_refusal dpi operation command now) (drawn dpi operation command now) result new
 
   -- a command that isn't ignored
   module _ {old : Performer} (i : IsIn dpi s old) (few : old.performed < 100000000) (named : operation_of command.name ≡ Some operation)

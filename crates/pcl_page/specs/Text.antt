@@ -80,7 +80,7 @@ abbrev pub prints : List FontEvent → Option ℕ → ℕ → Option Character
 prints events None code = None
 prints events (Some id) code = prints_in events id code (font_after events id)
 
--- how many dots of a page a dot of a font is wide and high: one, where the two aren't of 600 and of 300 dots per inch
+-- how many dots of a page a dot of a font is wide and high: two, where a font of 300 dots per inch is on a page of 600
 abbrev pub dots_per_bit : Dpi → Dpi → ℕ
 dots_per_bit Dpi600 Dpi300 = 2
 dots_per_bit dpi resolution = 1
