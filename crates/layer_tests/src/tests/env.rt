@@ -22,7 +22,7 @@ type Outcome = (Result<Effect, Unsupported>, u32, u32);
 /// what is wanted of it, and the next one begins a new job.
 type Step = (Operation, Sign, u32, Option<Outcome>);
 
-const STEPS: [Step; 133] = [
+const STEPS: [Step; 135] = [
     // The first line and the top margin.
     (NoEffect, Absent, 0, Some((STAY, 0, 4500))),
     (TopMargin, Absent, 0, Some((STAY, 0, 900))),
@@ -295,12 +295,6 @@ fn askings(rt: HostRuntime) {
         say(&mut env, Ask(Asking::PaperSource), 0),
         say(&mut env, Ask(Asking::SheetSide), 1),
         say(&mut env, Ask(Asking::PageLength), 66),
-        say(&mut env, Ask(Asking::JobSeparation), 6),
-        say(&mut env, Ask(Asking::TextScale), 7),
-        say(&mut env, Ask(Asking::PrintQuality), 8),
-        say(&mut env, Ask(Asking::Shingling), 9),
-        say(&mut env, Ask(Asking::Depletion), 10),
-        say(&mut env, Ask(Asking::RasterQuality), 11),
     );
     let wanted = (
         STAY,
@@ -311,14 +305,18 @@ fn askings(rt: HostRuntime) {
         EJECT_MARKED,
         EJECT_MARKED,
         STAY,
-        STAY,
-        STAY,
-        STAY,
-        STAY,
-        STAY,
-        STAY,
     );
     assert_gives(&rt, &"answers", &answers, &wanted);
+    let of_drivers = (
+        say(&mut env, Ask(Asking::JobSeparation), 6),
+        say(&mut env, Ask(Asking::TextScale), 7),
+        say(&mut env, Ask(Asking::PrintQuality), 8),
+        say(&mut env, Ask(Asking::Shingling), 9),
+        say(&mut env, Ask(Asking::Depletion), 10),
+        say(&mut env, Ask(Asking::RasterQuality), 11),
+    );
+    let all_stay = (STAY, STAY, STAY, STAY, STAY, STAY);
+    assert_gives(&rt, &"answers to drivers", &of_drivers, &all_stay);
     let asked = Asked {
         copies: None,
         page_size: None,
