@@ -19,6 +19,7 @@ struct told {
 
 /* The exports. A slice is a pointer, which is never null, and a length; a `Global` is nothing. */
 void pcl_library_preview(const unsigned char *, size_t, uint32_t, uint32_t, uint32_t, struct told *);
+void pcl_library_grey(const unsigned char *, size_t, uint32_t, uint32_t, uint32_t, uint32_t, struct told *);
 void pcl_library_min(const unsigned char *, size_t, uint32_t, uint32_t, struct told *);
 void pcl_library_shrink(const unsigned char *, size_t, uint32_t, struct told *);
 void pcl_library_same(const unsigned char *, size_t, const unsigned char *, size_t, uint32_t, struct told *);
@@ -90,6 +91,14 @@ int pclmin_preview(const unsigned char *job, size_t length, unsigned resolution,
     struct told told = untold;
     if (answer == NULL || !is_memory(job, length)) return refuse_pointer(answer);
     pcl_library_preview(or_nothing(job), length, resolution, first, last, &told);
+    return tell(&told, answer);
+}
+
+int pclmin_grey(const unsigned char *job, size_t length, unsigned resolution, unsigned first, unsigned last, unsigned scale,
+                pclmin_answer *answer) {
+    struct told told = untold;
+    if (answer == NULL || !is_memory(job, length)) return refuse_pointer(answer);
+    pcl_library_grey(or_nothing(job), length, resolution, first, last, scale, &told);
     return tell(&told, answer);
 }
 

@@ -59,6 +59,12 @@ typedef struct pclmin_answer {
 int pclmin_preview(const unsigned char *job, size_t length, unsigned resolution, unsigned first, unsigned last,
                    pclmin_answer *answer);
 
+/* The same pages as PGM images (P5), one after the other: a byte for each square of scale by scale dots, the mean of these, where black
+   is 0 and white 255; what the page's right or lower edge cuts off of a square is white. A page of W by H dots has W / scale by
+   H / scale pixels, both rounded up. A scale is 1 to 32; with another the call ends by PCLMIN_WRONG_ARGUMENT. */
+int pclmin_grey(const unsigned char *job, size_t length, unsigned resolution, unsigned first, unsigned last, unsigned scale,
+                pclmin_answer *answer);
+
 /* The job as a least raster job, with a certificate of format 1 or 2, or with none by 0. */
 int pclmin_min(const unsigned char *job, size_t length, unsigned resolution, unsigned format, pclmin_answer *answer);
 

@@ -87,6 +87,7 @@ _LIBRARY = ctypes.CDLL(os.path.abspath(LIBRARY))
 _FREE = _LIBRARY.pclmin_free
 _FREE.argtypes, _FREE.restype = [ctypes.POINTER(_Answer)], None
 _PREVIEW = _declared("pclmin_preview", 1, 3)
+_GREY = _declared("pclmin_grey", 1, 4)
 _MIN = _declared("pclmin_min", 1, 2)
 _SHRINK = _declared("pclmin_shrink", 1, 1)
 _SAME = _declared("pclmin_same", 2, 1)
@@ -99,6 +100,12 @@ _EXPLAIN = _declared("pclmin_explain", 1, 1)
 def preview(job, resolution=300, first=0, last=0):
     """Pages first to last, counted from 1, as PBM images, one after the other; all pages by 0 and 0."""
     return _asked(_PREVIEW, [job], [resolution, first, last])
+
+
+def grey(job, resolution=300, first=0, last=0, scale=8):
+    """The same pages as PGM images (P5), one after the other: a byte for each square of scale by scale dots, the mean of these, where
+    black is 0 and white 255. With a scale that isn't 1 to 32 the fault is WRONG_ARGUMENT; where a page is missing it is NO_PAGE."""
+    return _asked(_GREY, [job], [resolution, first, last, scale])
 
 
 def minimize(job, resolution=300, certificate_format=0):

@@ -29,7 +29,7 @@ LIMIT, HELD, CONNECTIONS = 64 << 20, 256 << 20, 32
 # What a call has, and how many run at once.
 SECONDS, MEMORY, CALLS = 60, 4 << 30, 4
 # The calls, and how many numbers each takes after the resolution.
-NUMBERS = {"pages": 0, "preview": 2, "shrink": 0, "explain": 0}
+NUMBERS = {"pages": 0, "preview": 2, "grey": 3, "shrink": 0, "explain": 0}
 
 POLICY = "default-src 'none'; script-src 'unsafe-inline'; style-src 'unsafe-inline'; connect-src 'self'; img-src blob: data:"
 
@@ -66,7 +66,7 @@ class Fault(Exception):
 
 
 def call_of(path):
-    """The call that a path names, and its numbers: /preview/RESOLUTION/FIRST/LAST, or /CALL/RESOLUTION."""
+    """The call that a path names, and its numbers: /CALL/RESOLUTION, and where the call takes more /RESOLUTION/FIRST/LAST[/SCALE]."""
     call, *words = path.lstrip("/").split("/")
     if call not in NUMBERS or len(words) != NUMBERS[call] + 1 or not all(word.isdecimal() and len(word) < 6 for word in words):
         raise Fault(404, "there is no such call")

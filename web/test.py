@@ -1,7 +1,8 @@
 #!/usr/bin/env python3
 """The page of this folder beside the program, in Chromium without a window: jobs are opened, the dots on the canvas are those of
-`pclmin pbm`, the greys of a smaller page the means of these dots, the sizes, the copies and what is asked those of `pclmin pages`. One
-job is refused with its place marked among its bytes, what is saved is what `pclmin shrink` writes, and a dropped file is opened too.
+`pclmin pbm`, the greys of a smaller page the means of these dots, the small pictures those of `pclmin pgm`, the sizes, the copies and
+what is asked those of `pclmin pages`. One job is refused with its place marked among its bytes, what is saved is what `pclmin shrink`
+writes, and a dropped file is opened too.
 Keys turn pages, nothing moves when a job is shrunk, and the page is used at the size of a phone. The server is asked for more than it
 takes. Where there is no Chromium the server alone is tested, and a line says so. Prints what doesn't hold and how much does; status 1
 if something doesn't.
@@ -93,7 +94,8 @@ def test_server(held, port, program, jobs):
     for job in jobs:
         with open(os.path.join(program.folder, job), "rb") as file:
             content = file.read()
-        for path, words in (("/pages/0", ["pages", "--json"]), ("/preview/0/1/1", ["pbm", "--page", "1"]), ("/shrink/0", ["shrink"]),
+        for path, words in (("/pages/0", ["pages", "--json"]), ("/preview/0/1/1", ["pbm", "--page", "1"]),
+                            ("/grey/0/1/1/8", ["pgm", "--drivers", "--scale", "8", "--page", "1"]), ("/shrink/0", ["shrink"]),
                             ("/explain/0", ["explain"])):
             status, body = asked(port, path, content)
             head, made = body.split(b"\n", 1)
@@ -102,10 +104,15 @@ def test_server(held, port, program, jobs):
             held.tell(status == 200 and made == written, f"{path} of {job} is what the program writes")
             held.tell(json.loads(head)["line"] == ("" if words[0] == "explain" else said.replace("pclmin: no page\n", "")),
                       f"{path} of {job} says what the program says")
+    for scale in (0, 33):
+        status, body = asked(port, f"/grey/0/1/1/{scale}", JOBS["two.pcl"])
+        head, made = body.split(b"\n", 1)
+        held.tell(status == 200 and json.loads(head)["fault"] == 3 and made == b"", f"a scale of {scale} is wrong: {status} {body[:200]}")
     foreign = {"Host": "example.com"}
     for path, body, headers, wanted in (
             ("/pages/0", b"", foreign, 403), ("/pages/0", b"", {"Origin": "http://example.com"}, 403), ("/remove/0", b"", {}, 404),
-            ("/preview/0/1", b"", {}, 404), ("/pages/x", b"", {}, 404), ("/pages/0", b"", {"Content-Length": str(server.LIMIT + 1)}, 413),
+            ("/preview/0/1", b"", {}, 404), ("/grey/0/1/1", b"", {}, 404), ("/pages/x", b"", {}, 404),
+            ("/pages/0", b"", {"Content-Length": str(server.LIMIT + 1)}, 413),
             ("/pages/0", b"", {"Content-Length": "9" * 5000}, 400), ("/pages/0", b"", {"Content-Length": "-1"}, 400),
             ("/pages/0", None, {"Transfer-Encoding": "chunked"}, 411), ("/pages/0", b"9" * (server.LIMIT + 1), {}, 413)):
         status, body = asked(port, path, body, headers)
@@ -255,9 +262,9 @@ class Browser:
         self.send("Input.dispatchKeyEvent", type="rawKeyDown", key=key)
         self.send("Input.dispatchKeyEvent", type="keyUp", key=key)
 
-    def resize(self, width, height):
-        """Gives the page a size, as on a phone where it is narrow."""
-        self.send("Emulation.setDeviceMetricsOverride", width=width, height=height, deviceScaleFactor=1, mobile=width < 500)
+    def resize(self, width, height, ratio=1):
+        """Gives the page a size, as on a phone where it is narrow, and this many pixels of the screen for one of its own."""
+        self.send("Emulation.setDeviceMetricsOverride", width=width, height=height, deviceScaleFactor=ratio, mobile=width < 500)
 
     def choose(self, path):
         """Gives a file to the page's input."""
@@ -288,6 +295,14 @@ CANVAS = """(() => {
 })()"""
 
 
+# The small pictures as PGM images in P5, and whether each is as wide as its pixels are on the screen.
+SMALL = """Promise.all([...document.querySelectorAll("nav canvas")].map(async canvas => {
+  const pixels = canvas.getContext("2d").getImageData(0, 0, canvas.width, canvas.height).data;
+  const header = new TextEncoder().encode(`P5\\n${canvas.width} ${canvas.height}\\n255\\n`);
+  const image = new Uint8Array([...header, ...pixels.filter((_, at) => at % 4 === 0)]);
+  const digest = [...new Uint8Array(await crypto.subtle.digest("SHA-256", image))].map(byte => byte.toString(16).padStart(2, "0")).join("");
+  return [digest, canvas.getBoundingClientRect().width * devicePixelRatio === canvas.width];
+}))"""
 # Whether each small picture is drawn.
 DRAWN = "[...document.querySelectorAll('nav canvas')].every(canvas => 'drawn' in canvas.dataset)"
 # The width, the height and the greys of the page where it is smaller, and the mean grey of the first small picture.
@@ -372,8 +387,17 @@ def test_pages(held, browser, program, job):
         image, _ = program.run("pbm", "--page", str(number), "--dpi", "auto", job)
         held.tell(browser.value(CANVAS) == hashlib.sha256(image).hexdigest(), f"page {number} of {job} has the program's dots")
     held.tell(browser.wait(DRAWN), f"{job} has small pictures")
+    compare_small(held, browser, program, job, len(pages), 15 if program.resolution(job) == "300" else 30)
     inked = browser.value(INKED)
     held.tell(inked == [page["black_dots"] > 0 for page in pages], f"the small pictures of {job} have ink where its pages have: {inked}")
+
+
+def compare_small(held, browser, program, job, pages, scale):
+    """The small pictures of a job's pages beside the images that the program makes at a scale."""
+    words = ["pgm", "--drivers", "--dpi", "auto", "--scale", str(scale), "--page"]
+    wanted = [[hashlib.sha256(program.run(*words, str(page + 1), job)[0]).hexdigest(), True] for page in range(pages)]
+    small = browser.value(SMALL)
+    held.tell(small == wanted, f"the small pictures of {job} are the program's at {scale}: {small}, {wanted}")
 
 
 def test_saved(held, browser, program, folder, job):
@@ -468,6 +492,11 @@ def test_greys(held, browser, program):
         if abs(greys[y * width + x] - 255 * (1 - black / (across * down))) > 0.51:
             wrong.append((x, y, black, greys[y * width + x]))
     held.tell(not wrong, f"each pixel is the mean of its dots: {wrong[:5]}")
+    for ratio, scale in ((1.5, 10), (2, 8), (1, 15)):
+        browser.resize(1280, 800, ratio)
+        open_job(held, browser, program, "grey.pcl")
+        browser.wait("element('view').dataset.page === '1' && " + DRAWN)
+        compare_small(held, browser, program, "grey.pcl", 1, scale)
 
 
 def test_keys(held, browser, program):

@@ -1,6 +1,7 @@
 /* Makes one call, and writes the whole of its answer; run.py compares what C, Rust and Python get.
 
-   client preview RESOLUTION FIRST LAST JOB      client min RESOLUTION FORMAT JOB     client shrink RESOLUTION JOB
+   client preview RESOLUTION FIRST LAST JOB      client grey RESOLUTION FIRST LAST SCALE JOB
+   client min RESOLUTION FORMAT JOB              client shrink RESOLUTION JOB
    client same RESOLUTION FIRST SECOND           client check RESOLUTION INPUT OUTPUT CERTIFICATE
    client page_count | pages | explain RESOLUTION JOB
 
@@ -42,6 +43,10 @@ static int call(char **words, struct job *jobs, pclmin_answer *answer) {
     if (strcmp(name, "preview") == 0) {
         jobs[0] = read_job(words[4]);
         return pclmin_preview(jobs[0].at, jobs[0].length, resolution, number(words[2]), number(words[3]), answer);
+    }
+    if (strcmp(name, "grey") == 0) {
+        jobs[0] = read_job(words[5]);
+        return pclmin_grey(jobs[0].at, jobs[0].length, resolution, number(words[2]), number(words[3]), number(words[4]), answer);
     }
     if (strcmp(name, "min") == 0) {
         jobs[0] = read_job(words[3]);

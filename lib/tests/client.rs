@@ -24,6 +24,11 @@ type Bytes = *const u8;
 
 extern "C" {
     fn pclmin_preview(job: Bytes, len: usize, dpi: c_uint, first: c_uint, last: c_uint, answer: *mut Answer) -> c_int;
+    /// Pages first to last as PGM images (P5): a byte for each square of scale by scale dots, their mean, where black is 0 and white
+    /// 255. A scale is 1 to 32; with another the call returns 3, PCLMIN_WRONG_ARGUMENT.
+    fn pclmin_grey(
+        job: Bytes, len: usize, dpi: c_uint, first: c_uint, last: c_uint, scale: c_uint, answer: *mut Answer,
+    ) -> c_int;
     fn pclmin_min(job: Bytes, len: usize, dpi: c_uint, format: c_uint, answer: *mut Answer) -> c_int;
     fn pclmin_shrink(job: Bytes, len: usize, dpi: c_uint, answer: *mut Answer) -> c_int;
     fn pclmin_same(a: Bytes, a_len: usize, b: Bytes, b_len: usize, dpi: c_uint, answer: *mut Answer) -> c_int;
@@ -71,6 +76,7 @@ fn main() {
     };
     let jobs: Vec<Option<Vec<u8>>> = match words[0].as_str() {
         "preview" => vec![job(&words[4])],
+        "grey" => vec![job(&words[5])],
         "min" => vec![job(&words[3])],
         _ => words[2..].iter().map(|name| job(name)).collect(),
     };
@@ -79,6 +85,9 @@ fn main() {
     let fault = unsafe {
         match words[0].as_str() {
             "preview" => pclmin_preview(first, first_len, dpi, number(&words[2]), number(&words[3]), &mut answer),
+            "grey" => pclmin_grey(
+                first, first_len, dpi, number(&words[2]), number(&words[3]), number(&words[4]), &mut answer,
+            ),
             "min" => pclmin_min(first, first_len, dpi, number(&words[2]), &mut answer),
             "shrink" => pclmin_shrink(first, first_len, dpi, &mut answer),
             "same" => pclmin_same(first, first_len, at(&jobs[1]), len(&jobs[1]), dpi, &mut answer),

@@ -25,6 +25,7 @@ NAMES = ("fault", "kind", "place", "job", "resolution", "holds", "pages")
 # What is said of numbers that no call takes.
 RESOLUTION = "pclmin: the resolution is 300 or 600, or 0 for the first at which the job is accepted\n"
 PAGES = "pclmin: pages are 1 to 256, the last no earlier than the first, or 0 and 0 for all\n"
+SCALE = "pclmin: a scale is 1 to 32\n"
 FORMAT = "pclmin: the format of a certificate is 1 or 2, or 0 for none\n"
 
 # Two pages, a page of two copies on another size, a raster that only 600 dots per inch takes, and jobs that are refused.
@@ -39,6 +40,8 @@ JOBS = {
     "xl.pcl": b") HP-PCL XL;2;0\n",
     "empty.pcl": b"",
 }
+# A page that drivers move by an offset.
+MOVED = b"\x1bE\x1b&l36U\x0c\x1b&l0U\x1b*p30x40Y\x1b*c90a90b0P\x0c\x1bE"
 
 
 class Runner:
@@ -98,7 +101,7 @@ def client_answer(command, words):
 def python_answer(words):
     """The answer that Python gets of the same call."""
     name, *rest = words
-    jobs_from = {"preview": 3, "min": 2}.get(name, 1)
+    jobs_from = {"preview": 3, "grey": 4, "min": 2}.get(name, 1)
     jobs = [b"" if job == "-" else open(os.path.join(BUILD, job), "rb").read() for job in rest[jobs_from:]]
     numbers = [int(number) for number in rest[:jobs_from]]
     call = pclmin.minimize if name == "min" else getattr(pclmin, name)
@@ -143,6 +146,10 @@ def compare_jobs(runner, resolution, job):
     compare_made(runner, ["preview", number, "0", "0"], ["pbm"], job, resolution)
     for first, last in ((1, 1), (2, 2), (1, 2), (256, 256)):
         compare_made(runner, ["preview", number, str(first), str(last)], ["pbm", "--page", f"{first}-{last}"], job, resolution)
+    for first, last, scale in ((0, 0, 10), (0, 0, 32), (2, 2, 1), (1, 2, 7), (256, 256, 8)):
+        pages = [] if first == 0 else ["--page", f"{first}-{last}"]
+        compare_made(runner, ["grey", number, str(first), str(last), str(scale)], ["pgm", "--drivers", "--scale", str(scale), *pages], job,
+                     resolution)
     compare_made(runner, ["min", number, "0"], ["min", "--quiet"], job, resolution)
     compare_made(runner, ["shrink", number], ["shrink"], job, resolution)
     compare_made(runner, ["pages", number], ["pages", "--json"], job, resolution)
@@ -195,12 +202,16 @@ def check_arguments(runner):
     """Numbers and pointers that no call takes, and pointers that are null where there are no bytes."""
     for line, *words in ((RESOLUTION, "shrink", "301", "dot.pcl"), (PAGES, "preview", "300", "0", "1", "dot.pcl"),
                          (PAGES, "preview", "300", "2", "1", "dot.pcl"), (PAGES, "preview", "300", "1", "257", "dot.pcl"),
-                         (FORMAT, "min", "300", "3", "dot.pcl"), (RESOLUTION, "same", "72", "dot.pcl", "dot.pcl"),
+                         (PAGES, "grey", "300", "0", "1", "8", "dot.pcl"), (RESOLUTION, "grey", "301", "0", "0", "8", "dot.pcl"),
+                         *((SCALE, "grey", "300", "1", "1", scale, "dot.pcl") for scale in ("0", "33", "4294967295")),
+                         (SCALE, "grey", "300", "1", "1", "0", "text.pcl"), (FORMAT, "min", "300", "3", "dot.pcl"),
+                         (RESOLUTION, "same", "72", "dot.pcl", "dot.pcl"),
                          (RESOLUTION, "check", "1", "dot.pcl", "dot.pcl", "dot.pcl"), (RESOLUTION, "explain", "4294967295", "dot.pcl")):
         answer = runner.answers(*words)
         runner.tell(answer.fault == pclmin.WRONG_ARGUMENT and answer.line == line, f"{words} are wrong: {shown(answer)}")
         runner.tell(answer.bytes == b"" and answer.kind == 0 and answer.job == 0, f"{words} make nothing")
-    for words in (("preview", "300", "0", "0", "-"), ("min", "300", "1", "-"), ("shrink", "0", "-"), ("same", "600", "-", "-"),
+    for words in (("preview", "300", "0", "0", "-"), ("grey", "300", "0", "0", "8", "-"), ("min", "300", "1", "-"), ("shrink", "0", "-"),
+                  ("same", "600", "-", "-"),
                   ("page_count", "300", "-"), ("pages", "300", "-"), ("explain", "300", "-"), ("check", "300", "-", "-", "-")):
         answer = runner.answers(*words)
         beside = runner.answers(*(word if word != "-" else "empty.pcl" for word in words))
@@ -263,6 +274,11 @@ def main():
         for resolution in (300, 600, 0):
             compare_jobs(runner, resolution, job)
     compare_made(runner, ["preview", "300", "1", "1"], ["pbm", "--page", "1"], "picture.pcl", 300)
+    write("moved.pcl", MOVED)
+    compare_made(runner, ["preview", "300", "0", "0"], ["pbm", "--drivers"], "moved.pcl", 300)
+    compare_made(runner, ["grey", "300", "0", "0", "8"], ["pgm", "--drivers", "--scale", "8"], "moved.pcl", 300)
+    for scale in ("1", "3", "15", "31"):
+        compare_made(runner, ["grey", "300", "0", "0", scale], ["pgm", "--drivers", "--scale", scale], "picture.pcl", 300)
     compare_made(runner, ["min", "300", "0"], ["min", "--quiet"], "picture.pcl", 300)
     compare_made(runner, ["shrink", "0"], ["shrink"], "picture.pcl", 0)
     for certificate_format in (1, 2):

@@ -47,6 +47,10 @@ static int do_preview(pclmin_answer *answer) {
     return pclmin_preview(JOB, LENGTH, 300, 0, 0, answer);
 }
 
+static int do_grey(pclmin_answer *answer) {
+    return pclmin_grey(JOB, LENGTH, 300, 0, 0, 7, answer);
+}
+
 static int do_min(pclmin_answer *answer) {
     return pclmin_min(JOB, LENGTH, 0, 2, answer);
 }
@@ -108,13 +112,15 @@ static void *work(void *unused) {
     int round;
     (void)unused;
     for (round = 0; round < 3; round++) {
-        pclmin_answer shrunk, again, image;
+        pclmin_answer shrunk, again, image, grey;
         TEST(pclmin_shrink(JOB, LENGTH, 300, &shrunk) == PCLMIN_DONE);
         TEST(pclmin_same(JOB, LENGTH, shrunk.bytes, shrunk.length, 300, &again) == PCLMIN_DONE && again.holds);
         TEST(pclmin_preview(shrunk.bytes, shrunk.length, 300, 1, 1, &image) == PCLMIN_DONE && image.length > 2);
+        TEST(pclmin_grey(shrunk.bytes, shrunk.length, 300, 1, 1, 8, &grey) == PCLMIN_DONE && grey.length > 2);
         pclmin_free(&shrunk);
         pclmin_free(&again);
         pclmin_free(&image);
+        pclmin_free(&grey);
     }
     return NULL;
 }
@@ -158,12 +164,20 @@ static void try_pointers(void) {
     pclmin_free(&answer);
     TEST(pclmin_preview(JOB, (size_t)INT_MAX + 1, 300, 2, 1, &answer) == PCLMIN_WRONG_ARGUMENT);
     pclmin_free(&answer);
+    TEST(pclmin_grey(JOB, (size_t)INT_MAX + 1, 300, 0, 0, 33, &answer) == PCLMIN_WRONG_ARGUMENT);
+    pclmin_free(&answer);
+    TEST(pclmin_grey(JOB, (size_t)INT_MAX + 1, 300, 0, 0, 32, &answer) == PCLMIN_TOO_LONG);
+    pclmin_free(&answer);
+    TEST(pclmin_grey(NULL, 1, 300, 0, 0, 8, &answer) == PCLMIN_WRONG_ARGUMENT && answer.bytes == NULL);
+    pclmin_free(&answer);
+    TEST(pclmin_grey(JOB, LENGTH, 300, 0, 0, 8, NULL) == PCLMIN_WRONG_ARGUMENT);
     pclmin_free(NULL);
 }
 
 int main(void) {
     try_pointers();
     run_out("preview", do_preview);
+    run_out("grey", do_grey);
     run_out("min", do_min);
     run_out("shrink", do_shrink);
     run_out("same", do_same);

@@ -17,8 +17,11 @@ use Rattle.pcl_cert.specs.declared.format.Format.{Format}
 use Rattle.pcl_streams.specs.declared.fault.Fault.TheVariants as run
 use Rattle.pcl_tool.specs.declared.job_verdict.JobVerdict.{JobVerdict}
 use Rattle.pcl_tool.specs.declared.job_verdict.JobVerdict.TheVariants as verdicts
+use Rattle.pcl_streams.specs.declared.form.ImageForm.{ImageForm}
+use Rattle.pcl_streams.specs.declared.form.ImageForm.TheVariants.{Greymap}
+use Rattle.pcl_streams.specs.declared.form.Scale.{Scale}
 use Rattle.pcl_streams.specs.declared.page_images.PageChoice.{PageChoice}
-use Rattle.pcl_streams.specs.PageImages.{AreImagesOf, LacksPage}
+use Rattle.pcl_streams.specs.PageImages.{AreImagesIn, LacksPage}
 use Rattle.pcl_tool.specs.Minimizing.{IsCertifiedJobOf, input_limit}
 use Rattle.pcl_tool.specs.Writing.{IsWrittenJob}
 use Rattle.pcl_tool.specs.JobVerdicts.{IsJobVerdict}
@@ -34,7 +37,7 @@ use Rattle.pcl_answers.specs.declared.comparisons.CompareFault.TheVariants as co
 use Rattle.pcl_files.specs.Messages.{line_of}
 use Rattle.pcl_answers.specs.Verdicts.{verdict_line_of}
 use Rattle.pcl_answers.specs.ComparisonLines.{comparison_line_of, compare_line_of}
-use Rattle.pcl_library.specs.Arguments.{IsSeen, AreSeen, IsChoiceFor, IsFormatFor, IsPerformed}
+use Rattle.pcl_library.specs.Arguments.{IsSeen, AreSeen, IsChoiceFor, IsScaleFor, IsFormatFor, IsPerformed}
 use Rattle.pcl_library.specs.Failures.{argument_line, outcome_of, job_number}
 use Rattle.pcl_library.specs.declared.answer.Answer.{Answer}
 use Rattle.pcl_library.specs.declared.failure.Failure.{Failure}
@@ -92,13 +95,19 @@ pub record Answers (profile : Profile) (number : ℕ) (job : List ℕ) (Done : D
   pub refused : answer.outcome ≡ 1
       → (dpi : Dpi) × IsSeen profile number job dpi × ((refusal : Refusal) × IsRefusalBy profile dpi job refusal × TellsRefusal refusal answer)
 
--- the images of these pages, one after the other
-abbrev pub HasChosenImages : List ℕ → PageChoice → Dpi → Answer → Type 0
-HasChosenImages job choice dpi answer = AreImagesOf Drivers dpi job choice answer.made.now
+-- the images in a form of these pages, one after the other
+abbrev pub HasChosenImages : ImageForm → List ℕ → PageChoice → Dpi → Answer → Type 0
+HasChosenImages form job choice dpi answer = AreImagesIn form Drivers dpi job choice answer.made.now
 
 -- the same of the pages from one number to another
-abbrev pub HasImages : List ℕ → (first last : ℕ) → Dpi → Answer → Type 0
-HasImages job first last dpi answer = (choice : PageChoice) × IsChoiceFor first last choice × HasChosenImages job choice dpi answer
+abbrev pub HasImages : ImageForm → List ℕ → (first last : ℕ) → Dpi → Answer → Type 0
+HasImages form job first last dpi answer =
+    (choice : PageChoice) × IsChoiceFor first last choice × HasChosenImages form job choice dpi answer
+
+-- the same as greys, by the scale of a number
+abbrev pub HasGreys : List ℕ → (first last number : ℕ) → Dpi → Answer → Type 0
+HasGreys job first last number dpi answer =
+    (scale : Scale) × IsScaleFor number scale × HasImages (Greymap scale) job first last dpi answer
 
 -- one of these pages, of which this is the last, is missing in an accepted job, as the program says
 abbrev pub LacksChosenAt : Dpi → List ℕ → PageChoice → ℕ → Answer → Type 0
@@ -113,10 +122,10 @@ abbrev pub LacksPages : ℕ → List ℕ → (first last : ℕ) → Answer → T
 LacksPages number job first last answer =
     (choice : PageChoice) × IsChoiceFor first last choice × LacksChosen number job choice last answer
 
--- what an answer tells of pages that are asked for, at a resolution: their images, a refusal of the job, or that one is missing
-pub record ShowsAt (dpi : Dpi) (job : List ℕ) (choice : PageChoice) (last : ℕ) (answer : Answer) : Type 0 where
+-- what an answer tells of pages that are asked for, at a resolution: their images in a form, a refusal of the job, or that one is missing
+pub record ShowsAt (form : ImageForm) (dpi : Dpi) (job : List ℕ) (choice : PageChoice) (last : ℕ) (answer : Answer) : Type 0 where
   pub performed : IsPerformed answer.outcome
-  pub done : answer.outcome ≡ 0 → (answer.resolution ≡ dots_per_inch dpi) × HasChosenImages job choice dpi answer
+  pub done : answer.outcome ≡ 0 → (answer.resolution ≡ dots_per_inch dpi) × HasChosenImages form job choice dpi answer
   pub refused : answer.outcome ≡ 1 → (refusal : Refusal) × IsRefusalBy Drivers dpi job refusal × TellsRefusal refusal answer
   pub missing : answer.outcome ≡ 2 → LacksChosenAt dpi job choice last answer
 

@@ -7,6 +7,7 @@ use Rattle.pcl_base.specs.declared.profile.Profile.{Profile}
 use Rattle.pcl_cert.specs.declared.format.Format.{Format}
 use Rattle.pcl_cert.specs.declared.format.Format.TheVariants.{One, Two}
 use Rattle.pcl_streams.specs.declared.fault.Fault.TheVariants as run
+use Rattle.pcl_streams.specs.declared.form.Scale.{Scale}
 use Rattle.pcl_streams.specs.declared.page_images.PageChoice.{PageChoice}
 use Rattle.pcl_streams.specs.declared.page_images.PageChoice.TheVariants.{All, Range}
 use Rattle.pcl_request.specs.declared.request.Resolution.{Resolution}
@@ -39,6 +40,10 @@ IsChoiceFor first last All = (first ≡ 0) × (last ≡ 0)
 IsChoiceFor first last (Range before count) =
     (first ≡ before + 1) × (last ≡ before + count) × (first ≤ last) × (last ≤ page_limit)
 
+-- the scale of a number
+abbrev pub IsScaleFor : ℕ → Scale → Type 0
+IsScaleFor number scale = scale.side ≡ number
+
 -- the format of certificates of a number, or none by 0
 abbrev pub IsFormatFor : ℕ → Option Format → Type 0
 IsFormatFor number None = number ≡ 0
@@ -54,6 +59,10 @@ IsNoResolution number = (number ≢ 0) × (number ≢ 300) × (number ≢ 600)
 -- no pages are from one number to another: the first alone is 0, they are in the wrong order, or a job has no page of the last
 abbrev pub AreNoPages : (first last : ℕ) → Type 0
 AreNoPages first last = ((first ≡ 0) × (0 < last)) ⊎ (last < first) ⊎ (page_limit < last)
+
+-- no scale has the number
+abbrev pub IsNoScale : ℕ → Type 0
+IsNoScale number = (number ≡ 0) ⊎ (32 < number)
 
 -- no format has the number
 abbrev pub IsNoFormat : ℕ → Type 0
@@ -80,6 +89,10 @@ IsResolutionOf number (Err failure) = (failure ≡ Wrong wrong.Resolution) × Is
 abbrev pub IsChoiceOf : (first last : ℕ) → Result PageChoice Failure → Type 0
 IsChoiceOf first last (Ok choice) = IsChoiceFor first last choice
 IsChoiceOf first last (Err failure) = (failure ≡ Wrong wrong.Pages) × AreNoPages first last
+
+abbrev pub IsScaleOf : ℕ → Result Scale Failure → Type 0
+IsScaleOf number (Ok scale) = IsScaleFor number scale
+IsScaleOf number (Err failure) = (failure ≡ Wrong wrong.Scale) × IsNoScale number
 
 abbrev pub IsFormatOf : ℕ → Result (Option Format) Failure → Type 0
 IsFormatOf number (Ok format) = IsFormatFor number format

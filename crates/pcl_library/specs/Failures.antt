@@ -11,7 +11,7 @@ use Rattle.pcl_answers.specs.declared.comparisons.CompareFault.TheVariants as co
 use Rattle.pcl_files.specs.Messages.{line_of}
 use Rattle.pcl_answers.specs.ComparisonLines.{compare_line_of}
 use Rattle.pcl_library.specs.declared.failure.Argument.{Argument}
-use Rattle.pcl_library.specs.declared.failure.Argument.TheVariants.{Resolution, Pages, Format}
+use Rattle.pcl_library.specs.declared.failure.Argument.TheVariants.{Resolution, Pages, Scale, Format}
 use Rattle.pcl_library.specs.declared.failure.Failure.{Failure}
 use Rattle.pcl_library.specs.declared.failure.Failure.TheVariants.{Wrong, Run, OneRefused}
 
@@ -44,6 +44,7 @@ job_number Second = 2
 abbrev pub argument_line : Argument → List ℕ
 argument_line Resolution = codes "pclmin: the resolution is 300 or 600, or 0 for the first at which the job is accepted\n"
 argument_line Pages = codes "pclmin: pages are 1 to 256, the last no earlier than the first, or 0 and 0 for all\n"
+argument_line Scale = codes "pclmin: a scale is 1 to 32\n"
 argument_line Format = codes "pclmin: the format of a certificate is 1 or 2, or 0 for none\n"
 
 -- the line is the one that the program says, with its line feed

@@ -2,7 +2,7 @@
 
 ghost use Rattle.std.specs.Prelude.{◌⊎◌, IfOk, IfErr};
 ghost use Rattle.pcl_library.specs.Arguments.{IsSeen, AreSeen, IsNoResolution, IsTooLong, FailsBy, outcome_in};
-ghost use Rattle.pcl_library.specs.Arguments.{IsWithinLimit, IsResolutionOf, IsChoiceOf, IsFormatOf};
+ghost use Rattle.pcl_library.specs.Arguments.{IsWithinLimit, IsResolutionOf, IsChoiceOf, IsScaleOf, IsFormatOf};
 ghost use Rattle.pcl_library.specs.Failures.{IsUnperformed};
 
 use crate::failure::{Argument, Failure};
@@ -10,6 +10,7 @@ use pcl_base::{Dpi, PAGE_LIMIT, Profile};
 use pcl_cert::Format;
 use pcl_files::{resolve, resolve_both};
 use pcl_request::Resolution;
+use pcl_streams::Scale;
 use pcl_tool::{Fault, INPUT_LIMIT, PageChoice};
 use std::alloc::Global;
 
@@ -79,6 +80,13 @@ pub fn pages_between(first: u32, last: u32) -> Result<PageChoice, Failure>
         before: (first - 1) as u16,
         count: (last - first + 1) as u16,
     })
+}
+
+/// The scale that a number asks for: so many dots across, and as many down, make a pixel.
+pub fn scale_numbered(number: u32) -> Result<Scale, Failure>
+    ensures { IsScaleOf number result }
+{
+    Scale::new(number).ok_or(Failure::Wrong(Argument::Scale))
 }
 
 /// The format of certificates that a number asks for; none by 0.

@@ -19,6 +19,8 @@ pub enum Argument {
     Resolution,
     /// The first and the last page: 1 to 256, or 0 and 0.
     Pages,
+    /// The scale: 1 to 32.
+    Scale,
     /// The format of a certificate: 1, 2 or 0.
     Format,
 }
@@ -33,6 +35,7 @@ impl Argument {
                 b"pclmin: the resolution is 300 or 600, or 0 for the first at which the job is accepted\n",
             Argument::Pages =>
                 b"pclmin: pages are 1 to 256, the last no earlier than the first, or 0 and 0 for all\n",
+            Argument::Scale => b"pclmin: a scale is 1 to 32\n",
             Argument::Format => b"pclmin: the format of a certificate is 1 or 2, or 0 for none\n",
         }
     }
