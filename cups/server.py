@@ -292,9 +292,8 @@ def judge(program, folder, without, came):
     for resolution in ["300", "600"]:
         if subprocess.run([program, "shrink", "--dpi", resolution, "-o", smaller, plain], stderr=subprocess.DEVNULL).returncode != 0:
             continue
-        with open(smaller, "rb") as wanted:
-            if came != wanted.read() or len(came) > len(without):
-                return f"not what shrink writes at {resolution}", False
+        if came != shrink(program, folder, without) or len(came) > len(without):
+            return f"not what shrink writes, by auto, of a job of {resolution}", False
         said = subprocess.run([program, "same", "--asked", "--dpi", resolution, plain, sent], stdout=subprocess.PIPE, text=True)
         return f"{said.stdout.strip()} at {resolution}", said.returncode == 0
     return ("refused, unchanged", True) if came == without else ("refused, and changed", False)
