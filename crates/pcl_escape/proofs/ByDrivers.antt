@@ -1,5 +1,5 @@
 -- What the stated profile reads is read by the drivers' profile too, as the same commands.
-use Rattle.std.proofs.Common.{◌≡◌, ℕ, List, [], ◌∷◌, ◌++◌, length, Option, Some, None, inl, inr, Result, Ok, arith}
+use Rattle.std.proofs.Common.{◌≡◌, ℕ, List, [], ◌∷◌, ◌++◌, length, Option, Some, None, inl, inr, Ok, arith}
 use Rattle.pcl_escape.proofs.Names.{Stated, Drivers, cases_Bool, flat_map, AllByRecursion, Name, Operation, Value, operation_of, in_range, exit_name, field_value, operation_checks, Prefix, parameter_name, Parameter, Piece, silent, control, text, two_character, combined, exit, IsMiddle, IsEnd, IsPiece, ArePieces, IsReading, Said, spelling}
 use Rattle.pcl_escape.specs.Checks.{parameter_checks}
 

@@ -1,13 +1,13 @@
 -- Whether a font is there that is permanent.
-use Rattle.std.proofs.Common.{◌≡◌, ℕ, Bool, true, false, ◌||◌, nat_eq, List, [], ◌∷◌, Option, None, Some, is_some, IfSome, All, get_or, refl, sym, ap, ◌∙◌, arith}
+use Rattle.std.proofs.Common.{◌≡◌, ℕ, Bool, true, false, nat_eq, List, [], ◌∷◌, Option, None, Some, is_some, IfSome, All, get_or, refl, sym, ◌∙◌, arith}
 use Rattle.std.specs.List.{list_any}
 use Rattle.std.specs.Map.{values_of}
 use Rattle.std.proofs.lemmas.Bool.{false≢true}
 use Rattle.std.proofs.lemmas.List.Folds.{list_any_at, list_any_none}
 use Rattle.std.proofs.lemmas.Map.Views.{All-values_from_lookup, IfSome-lookup_from_All}
 use Rattle.pcl_fonts.specs.History.{font_after, id_of, if_permanent, has_permanent}
-use Rattle.pcl_fonts.proofs.Names.{rules, eqb-true, eq-eqb, nat_eq_equiv, IsDistinct, keys_of, lookup, option_map, FontEvent, header, character, control, FontTable, Holds, font_at, font_in, is_there, Entry}
-use Rattle.pcl_fonts.proofs.Tables.{Entries, IsSeen, view, live, seen}
+use Rattle.pcl_fonts.proofs.Names.{eqb-true, nat_eq_equiv, IsDistinct, keys_of, lookup, option_map, FontEvent, header, character, control, FontTable, Holds, font_in, Entry}
+use Rattle.pcl_fonts.proofs.Tables.{Entries, view, live, seen}
 
 -- the font of an ID is permanent
 abbrev is_kept : List FontEvent → ℕ → Bool

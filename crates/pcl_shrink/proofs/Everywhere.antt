@@ -1,6 +1,6 @@
 -- A job that counts at two resolutions.
-use Rattle.std.proofs.Common.{◌≡◌, ℕ, List, Bool, true, Option, Some, None, Result, Ok, Err, IfOk, arith}
-use Rattle.pcl_shrink.proofs.Names.{Profile, Dpi, JobFault, Refused, Memory, Refusal, Sheet, HasPagesBy, IsAccepted, IsRefused, IsRefusalBy, IsKept, KeptJob, IsAskedComparisonBy, Same, IsSameAlso, SaysIfSame, SaysIfSameAt, IsAcceptedAlso, IsKeptAlso, KeepsJobs, Readers, Shrunk, IsShrunkAt, IsShrunkEverywhereBy}
+use Rattle.std.proofs.Common.{◌≡◌, ℕ, List, Bool, true, Option, Some, None, Result, Ok, Err, IfOk}
+use Rattle.pcl_shrink.proofs.Names.{Profile, Dpi, JobFault, Refused, Memory, Refusal, Sheet, HasPagesBy, IsAccepted, IsRefusalBy, IsKept, KeptJob, IsSameAlso, SaysIfSame, SaysIfSameAt, IsAcceptedAlso, IsKeptAlso, KeepsJobs, Readers, Shrunk, IsShrunkAt, IsShrunkEverywhereBy}
 use Rattle.pcl_base.specs.declared.dpi.Dpi.TheVariants.{Dpi300, Dpi600}
 use Rattle.pcl_same.specs.Keeping.{KeepsJob}
 use Rattle.pcl_shrink.proofs.Looked.{answered_also}

@@ -1,5 +1,5 @@
 -- What is found of a candidate beside a job.
-use Rattle.std.proofs.Common.{◌≡◌, ◌≢◌, ℕ, List, Bool, true, false, Decides, Option, Some, None, Result, Ok, Err, refl, subst}
+use Rattle.std.proofs.Common.{◌≡◌, ◌≢◌, ℕ, List, Bool, true, false, Decides, Option, Some, Result, Ok, Err, refl, subst}
 use Rattle.pcl_shrink.proofs.Names.{Profile, false≢true, Dpi, JobFault, Refusal, IsRefusalBy, AskedComparison, Same, Second, SameFault, IsAskedComparisonBy, IsComparedAskedBy, IsComparedBeside, IsSameAt, SaysIfSame, SaysIfSameAt}
 use Rattle.pcl_base.specs.declared.fault.JobFault.TheVariants as faults
 use Rattle.pcl_same.specs.declared.fault.SameFault.TheVariants.{Refused, Memory}

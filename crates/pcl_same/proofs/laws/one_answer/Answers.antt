@@ -1,5 +1,4 @@
-use Rattle.std.proofs.Common.{List, ℕ}
-use Rattle.pcl_same.proofs.Names.{Profile, Stated, Dpi, IsComparedBy}
+use Rattle.pcl_same.proofs.Names.{Profile, Stated, IsComparedBy}
 use Rattle.pcl_same.proofs.OneAnswer.{HasOneMeaning, same_answer_by, one_told}
 use Rattle.pcl_same.proofs.laws.one_answer.Goals as goal
 

@@ -1,5 +1,4 @@
-use Rattle.std.proofs.Common.{List, ℕ}
-use Rattle.pcl_same.proofs.Names.{Profile, Stated, Dpi, IsComparedAskedBy}
+use Rattle.pcl_same.proofs.Names.{Profile, Stated, IsComparedAskedBy}
 use Rattle.pcl_same.proofs.OneAnswer.{HasOneMeaning, one_told}
 use Rattle.pcl_same.proofs.OneAskedAnswer.{same_asked_answer_by}
 use Rattle.pcl_same.proofs.laws.one_asked_answer.Goals as goal
