@@ -1,5 +1,5 @@
 -- How far a page is moved on its sheet, in ten-thousandths of a decipoint.
-use Rattle.std.specs.Prelude.{ℕ, ◌+◌, ◌-◌, ◌*◌, ◌/◌, ◌%◌, ◌==◌, ◌&&◌, Bool, not, if◌then◌else◌, List, [], ◌∷◌, ◌++◌, take, Option, codes, decimal, unwrap_or, ℤ, pos, negsuc, unsigned_abs}
+use Rattle.std.specs.Prelude.{ℕ, ◌+◌, ◌/◌, ◌%◌, ◌==◌, ◌&&◌, Bool, if◌then◌else◌, List, [], ◌∷◌, ◌++◌, take, Option, codes, decimal, unwrap_or, ℤ, pos, negsuc, unsigned_abs}
 use Rattle.std.specs.Ordering.{int_eq}
 use Rattle.pcl_base.specs.declared.value.Value.{Value}
 use Rattle.pcl_base.specs.Value.{whole_of, with_sign}
