@@ -385,6 +385,9 @@ class Performer:
         if is_call:
             if self.raster:
                 self.end_raster()
+            # The size that was said stays, as the size does.
+            saved["said"].pop("&lA", None)
+            saved["said"].update({name: value for name, value in self.said.items() if name == "&lA"})
             self.counts_whole |= self.marked and saved["offsets"] != self.offsets
             for field, value in saved.items():
                 setattr(self, field, value)
