@@ -385,7 +385,7 @@ class Performer:
         if is_call:
             if self.raster:
                 self.end_raster()
-            # The size that was said stays, as the size does.
+            # The size that was said stays, as the size does. Here the model and docs/LANGUAGE.md differ (CONTRIBUTING.md, "What is open").
             saved["said"].pop("&lA", None)
             saved["said"].update({name: value for name, value in self.said.items() if name == "&lA"})
             self.counts_whole |= self.marked and saved["offsets"] != self.offsets
