@@ -8,8 +8,8 @@ cupsd runs on loopback, out of a temporary folder: its own settings, spool and q
 one with the backend and one without. Each document goes through both, once plain and once two-sided in two copies. What came of
 the driver RAW without the backend is then sent once more, to a raw queue with the backend.
 
-A job holds where, at the resolution at which the job without the backend is accepted, the printer gets what `shrink` writes of
-it, no longer than it was and the same by `pclmin same --asked`; and where no resolution is, where it gets it byte for byte. A raw
+A job holds where the printer gets what `shrink --dpi auto` writes of the job without the backend, no longer than it was, and the same
+by `pclmin same --asked` at each resolution at which that is accepted; where none is, where it gets it byte for byte. A raw
 job also has to be in the server's log of pages, with as many pages as `pclmin pages` finds. Each printer answers while a job
 comes in, so that its own words would be found in what it got. One raw job goes to a device that is asked by SNMP too.
 
@@ -289,14 +289,18 @@ def judge(program, folder, without, came):
     for name, content in [(plain, without), (sent, came)]:
         with open(name, "wb") as out:
             out.write(content)
-    for resolution in ["300", "600"]:
-        if subprocess.run([program, "shrink", "--dpi", resolution, "-o", smaller, plain], stderr=subprocess.DEVNULL).returncode != 0:
-            continue
-        if came != shrink(program, folder, without) or len(came) > len(without):
-            return f"not what shrink writes, by auto, of a job of {resolution}", False
+    shrinking = [program, "shrink", "-o", smaller, plain]
+    accepting = [resolution for resolution in ("300", "600")
+                 if subprocess.run([*shrinking, "--dpi", resolution], stderr=subprocess.DEVNULL).returncode == 0]
+    if not accepting:
+        return ("refused, unchanged", True) if came == without else ("refused, and changed", False)
+    if came != shrink(program, folder, without) or len(came) > len(without):
+        return "not what shrink writes", False
+    for resolution in accepting:
         said = subprocess.run([program, "same", "--asked", "--dpi", resolution, plain, sent], stdout=subprocess.PIPE, text=True)
-        return f"{said.stdout.strip()} at {resolution}", said.returncode == 0
-    return ("refused, unchanged", True) if came == without else ("refused, and changed", False)
+        if said.returncode != 0:
+            return f"{said.stdout.strip()} at {resolution}", False
+    return f"same at {' and '.join(accepting)}", True
 
 
 def pages_of(program, folder, job):
