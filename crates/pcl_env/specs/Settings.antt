@@ -139,6 +139,10 @@ copies_said copies asked = record asked { copies = Some (pos copies) }
 abbrev pub size_said : Size → Asked → Asked
 size_said size asked = record asked { page_size = Some (pos (code_of size)); page_length = None }
 
+-- what a call's return leaves: what was said of the page's size in the call stays
+abbrev pub with_size_of : Asked → Asked → Asked
+with_size_of called asked = record asked { page_size = called.page_size; page_length = called.page_length }
+
 -- ---- what a reset leaves
 
 abbrev pub defaults : Profile → Settings
@@ -202,6 +206,6 @@ font_in_use s = font_of s.in_use s
 abbrev pub kept : Settings → Settings
 kept s = record s { size = Letter; cursor = record { x = 0; y = 0 }; stack = [] }
 
--- a call's return puts everything back but the page size, the cursor and its stack
+-- a call's return puts everything back but the page size, what was said of it, the cursor and its stack
 abbrev pub restored : Settings → Settings → Settings
-restored saved s = record saved { size = s.size; cursor = s.cursor; stack = s.stack }
+restored saved s = record saved { size = s.size; cursor = s.cursor; stack = s.stack; asked = with_size_of s.asked saved.asked }

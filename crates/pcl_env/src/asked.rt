@@ -3,7 +3,7 @@
 ghost use Rattle.std.specs.Prelude.{◌≡◌, pos, Some, if◌then◌else◌};
 ghost use Rattle.std.specs.Ordering.{int_eq};
 ghost use Rattle.pcl_env.specs.Offset.{lie_together};
-ghost use Rattle.pcl_env.specs.Settings.{asked_with, copies_said, size_said};
+ghost use Rattle.pcl_env.specs.Settings.{asked_with, copies_said, size_said, with_size_of};
 
 use crate::offset::{lies_at, page_offset};
 use pcl_base::{Asking, Size, Value};
@@ -157,6 +157,17 @@ impl Asked {
         Asked {
             page_size: Some(i64::from(size.code())),
             page_length: None,
+            ..self
+        }
+    }
+
+    /// The same, but with the page size and the page length that were said in a call which returns.
+    pub(crate) fn with_size_of(self, called: Asked) -> Asked
+        ensures { result ≡ with_size_of called self }
+    {
+        Asked {
+            page_size: called.page_size,
+            page_length: called.page_length,
             ..self
         }
     }

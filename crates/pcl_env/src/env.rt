@@ -159,11 +159,12 @@ impl Env {
         Saved { setup: self.setup }
     }
 
-    /// Puts back what was saved: all but the page size, the cursor and its stack.
+    /// Puts back what was saved: all but the page size, what was said of it, the cursor and its stack.
     pub fn restore(&mut self, saved: Saved)
         ensures { self.new ≡ restored saved self.old }
     {
-        self.setup = saved.setup;
+        let asked = saved.setup.asked.with_size_of(self.setup.asked);
+        self.setup = Setup { asked, ..saved.setup };
     }
 
     /// The size of the page.
