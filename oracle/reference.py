@@ -385,9 +385,11 @@ class Performer:
         if is_call:
             if self.raster:
                 self.end_raster()
-            # The size that was said stays, as the size does. Here the model and docs/LANGUAGE.md differ (CONTRIBUTING.md, "What is open").
-            saved["said"].pop("&lA", None)
-            saved["said"].update({name: value for name, value in self.said.items() if name == "&lA"})
+            # What was said of the size stays, as the size does.
+            for said in ("&lA", "&lP"):
+                saved["said"].pop(said, None)
+                if said in self.said:
+                    saved["said"][said] = self.said[said]
             self.counts_whole |= self.marked and saved["offsets"] != self.offsets
             for field, value in saved.items():
                 setattr(self, field, value)
@@ -780,7 +782,7 @@ def end_raster(performer, command):
 
 ANY_FROM_ZERO = range(65536)
 
-# All that is set, but for the page size, the cursor and its stack.
+# All that is set, but for the page size, the cursor and its stack; of what was said the page size and the page length stay.
 CALL_RESTORES = ("copies", "pcl_unit", "hmi", "vmi", "top", "bottom", "left", "skips", "termination", "macro_id", "font_id", "code",
                  "selected", "in_use", "rectangle", "offsets", "said", "resolution", "raster_width", "raster_height", "method")
 
