@@ -854,7 +854,13 @@ def pages_of(job, dpi, profile=Profile.STATED):
     return performed(job, dpi, profile).pages
 
 
-def asks_the_same(first, second, dpi):
+def exits_of(performer, counts_last):
+    """The universal exits that count: a last one after all pages and without lines ends the job, where it doesn't count as any other."""
+    ends = not counts_last and performer.exits[-1:] == [(len(performer.pages), b"")]
+    return performer.exits[:-1] if ends else performer.exits
+
+
+def asks_the_same(first, second, dpi, counts_last=False):
     """Whether two jobs have the same pages by the drivers' profile and ask the printer for the same; none where either is refused."""
     try:
         one, other = (performed(job, dpi, Profile.DRIVERS) for job in (first, second))
@@ -863,7 +869,8 @@ def asks_the_same(first, second, dpi):
     if first == second:
         return True
     return (not one.counts_whole and not other.counts_whole
-            and (one.exits, one.separation, one.pages) == (other.exits, other.separation, other.pages)
+            and exits_of(one, counts_last) == exits_of(other, counts_last)
+            and (one.separation, one.pages) == (other.separation, other.pages)
             and [page.asked for page in one.pages] == [page.asked for page in other.pages])
 
 

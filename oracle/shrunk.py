@@ -94,7 +94,7 @@ class Looker:
             return "other pages", "others"
         if self.pclmin.same(job, written, dpi, "--asked")[:2] != (0, b"same\n"):
             return "not the same by same --asked", "others"
-        if self.has_model and any(not reference.asks_the_same(job, written, int(at)) for at in accepted):
+        if self.has_model and any(not reference.asks_the_same(job, written, int(at), counts_last=True) for at in accepted):
             return "asks for other things by the model", "others"
         return None, "shorter" if len(written) < len(job) else "as it came"
 

@@ -1,9 +1,10 @@
 -- What is found of kept pages is so of the pages of the jobs.
 use Rattle.std.proofs.Common.{◌≡◌, ℕ, ◌+◌, ◌<◌, List, [], ◌∷◌, ◌++◌, length, drop, Option, Some, None, refl, ap, sym, ◌∙◌, arith}
-use Rattle.pcl_same.proofs.Names.{Profile, AllByRecursion, Dpi, page_width, page_height, Picture, dot, Page, AreAlike, AllAlike, Asks, asks_of, HasPagesBy, HasAsksBy, is_black, Shows, Sheet, AskedComparison, Difference, Size, Copies, Dot, PagesDifference, KeptJob, KeptPage, Compare, of_pages, CompareAsks, IsAskedComparisonBy, IsFirstDot, DifferBy, DifferFirst, KeepAll, PagesDiffer, FindAll, IsAlike, IsConcluded, comparison_of, IsKept}
+use Rattle.pcl_same.proofs.Names.{Profile, AllByRecursion, Dpi, page_width, page_height, Picture, dot, Page, AreAlike, AllAlike, Asks, asks_of, HasPagesBy, HasAsksBy, is_black, Shows, Sheet, AskedComparison, Difference, Size, Copies, Dot, PagesDifference, KeptJob, KeptPage, Compare, of_pages, CompareAsks, IsComparisonCounting, counted, IsFirstDot, DifferBy, DifferFirst, KeepAll, PagesDiffer, FindAll, IsAlike, IsConcluded, comparison_of, IsKept}
 use Rattle.pcl_same.specs.declared.comparison.PagesDifference.TheVariants as difference
 use Rattle.pcl_same.proofs.AskedPages.{OnePages, asked_pages}
 use Rattle.pcl_same.proofs.OneAnswer.{alike_count}
+use Rattle.pcl_same.specs.declared.asking.LastExit.{LastExit}
 
 -- ---- two pages, by the sheets that they show
 
@@ -105,15 +106,15 @@ compared_so dpi pages kept others found (Some (difference.Page number by)) k f i
     (cc (kept_count dpi pages kept k, found_count dpi kept others found f), rw first.counted differ)
 
 -- a job beside one that is kept
-pub beside_kept : {profile : Profile} → OnePages profile
+pub beside_kept : {last : LastExit} {profile : Profile} → OnePages profile
     → {dpi : Dpi} {first second : List ℕ} {kept : KeptJob} {others : List Sheet} {other_asks : Asks}
     → (k : IsKept profile dpi first kept) → HasPagesBy profile dpi second others → HasAsksBy profile dpi second other_asks
     → (difference : Option PagesDifference) (found : List (Option Difference)) → FindAll dpi kept.pages.items others found
     → IsConcluded (length kept.pages.items) found difference → (result : AskedComparison) → of_pages result ≡ comparison_of difference
     → ((difference ≡ None → length kept.asks.pages.items ≡ length other_asks.pages) → kept.asks.next ≡ other_asks.next
-    → CompareAsks (asks_of kept.asks) other_asks result)
-    → IsAskedComparisonBy profile dpi first second result
-beside_kept one {dpi} {first} {second} {kept} {others} {other_asks} k meaning asked difference found f is result pages asks =
+    → CompareAsks (counted last (asks_of kept.asks)) (counted last other_asks) result)
+    → IsComparisonCounting last profile dpi first second result
+beside_kept {last} one {dpi} {first} {second} {kept} {others} {other_asks} k meaning asked difference found f is result pages asks =
     let compare = compared_so dpi k.pages kept.pages.items others found difference k.keeps f is in
     let compare_pages : Compare dpi k.pages others (of_pages result) = rw pages compare in
     let compare_asks = asks (λ none.

@@ -1,6 +1,7 @@
 -- Two jobs that the drivers' profile reads, since the stated one refuses one of them.
 use Rattle.std.proofs.Common.{ℕ, List, Result, Ok, Err, inl, inr}
 use Rattle.pcl_same.proofs.Names.{Drivers, Stated, Dpi, Refusal, AskedComparison, First, Second, SameFault, AreReadBy, IsComparedBy, IsComparedAskedBy, IsComparedAsked}
+use Rattle.pcl_same.specs.declared.asking.LastExit.TheVariants.{Ends}
 use Rattle.pcl_same.specs.declared.fault.Job.{Job}
 use Rattle.pcl_same.specs.declared.fault.SameFault.TheVariants.{Refused, Memory}
 
@@ -10,7 +11,7 @@ one_refused First refusal is = inl (refusal, is)
 one_refused Second refusal is = inr (refusal, is.2)
 
 pub told_by_drivers : (dpi : Dpi) (first second : List ℕ) (result : Result AskedComparison SameFault) → AreReadBy Drivers dpi first second
-    → IsComparedAskedBy Drivers dpi first second result → IsComparedAsked dpi first second result
+    → IsComparedAskedBy Ends Drivers dpi first second result → IsComparedAsked dpi first second result
 told_by_drivers dpi first second (Ok comparison) read is = (Drivers, read, is)
 told_by_drivers dpi first second (Err (Refused which refusal)) read is = (read, is)
 told_by_drivers dpi first second (Err Memory) read is = tt

@@ -6,6 +6,7 @@ pub mod Concluded
 pub mod Answered
 pub mod AskedPages
 pub mod FirstAsked
+pub mod LastExits
 pub mod OneAnswer
 pub mod OneAskedAnswer
 pub mod DifferingDots

@@ -1,7 +1,8 @@
 -- Two jobs have one answer, what they ask of the printer with it.
 use Rattle.std.proofs.Common.{◌≡◌, ◌≢◌, ℕ, List, [], ◌∷◌, ◌++◌, length, Result, Err, refl, sym, ap, ◌∙◌, arith}
-use Rattle.pcl_same.proofs.Names.{Profile, append_cancel_left, Dpi, AskedPage, Asks, HasAsksBy, AskedComparison, AskedDifference, AsksDifference, ExitCount, Exit, Lasting, ExitDifference, Setting, SettingDifference, SameFault, Memory, Compare, of_pages, CompareAsks, IsAskedComparisonBy, IsComparedAskedBy, DifferAt, setting_of, order_of, IsFirstSetting, IsAskedBy, ExitsDifferBy, AsksDifferBy}
+use Rattle.pcl_same.proofs.Names.{Profile, append_cancel_left, Dpi, AskedPage, Asks, HasAsksBy, AskedComparison, AskedDifference, AsksDifference, ExitCount, Exit, Lasting, ExitDifference, Setting, SettingDifference, SameFault, Memory, Compare, of_pages, CompareAsks, IsComparisonCounting, IsComparedAskedBy, counted, DifferAt, setting_of, order_of, IsFirstSetting, IsAskedBy, ExitsDifferBy, AsksDifferBy}
 use Rattle.pcl_page.specs.Asks.{Exit as UniversalExit}
+use Rattle.pcl_same.specs.declared.asking.LastExit.{LastExit}
 use Rattle.pcl_same.specs.declared.comparison.AskedComparison.TheVariants as asked
 use Rattle.pcl_same.specs.declared.comparison.AsksDifference.TheVariants.{Page, Separation}
 use Rattle.pcl_same.specs.declared.comparison.AskedDifference.TheVariants.{Reset, Setting as BySetting}
@@ -106,20 +107,20 @@ abbrev pub OneAsks : Profile → Type 0
 OneAsks profile = (dpi : Dpi) (job : List ℕ) (asks others : Asks) → HasAsksBy profile dpi job asks → HasAsksBy profile dpi job others
     → asks ≡ others
 
-same_asked : {profile : Profile} → HasOneMeaning profile → OneAsks profile → {dpi : Dpi} {first second : List ℕ} (a b : AskedComparison)
-    → IsAskedComparisonBy profile dpi first second a → IsAskedComparisonBy profile dpi first second b → a ≡ b
-same_asked one one_asks {dpi} {first} {second} a b p q =
+same_asked : {last : LastExit} {profile : Profile} → HasOneMeaning profile → OneAsks profile → {dpi : Dpi} {first second : List ℕ} (a b : AskedComparison)
+    → IsComparisonCounting last profile dpi first second a → IsComparisonCounting last profile dpi first second b → a ≡ b
+same_asked {last} one one_asks {dpi} {first} {second} a b p q =
     let same = one.pages dpi second p.others q.others p.other_meaning q.other_meaning in
     let compare : Compare dpi p.pages p.others (of_pages b) =
     rw (one.pages dpi first p.pages q.pages p.meaning q.meaning, same) q.compare in
     let alike = one_asks dpi second p.other_asks q.other_asks p.other_asked q.other_asked in
-    let compare_asks : CompareAsks p.asks p.other_asks b = rw (one_asks dpi first p.asks q.asks p.asked q.asked, alike) q.compare_asks in
-    one_asked p.asks p.other_asks a b (one_comparison dpi p.pages p.others (of_pages a) (of_pages b) p.compare compare) p.compare_asks
+    let compare_asks : CompareAsks (counted last p.asks) (counted last p.other_asks) b = rw (one_asks dpi first p.asks q.asks p.asked q.asked, alike) q.compare_asks in
+    one_asked (counted last p.asks) (counted last p.other_asks) a b (one_comparison dpi p.pages p.others (of_pages a) (of_pages b) p.compare compare) p.compare_asks
     compare_asks
 
-pub same_asked_answer_by : {profile : Profile} → HasOneMeaning profile → OneAsks profile → (dpi : Dpi) (first second : List ℕ)
-    (a b : Result AskedComparison SameFault) → IsComparedAskedBy profile dpi first second a → IsComparedAskedBy profile dpi first second b
+pub same_asked_answer_by : (last : LastExit) {profile : Profile} → HasOneMeaning profile → OneAsks profile → (dpi : Dpi) (first second : List ℕ)
+    (a b : Result AskedComparison SameFault) → IsComparedAskedBy last profile dpi first second a → IsComparedAskedBy last profile dpi first second b
     → a ≢ Err Memory → b ≢ Err Memory → a ≡ b
-same_asked_answer_by {profile} one one_asks dpi first second =
-    one_result one dpi first second (IsComparedAskedBy profile dpi first second) (λ c p. (p.pages, p.meaning, p.others, p.other_meaning))
+same_asked_answer_by last {profile} one one_asks dpi first second =
+    one_result one dpi first second (IsComparedAskedBy last profile dpi first second) (λ c p. (p.pages, p.meaning, p.others, p.other_meaning))
     (λ r p. p) (λ r p. p) (same_asked one one_asks)

@@ -11,6 +11,8 @@ use Rattle.pcl_page.specs.Jobs.{HasPagesBy, HasAsksBy}
 use Rattle.pcl_page.specs.Delivering.{IsRefusalBy}
 use Rattle.pcl_page.specs.Accepting.{IsAccepted, IsRefused}
 use Rattle.pcl_page.specs.Alike.{AllAlike}
+use Rattle.pcl_same.specs.declared.asking.LastExit.{LastExit}
+use Rattle.pcl_same.specs.declared.asking.LastExit.TheVariants.{Counts, Ends}
 use Rattle.pcl_same.specs.declared.comparison.AskedComparison.{AskedComparison}
 use Rattle.pcl_same.specs.declared.comparison.AskedComparison.TheVariants as asked
 use Rattle.pcl_same.specs.declared.comparison.Comparison.{Comparison}
@@ -21,7 +23,7 @@ use Rattle.pcl_same.specs.declared.fault.Job.TheVariants.{First, Second}
 use Rattle.pcl_same.specs.declared.fault.SameFault.{SameFault}
 use Rattle.pcl_same.specs.declared.fault.SameFault.TheVariants.{Refused, Memory}
 use Rattle.pcl_same.specs.Differing.{DifferFirst}
-use Rattle.pcl_same.specs.DifferingAsks.{AsksDifferBy}
+use Rattle.pcl_same.specs.DifferingAsks.{AsksDifferBy, counted}
 
 -- two lists of pages are the same, one by one; or not as many; or as many, of which one pair is the first that differs
 abbrev pub Compare : Dpi → List Sheet → List Sheet → Comparison → Type 0
@@ -86,8 +88,10 @@ CompareAsks asks others asked.Same = asks ≡ others
 CompareAsks asks others (asked.Pages difference) = Unit {0}
 CompareAsks asks others (asked.Asks difference) = AsksDifferBy asks others difference
 
--- a profile accepts both jobs; their pages compare so, and where these are the same, so does what they ask of the printer
-pub record IsAskedComparisonBy (profile : Profile) (dpi : Dpi) (first second : List ℕ) (comparison : AskedComparison) : Type 0 where
+-- A profile accepts both jobs; their pages compare so, and where these are the same, so does what they ask of the printer. A last exit
+-- without lines counts as any other, or is the end of the job.
+pub record IsComparisonCounting (last : LastExit) (profile : Profile) (dpi : Dpi) (first second : List ℕ) (comparison : AskedComparison)
+    : Type 0 where
   pub pages : List Sheet
   pub meaning : HasPagesBy profile dpi first pages
   pub asks : Asks
@@ -97,16 +101,20 @@ pub record IsAskedComparisonBy (profile : Profile) (dpi : Dpi) (first second : L
   pub other_asks : Asks
   pub other_asked : HasAsksBy profile dpi second other_asks
   pub compare : Compare dpi pages others (of_pages comparison)
-  pub compare_asks : CompareAsks asks other_asks comparison
+  pub compare_asks : CompareAsks (counted last asks) (counted last other_asks) comparison
+
+abbrev pub IsAskedComparisonBy : Profile → Dpi → (first second : List ℕ) → AskedComparison → Type 0
+IsAskedComparisonBy profile dpi first second comparison = IsComparisonCounting Counts profile dpi first second comparison
 
 -- refusals as above
-abbrev pub IsComparedAskedBy : Profile → Dpi → List ℕ → List ℕ → Result AskedComparison SameFault → Type 0
-IsComparedAskedBy profile dpi first second (Ok comparison) = IsAskedComparisonBy profile dpi first second comparison
-IsComparedAskedBy profile dpi first second (Err fault) = IsComparedBy profile dpi first second (Err fault)
+abbrev pub IsComparedAskedBy : LastExit → Profile → Dpi → List ℕ → List ℕ → Result AskedComparison SameFault → Type 0
+IsComparedAskedBy last profile dpi first second (Ok comparison) = IsComparisonCounting last profile dpi first second comparison
+IsComparedAskedBy last profile dpi first second (Err fault) = IsComparedBy profile dpi first second (Err fault)
 
+-- a last exit without lines ends a job
 abbrev pub IsComparedAsked : Dpi → List ℕ → List ℕ → Result AskedComparison SameFault → Type 0
 IsComparedAsked dpi first second answer =
-    IsAnsweredByOne (λ profile it. IsComparedAskedBy profile dpi first second it) dpi first second answer
+    IsAnsweredByOne (λ profile it. IsComparedAskedBy Ends profile dpi first second it) dpi first second answer
 
 abbrev pub IsAskedComparison : Dpi → List ℕ → List ℕ → AskedComparison → Type 0
 IsAskedComparison dpi first second comparison = IsComparedAsked dpi first second (Ok comparison)

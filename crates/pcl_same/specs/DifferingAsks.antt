@@ -1,6 +1,5 @@
 -- Where what two jobs ask of the printer differs.
-use Rattle.std.specs.Prelude.{◌≡◌, ◌≢◌, ℕ, ◌+◌, ◌<◌, List, ◌∷◌, ◌++◌, length, Option}
-use Rattle.std.specs.Prelude.{ℤ}
+use Rattle.std.specs.Prelude.{◌≡◌, ◌≢◌, ℕ, ◌+◌, ◌-◌, ◌<◌, ℤ, Bool, false, ◌&&◌, nat_eq, if◌then◌else◌, List, [], ◌∷◌, ◌++◌, length, take, drop, Option}
 use Rattle.pcl_page.specs.declared.asks.AskedPage.{AskedPage}
 use Rattle.pcl_page.specs.Asks.{Asks, Exit as UniversalExit}
 use Rattle.pcl_same.specs.declared.comparison.AskedDifference.{AskedDifference}
@@ -9,6 +8,8 @@ use Rattle.pcl_same.specs.declared.comparison.AsksDifference.{AsksDifference}
 use Rattle.pcl_same.specs.declared.comparison.AsksDifference.TheVariants.{Page, ExitCount, Exit, Separation, Lasting}
 use Rattle.pcl_same.specs.declared.comparison.ExitDifference.{ExitDifference}
 use Rattle.pcl_same.specs.declared.comparison.ExitDifference.TheVariants.{Place, Lines}
+use Rattle.pcl_same.specs.declared.asking.LastExit.{LastExit}
+use Rattle.pcl_same.specs.declared.asking.LastExit.TheVariants.{Counts, Ends}
 use Rattle.pcl_same.specs.declared.comparison.Setting.{Setting}
 use Rattle.pcl_same.specs.declared.comparison.Setting.TheVariants.{Copies, PageSize, PageLength, Sides, OutputBin, MediaType, PaperSource, LeftOffset, TopOffset, TextScale, PrintQuality, Shingling, Depletion, RasterQuality, SheetSide}
 use Rattle.pcl_same.specs.declared.comparison.SettingDifference.{SettingDifference}
@@ -84,6 +85,20 @@ IsAskedBy one other (BySetting difference) = (one.start.is_first ≡ other.start
 abbrev pub ExitsDifferBy : UniversalExit → UniversalExit → ExitDifference → Type 0
 ExitsDifferBy one other (Place first second) = (one.pages ≡ first) × (other.pages ≡ second) × (first ≢ second)
 ExitsDifferBy one other Lines = (one.pages ≡ other.pages) × (one.lines ≢ other.lines)
+
+-- a universal exit after the last page and without a line, as the last of a list or as none
+abbrev pub is_end : ℕ → List UniversalExit → Bool
+is_end pages (exit ∷ []) = nat_eq exit.pages pages && nat_eq (length exit.lines) 0
+is_end pages exits = false
+
+-- the exits that count, of a job with so many pages: all of them, or all but such a last one, which ends the job as its last byte does
+abbrev pub counted_exits : LastExit → ℕ → List UniversalExit → List UniversalExit
+counted_exits Counts pages exits = exits
+counted_exits Ends pages exits = if is_end pages (drop (length exits - 1) exits) then take (length exits - 1) exits else exits
+
+-- what is asked, of which those exits count
+abbrev pub counted : LastExit → Asks → Asks
+counted last asks = record asks { exits = counted_exits last (length asks.pages) asks.exits }
 
 -- ---- jobs
 

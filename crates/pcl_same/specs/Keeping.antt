@@ -8,9 +8,11 @@ use Rattle.pcl_page.specs.Asks.{asks_of}
 use Rattle.pcl_page.specs.Situation.{Sheet}
 use Rattle.pcl_page.specs.Jobs.{HasPagesBy, HasAsksBy}
 use Rattle.pcl_page.specs.Delivering.{IsRefusalBy}
+use Rattle.pcl_same.specs.declared.asking.LastExit.{LastExit}
+use Rattle.pcl_same.specs.declared.asking.LastExit.TheVariants.{Counts}
 use Rattle.pcl_same.specs.declared.comparison.AskedComparison.{AskedComparison}
 use Rattle.pcl_same.specs.declared.keeping.KeptJob.{KeptJob}
-use Rattle.pcl_same.specs.Comparing.{IsAskedComparisonBy}
+use Rattle.pcl_same.specs.Comparing.{IsComparisonCounting}
 use Rattle.pcl_same.specs.Kept.{KeepAll}
 
 -- a profile accepts the job, and its pages and what it asks of the printer are kept
@@ -26,8 +28,11 @@ KeepsJob profile dpi job (Ok kept) = IsKept profile dpi job kept
 KeepsJob profile dpi job (Err (Refused refusal)) = IsRefusalBy profile dpi job refusal
 KeepsJob profile dpi job (Err Memory) = Unit {0}
 
--- a second job beside the first, which is kept
+-- a second job beside the first, which is kept; a last exit without lines counts as any other, or is the end of the job
+abbrev pub IsCountedBeside : LastExit → Profile → Dpi → List ℕ → List ℕ → Result AskedComparison JobFault → Type 0
+IsCountedBeside last profile dpi first second (Ok comparison) = IsComparisonCounting last profile dpi first second comparison
+IsCountedBeside last profile dpi first second (Err (Refused refusal)) = IsRefusalBy profile dpi second refusal
+IsCountedBeside last profile dpi first second (Err Memory) = Unit {0}
+
 abbrev pub IsComparedBeside : Profile → Dpi → List ℕ → List ℕ → Result AskedComparison JobFault → Type 0
-IsComparedBeside profile dpi first second (Ok comparison) = IsAskedComparisonBy profile dpi first second comparison
-IsComparedBeside profile dpi first second (Err (Refused refusal)) = IsRefusalBy profile dpi second refusal
-IsComparedBeside profile dpi first second (Err Memory) = Unit {0}
+IsComparedBeside profile dpi first second answer = IsCountedBeside Counts profile dpi first second answer

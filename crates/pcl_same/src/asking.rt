@@ -1,22 +1,60 @@
 //! How what two jobs ask of the printer differs.
 
-ghost use Rattle.std.specs.Prelude.{◌≡◌, ◌≢◌, MatchOption, length, map};
+ghost use Rattle.std.specs.Prelude.{◌≡◌, ◌≢◌, ◌-◌, MatchOption, length, map, drop};
 ghost use Rattle.pcl_page.specs.Asks.{asks_of, exit_of};
-ghost use Rattle.pcl_same.specs.DifferingAsks.{IsFirstSetting, HaveSameSettings, IsAskedBy, ExitsDifferBy, AsksDifferBy};
+ghost use Rattle.pcl_same.specs.DifferingAsks.{IsFirstSetting, HaveSameSettings, IsAskedBy, ExitsDifferBy, AsksDifferBy, counted, counted_exits, is_end};
 ghost use Rattle.pcl_same.specs.inner.Asking.{IsSettingDifference, IsPageDifference, IsExitDifference};
 
 use crate::{AskedDifference, AsksDifference, ExitDifference, Setting, SettingDifference};
 use pcl_page::{AskedPage, Asks, Exit};
 
+/// What a universal exit counts for that stands after a job's last page, and has no lines, where it is the last one.
+#[derive(Clone, Copy, Debug, PartialEq, Eq)]
+pub enum LastExit {
+    /// As much as any other.
+    Counts,
+    /// It ends the job, as the last byte of one without it does.
+    Ends,
+}
+
+impl LastExit {
+    /// The universal exits of a job that count, of all that it has.
+    fn counted<'e, 'a>(self, asks: &'e Asks<'a>) -> &'e [Exit<'a>]
+        ensures { map exit_of result.now ≡ counted_exits self (length asks.now.pages.items) (map exit_of asks.now.exits.items) }
+    {
+        let exits = asks.exits.as_slice();
+        let count = match self {
+            LastExit::Ends if ends_job(exits, asks.pages.len()) => exits.len() - 1,
+            _ => exits.len(),
+        };
+        &exits[..count]
+    }
+}
+
+/// Whether the last of a job's universal exits stands after all its pages, and has no lines.
+fn ends_job(exits: &[Exit<'_>], pages: usize) -> bool
+    ensures { result ≡ is_end pages (drop (length exits.now - 1) (map exit_of exits.now)) }
+{
+    match exits.last() {
+        Some(last) => last.pages as usize == pages && last.lines.is_empty(),
+        None => false,
+    }
+}
+
 /// How what two jobs with as many pages ask of the printer differs, both at their end.
-pub fn asks_difference(first: &Asks<'_>, second: &Asks<'_>) -> Option<AsksDifference>
+pub fn asks_difference(
+    first: &Asks<'_>,
+    second: &Asks<'_>,
+    last: LastExit,
+) -> Option<AsksDifference>
     ensures { length first.now.pages.items ≡ length second.now.pages.items → first.now.next ≡ second.now.next
-        → MatchOption result (asks_of first.now ≡ asks_of second.now) (AsksDifferBy (asks_of first.now) (asks_of second.now)) }
+        → MatchOption result (counted last (asks_of first.now) ≡ counted last (asks_of second.now))
+            (AsksDifferBy (counted last (asks_of first.now)) (counted last (asks_of second.now))) }
 {
     if let Some(difference) = page_difference(&first.pages, &second.pages) {
         return Some(difference);
     }
-    if let Some(difference) = exits_difference(&first.exits, &second.exits) {
+    if let Some(difference) = exits_difference(last.counted(first), last.counted(second)) {
         return Some(difference);
     }
     if first.separation != second.separation {

@@ -3,10 +3,11 @@
 ghost use Rattle.std.specs.Prelude.{◌≡◌, ℕ, List, length, None};
 ghost use Rattle.pcl_page.specs.Asks.{asks_of};
 ghost use Rattle.pcl_same.specs.Comparing.{of_pages, CompareAsks};
-ghost use Rattle.pcl_same.specs.Keeping.{IsKept, IsComparedBeside};
+ghost use Rattle.pcl_same.specs.DifferingAsks.{counted};
+ghost use Rattle.pcl_same.specs.Keeping.{IsKept, IsComparedBeside, IsCountedBeside};
 ghost use Rattle.pcl_same.specs.inner.Pages.{IsFound, IsConcluded, comparison_of};
 
-use crate::asking::asks_difference;
+use crate::asking::{LastExit, asks_difference};
 use crate::keeping::{KeptJob, KeptPage};
 use crate::{AskedComparison, Difference, PagesDifference};
 use pcl_base::{Dpi, JobFault, Profile};
@@ -26,6 +27,20 @@ pub fn compare_kept(
 ) -> Result<AskedComparison, JobFault>
     ensures { (first : List ℕ) → IsKept profile dpi first kept.now → IsComparedBeside profile dpi first job.now result }
 {
+    compare_counting(alloc, kept, job, profile, dpi, LastExit::Counts)
+}
+
+/// The same, where a last universal exit without lines counts so.
+pub fn compare_counting(
+    alloc: Global,
+    kept: &KeptJob<'_>,
+    job: &[u8],
+    profile: Profile,
+    dpi: Dpi,
+    last: LastExit,
+) -> Result<AskedComparison, JobFault>
+    ensures { (first : List ℕ) → IsKept profile dpi first kept.now → IsCountedBeside last profile dpi first job.now result }
+{
     one_meaning();
     let mut comparer = Comparer {
         kept: &kept.pages,
@@ -33,19 +48,24 @@ pub fn compare_kept(
     };
     let asks = perform_asked(alloc, job, profile, dpi, &mut comparer)?;
     let pages = pages_difference(kept.pages.len(), &comparer.found);
-    Ok(conclude(pages, &kept.asks, &asks))
+    Ok(conclude(pages, &kept.asks, &asks, last))
 }
 
 /// What two jobs are found to be whose pages differ so, if they do, and which ask for this.
-fn conclude(pages: Option<PagesDifference>, first: &Asks<'_>, second: &Asks<'_>) -> AskedComparison
+fn conclude(
+    pages: Option<PagesDifference>,
+    first: &Asks<'_>,
+    second: &Asks<'_>,
+    last: LastExit,
+) -> AskedComparison
     ensures pages { of_pages result ≡ comparison_of pages }
     ensures asks { (pages ≡ None → length first.now.pages.items ≡ length second.now.pages.items) → first.now.next ≡ second.now.next
-        → CompareAsks (asks_of first.now) (asks_of second.now) result }
+        → CompareAsks (counted last (asks_of first.now)) (counted last (asks_of second.now)) result }
 {
     if let Some(difference) = pages {
         return AskedComparison::Pages(difference);
     }
-    match asks_difference(first, second) {
+    match asks_difference(first, second, last) {
         Some(difference) => AskedComparison::Asks(difference),
         None => AskedComparison::Same,
     }

@@ -2,8 +2,10 @@
 
 ghost use Rattle.std.specs.Prelude.{IfOk};
 ghost use Rattle.pcl_same.specs.Comparing.{AreReadBy, IsCompared, IsComparedAsked, IsComparedAskedBy};
+ghost use Rattle.pcl_same.specs.declared.asking.LastExit.TheVariants.{Ends};
 
-use crate::comparing::compare_kept;
+use crate::asking::LastExit;
+use crate::comparing::compare_counting;
 use crate::keeping::keep_job;
 use crate::{AskedComparison, Comparison, Job, SameFault};
 use pcl_base::{Dpi, Profile};
@@ -24,8 +26,8 @@ pub fn same(alloc: Global, first: &[u8], second: &[u8], dpi: Dpi) -> Result<Comp
 
 /// Whether two jobs print the same pages at a resolution and ask the same of the printer besides dots, and where not: how the pages
 /// differ is reported first, as by `same`, else the first page that is asked with another value of a setting, else a different
-/// number of universal exits, else the first of these that differs, and how. By which profile they are read, refusals, and what is held
-/// are those of `same`.
+/// number of universal exits, else the first of these that differs, and how. A last exit after all pages and without lines is the end of
+/// the job, as none at all. By which profile they are read, refusals, and what is held are those of `same`.
 pub fn same_asked(
     alloc: Global,
     first: &[u8],
@@ -48,13 +50,13 @@ fn same_by(
     profile: Profile,
     dpi: Dpi,
 ) -> Result<AskedComparison, SameFault>
-    ensures { IsComparedAskedBy profile dpi first.now second.now result }
+    ensures { IsComparedAskedBy Ends profile dpi first.now second.now result }
 {
     let kept = match keep_job(alloc, first, profile, dpi) {
         Ok(kept) => kept,
         Err(fault) => return Err(SameFault::of(Job::First, fault)),
     };
-    match compare_kept(alloc, &kept, second, profile, dpi) {
+    match compare_counting(alloc, &kept, second, profile, dpi, LastExit::Ends) {
         Ok(comparison) => Ok(comparison),
         Err(fault) => Err(SameFault::of(Job::Second, fault)),
     }

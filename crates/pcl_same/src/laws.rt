@@ -4,6 +4,7 @@ ghost use Rattle.std.specs.Prelude.{◌≡◌, ◌≢◌, ℕ, List, Result, Err
 ghost use Rattle.pcl_base.specs.declared.dpi.Dpi.{Dpi};
 ghost use Rattle.pcl_base.specs.declared.profile.Profile.{Profile};
 ghost use Rattle.pcl_same.specs.Comparing.{IsCompared, IsComparedAsked, IsComparedAskedBy};
+ghost use Rattle.pcl_same.specs.declared.asking.LastExit.{LastExit};
 ghost use Rattle.pcl_same.specs.declared.comparison.AskedComparison.{AskedComparison};
 ghost use Rattle.pcl_same.specs.declared.comparison.Comparison.{Comparison};
 ghost use Rattle.pcl_same.specs.declared.fault.SameFault.{SameFault};
@@ -22,11 +23,11 @@ pub fn one_answer()
 }
 
 /// Two jobs have one answer at most with what they ask of the printer, out of memory aside: it is `Same` exactly where they have the
-/// same pages and ask for the same, and a job is refused exactly where the answer says so; so it is by each profile. A law: the call does
-/// nothing.
+/// same pages and ask for the same, and a job is refused exactly where the answer says so; so it is by each profile, whatever a last
+/// universal exit counts for. A law: the call does nothing.
 pub fn one_asked_answer()
-    ensures by { (profile : Profile) (dpi : Dpi) (first second : List ℕ) (answer other : Result AskedComparison SameFault)
-        → IsComparedAskedBy profile dpi first second answer → IsComparedAskedBy profile dpi first second other
+    ensures by { (last : LastExit) (profile : Profile) (dpi : Dpi) (first second : List ℕ) (answer other : Result AskedComparison SameFault)
+        → IsComparedAskedBy last profile dpi first second answer → IsComparedAskedBy last profile dpi first second other
         → answer ≢ Err Memory → other ≢ Err Memory → answer ≡ other }
     ensures answer { (dpi : Dpi) (first second : List ℕ) (answer other : Result AskedComparison SameFault)
         → IsComparedAsked dpi first second answer → IsComparedAsked dpi first second other → answer ≢ Err Memory → other ≢ Err Memory

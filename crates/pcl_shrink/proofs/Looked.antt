@@ -2,12 +2,13 @@
 use Rattle.std.proofs.Common.{◌≡◌, ◌≢◌, ℕ, List, Bool, true, false, Decides, Option, Some, Result, Ok, Err, refl, subst}
 use Rattle.pcl_shrink.proofs.Names.{Profile, false≢true, Dpi, JobFault, Refusal, IsRefusalBy, AskedComparison, Same, Second, SameFault, IsAskedComparisonBy, IsComparedAskedBy, IsComparedBeside, IsSameAt, SaysIfSame, SaysIfSameAt}
 use Rattle.pcl_base.specs.declared.fault.JobFault.TheVariants as faults
+use Rattle.pcl_same.specs.declared.asking.LastExit.TheVariants.{Counts}
 use Rattle.pcl_same.specs.declared.fault.SameFault.TheVariants.{Refused, Memory}
 
 -- by a profile two jobs have one answer
 abbrev pub OneAnswer : Profile → Type 0
 OneAnswer profile = (dpi : Dpi) (first second : List ℕ) (answer other : Result AskedComparison SameFault)
-    → IsComparedAskedBy profile dpi first second answer → IsComparedAskedBy profile dpi first second other → answer ≢ Err Memory
+    → IsComparedAskedBy Counts profile dpi first second answer → IsComparedAskedBy Counts profile dpi first second other → answer ≢ Err Memory
     → other ≢ Err Memory → answer ≡ other
 
 -- another answer was found
