@@ -91,7 +91,7 @@ abbrev pub is_end : ℕ → List UniversalExit → Bool
 is_end pages (exit ∷ []) = nat_eq exit.pages pages && nat_eq (length exit.lines) 0
 is_end pages exits = false
 
--- the exits that count, of a job with so many pages: all of them, or all but such a last one, which ends the job as its last byte does
+-- the exits that count, of a job with this many pages: all of them, or all but such a last one, which ends the job as its last byte does
 abbrev pub counted_exits : LastExit → ℕ → List UniversalExit → List UniversalExit
 counted_exits Counts pages exits = exits
 counted_exits Ends pages exits = if is_end pages (drop (length exits - 1) exits) then take (length exits - 1) exits else exits
