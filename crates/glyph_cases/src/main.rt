@@ -7,7 +7,7 @@
 #![tactic(auto)]
 
 use itoa::Buffer;
-use pcl_base::{Dpi, JobFault};
+use pcl_base::{Dpi, JobFault, Profile};
 use pcl_shrink::{Readers, shrink};
 use std::alloc::{AllocError, Global};
 use std::io;
@@ -555,7 +555,7 @@ fn print_outcome<R: Print + AllocGlobal>(
     job: &[u8],
     dpi: Dpi,
 ) -> io::Result<()> {
-    match shrink(rt.alloc(), job, dpi, Readers::Profile) {
+    match shrink(rt.alloc(), job, Profile::Drivers, dpi, Readers::Profile) {
         Ok(shrunk) => {
             println!(rt;
                 "{name}: {:?}, {} to {}",

@@ -1,10 +1,10 @@
 -- Comparisons with what is asked, and without.
-use Rattle.pcl_answers.proofs.Names.{List, ℕ, Bool, true, false, Dpi, AskedComparison, Same, Pages, Asks, IsComparison, IsAskedComparison, of_pages, IsComparisonFor}
+use Rattle.pcl_answers.proofs.Names.{List, ℕ, Bool, true, false, Profile, Dpi, AskedComparison, Same, Pages, Asks, IsComparison, IsAskedComparison, of_pages, IsComparisonFor}
 
 -- what holds with what is asked holds of the pages
-pub pages_alone : (dpi : Dpi) (first second : List ℕ) (comparison : AskedComparison) → IsAskedComparison dpi first second comparison
-    → IsComparison dpi first second (of_pages comparison)
-pages_alone dpi first second comparison (profile, read, a) = (
+pub pages_alone : (widest : Profile) (dpi : Dpi) (first second : List ℕ) (comparison : AskedComparison)
+    → IsAskedComparison widest dpi first second comparison → IsComparison widest dpi first second (of_pages comparison)
+pages_alone widest dpi first second comparison (profile, read, a) = (
   profile,
   read,
   record {
@@ -16,9 +16,9 @@ pages_alone dpi first second comparison (profile, read, a) = (
   },
 )
 
-pub by_pages : (asks : Bool) (dpi : Dpi) (first second : List ℕ) (comparison : AskedComparison)
-    → IsComparisonFor asks dpi first second comparison → IsComparison dpi first second (of_pages comparison)
-by_pages true dpi first second comparison a = pages_alone dpi first second comparison a
-by_pages false dpi first second (Asks difference) a = absurd a
-by_pages false dpi first second Same a = a
-by_pages false dpi first second (Pages difference) a = a
+pub by_pages : (asks : Bool) (widest : Profile) (dpi : Dpi) (first second : List ℕ) (comparison : AskedComparison)
+    → IsComparisonFor asks widest dpi first second comparison → IsComparison widest dpi first second (of_pages comparison)
+by_pages true widest dpi first second comparison a = pages_alone widest dpi first second comparison a
+by_pages false widest dpi first second (Asks difference) a = absurd a
+by_pages false widest dpi first second Same a = a
+by_pages false widest dpi first second (Pages difference) a = a

@@ -3,6 +3,7 @@ use Rattle.std.proofs.Common.{◌≡◌, ◌≢◌, ℕ, List, Bool, Result, Ok,
 use Rattle.pcl_answers.proofs.Names.{AskedComparison, AreComparedAt, IsComparisonFor, IsFiner}
 use Rattle.pcl_base.specs.declared.dpi.Dpi.{Dpi}
 use Rattle.pcl_base.specs.declared.dpi.Dpi.TheVariants.{Dpi300, Dpi600}
+use Rattle.pcl_base.specs.declared.profile.Profile.{Profile}
 use Rattle.pcl_base.specs.declared.refusal.Refusal.{Refusal}
 use Rattle.pcl_files.specs.Resolutions.{IsFirstCommon}
 use Rattle.pcl_request.specs.declared.request.Resolution.TheVariants.{FirstAccepted}
@@ -13,22 +14,22 @@ use Rattle.pcl_same.specs.declared.fault.Job.TheVariants.{First, Second}
 use Rattle.pcl_same.specs.declared.fault.SameFault.TheVariants.{Refused}
 
 -- they are the same at 300
-pub finer_there : {E : Type 0} (asks : Bool) (first second : List ℕ) (result : Result Dpi E)
-    → IsComparisonFor asks Dpi300 first second asked.Same → IfOk result (λ dpi. IsFiner first second dpi)
-    → IfOk result (λ dpi. IsFirstCommon first second Dpi300 → AreComparedAt FirstAccepted asks first second dpi)
-finer_there asks first second (Ok Dpi600) same finer = λ common. inr (common, same, finer)
-finer_there asks first second (Ok Dpi300) same finer = λ common. (common, inr finer)
-finer_there asks first second (Err fault) same finer = tt
+pub finer_there : {E : Type 0} (asks : Bool) (widest : Profile) (first second : List ℕ) (result : Result Dpi E)
+    → IsComparisonFor asks widest Dpi300 first second asked.Same → IfOk result (λ dpi. IsFiner widest first second dpi)
+    → IfOk result (λ dpi. IsFirstCommon widest first second Dpi300 → AreComparedAt FirstAccepted asks widest first second dpi)
+finer_there asks widest first second (Ok Dpi600) same finer = λ common. inr (common, same, finer)
+finer_there asks widest first second (Ok Dpi300) same finer = λ common. (common, inr finer)
+finer_there asks widest first second (Err fault) same finer = tt
 
 -- they aren't
-pub unlike_there : (asks : Bool) (first second : List ℕ) (comparison : AskedComparison) → comparison ≢ asked.Same
-    → IsComparisonFor asks Dpi300 first second comparison → IsFirstCommon first second Dpi300
-    → AreComparedAt FirstAccepted asks first second Dpi300
-unlike_there asks first second comparison unlike is common = (common, inl (inl (comparison, unlike, is)))
+pub unlike_there : (asks : Bool) (widest : Profile) (first second : List ℕ) (comparison : AskedComparison) → comparison ≢ asked.Same
+    → IsComparisonFor asks widest Dpi300 first second comparison → IsFirstCommon widest first second Dpi300
+    → AreComparedAt FirstAccepted asks widest first second Dpi300
+unlike_there asks widest first second comparison unlike is common = (common, inl (inl (comparison, unlike, is)))
 
 -- one of them is refused there
-pub refused_there : (asks : Bool) (first second : List ℕ) (which : Job) (refusal : Refusal)
-    → IsCompared Dpi300 first second (Err (Refused which refusal)) → IsFirstCommon first second Dpi300
-    → AreComparedAt FirstAccepted asks first second Dpi300
-refused_there asks first second First refusal is common = (common, inl (inr (inl (refusal, is.1))))
-refused_there asks first second Second refusal is common = (common, inl (inr (inr (refusal, is.1.2))))
+pub refused_there : (asks : Bool) (widest : Profile) (first second : List ℕ) (which : Job) (refusal : Refusal)
+    → IsCompared widest Dpi300 first second (Err (Refused which refusal)) → IsFirstCommon widest first second Dpi300
+    → AreComparedAt FirstAccepted asks widest first second Dpi300
+refused_there asks widest first second First refusal is common = (common, inl (inr (inl (refusal, is.1))))
+refused_there asks widest first second Second refusal is common = (common, inl (inr (inr (refusal, is.1.2))))

@@ -54,17 +54,20 @@ is_there {number = number} {page = page} n h =
 
 -- ---- two jobs
 
-read_apart : {dpi : Dpi} {first second : List ℕ} → AreReadBy Stated dpi first second → AreReadBy Drivers dpi first second → ⊥
+read_apart : {dpi : Dpi} {first second : List ℕ} → AreReadBy Drivers Stated dpi first second → AreReadBy Drivers Drivers dpi first second
+    → ⊥
 read_apart {dpi} {first} {second} both (inl refused) = not_refused dpi first refused.0 both.0.1 refused.1
 read_apart {dpi} {first} {second} both (inr refused) = not_refused dpi second refused.0 both.1.1 refused.1
 
 -- two jobs are read by one profile
-one_read : (profile other : Profile) (dpi : Dpi) (first second : List ℕ) → AreReadBy profile dpi first second
-    → AreReadBy other dpi first second → profile ≡ other
-one_read Stated Stated dpi first second r s = refl
-one_read Drivers Drivers dpi first second r s = refl
-one_read Stated Drivers dpi first second r s = absurd (read_apart r s)
-one_read Drivers Stated dpi first second r s = absurd (read_apart s r)
+one_read : (widest profile other : Profile) (dpi : Dpi) (first second : List ℕ) → AreReadBy widest profile dpi first second
+    → AreReadBy widest other dpi first second → profile ≡ other
+one_read widest Stated Stated dpi first second r s = refl
+one_read widest Drivers Drivers dpi first second r s = refl
+one_read Drivers Stated Drivers dpi first second r s = absurd (read_apart r s)
+one_read Drivers Drivers Stated dpi first second r s = absurd (read_apart s r)
+one_read Stated Stated Drivers dpi first second r s = absurd s
+one_read Stated Drivers Stated dpi first second r s = absurd r
 
 -- the pages of this number, of one size
 pub record BothNumber (profile : Profile) (dpi : Dpi) (first second : List ℕ) (number : ℕ) : Type 0 where
@@ -74,10 +77,11 @@ pub record BothNumber (profile : Profile) (dpi : Dpi) (first second : List ℕ) 
   pub other_is : Numbers profile dpi second number other
   size : page.size ≡ other.size
 
-pub both_number : (profile : Profile) (dpi : Dpi) (first second : List ℕ) (number : ℕ) → AreReadBy profile dpi first second
-    → DifferInDots dpi first second number → BothNumber profile dpi first second number
-both_number profile dpi first second number read d =
-    let c = subst (λ (it : Profile). IsComparisonBy it dpi first second (Page number (Dot d.0 d.1))) (one_read d.2.0 profile dpi first second d.2.1 read) d.2.2 in
+pub both_number : (widest profile : Profile) (dpi : Dpi) (first second : List ℕ) (number : ℕ) → AreReadBy widest profile dpi first second
+    → DifferInDots widest dpi first second number → BothNumber profile dpi first second number
+both_number widest profile dpi first second number read d =
+    let c = subst (λ (it : Profile). IsComparisonBy it dpi first second (Page number (Dot d.0 d.1)))
+    (one_read widest d.2.0 profile dpi first second d.2.1 read) d.2.2 in
     let f = c.compare.1 in
     record {
       page = f.page;
@@ -97,17 +101,17 @@ both_number profile dpi first second number read d =
       size = f.differ.0;
     }
 
-pub page_fails : {profile : Profile} (dpi : Dpi) (job first second : List ℕ) (number : ℕ) {page : Sheet} (fault : Fault)
+pub page_fails : {profile : Profile} (widest : Profile) (dpi : Dpi) (job first second : List ℕ) (number : ℕ) {page : Sheet} (fault : Fault)
     → Numbers profile dpi job number page
-    → IsPageDots profile dpi job number (Err fault) → IsDifferingPage dpi first second number (Err fault)
-page_fails dpi job first second number Memory n p = tt
-page_fails dpi job first second number (Refused refusal) n p = absurd (not_refused dpi job refusal n.meaning p)
-page_fails dpi job first second number NoSuchPage n p = absurd (is_there n p)
-page_fails dpi job first second number other n p = absurd p
+    → IsPageDots profile dpi job number (Err fault) → IsDifferingPage widest dpi first second number (Err fault)
+page_fails widest dpi job first second number Memory n p = tt
+page_fails widest dpi job first second number (Refused refusal) n p = absurd (not_refused dpi job refusal n.meaning p)
+page_fails widest dpi job first second number NoSuchPage n p = absurd (is_there n p)
+page_fails widest dpi job first second number other n p = absurd p
 
-pub same_size : (profile : Profile) (dpi : Dpi) (first second : List ℕ) (number : ℕ) {one other : Picture}
-    → AreReadBy profile dpi first second → DifferInDots dpi first second number → HasPage profile dpi first number one
+pub same_size : (widest profile : Profile) (dpi : Dpi) (first second : List ℕ) (number : ℕ) {one other : Picture}
+    → AreReadBy widest profile dpi first second → DifferInDots widest dpi first second number → HasPage profile dpi first number one
     → HasPage profile dpi second number other → (one.size ≡ other.size) × (one.dpi ≡ other.dpi)
-same_size profile dpi first second number read d p q =
-    let both = both_number profile dpi first second number read d in
+same_size widest profile dpi first second number read d p q =
+    let both = both_number widest profile dpi first second number read d in
     let one_is = has_size both.page_is p in let other_is = has_size both.other_is q in (cc both.size, cc)

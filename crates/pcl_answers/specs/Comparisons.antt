@@ -3,6 +3,7 @@ use Rattle.std.specs.Prelude.{◌≡◌, ◌≢◌, ◌⊎◌, ℕ, Bool, true, 
 use Rattle.std.specs.Global.{Vec}
 use Rattle.std.specs.Io.KnownBytes.{Appends, Keeps}
 use Rattle.pcl_base.specs.declared.dpi.Dpi.{Dpi}
+use Rattle.pcl_base.specs.declared.profile.Profile.{Profile}
 use Rattle.pcl_base.specs.declared.refusal.Refusal.{Refusal}
 use Rattle.pcl_streams.specs.declared.fault.Fault.{Fault}
 use Rattle.pcl_streams.specs.declared.fault.Fault.TheVariants as fault
@@ -31,35 +32,37 @@ compare_fault_of (same.Refused which refusal) = Refused which refusal
 compare_fault_of same.Memory = Failed fault.Memory
 
 -- how two jobs compare, with what they ask where that is wanted, and else by their pages alone
-abbrev pub IsComparisonFor : (asks : Bool) → Dpi → (first second : List ℕ) → AskedComparison → Type 0
-IsComparisonFor true dpi first second comparison = IsAskedComparison dpi first second comparison
-IsComparisonFor false dpi first second (asked.Asks difference) = ⊥
-IsComparisonFor false dpi first second comparison = IsComparison dpi first second (of_pages comparison)
+abbrev pub IsComparisonFor : (asks : Bool) → (widest : Profile) → Dpi → (first second : List ℕ) → AskedComparison → Type 0
+IsComparisonFor true widest dpi first second comparison = IsAskedComparison widest dpi first second comparison
+IsComparisonFor false widest dpi first second (asked.Asks difference) = ⊥
+IsComparisonFor false widest dpi first second comparison = IsComparison widest dpi first second (of_pages comparison)
 
-abbrev pub IsComparedFor : (asks : Bool) → Dpi → (first second : List ℕ) → Result AskedComparison SameFault → Type 0
-IsComparedFor asks dpi first second (Ok comparison) = IsComparisonFor asks dpi first second comparison
-IsComparedFor asks dpi first second (Err fault) = IsCompared dpi first second (Err fault)
+abbrev pub IsComparedFor : (asks : Bool) → (widest : Profile) → Dpi → (first second : List ℕ) → Result AskedComparison SameFault → Type 0
+IsComparedFor asks widest dpi first second (Ok comparison) = IsComparisonFor asks widest dpi first second comparison
+IsComparedFor asks widest dpi first second (Err fault) = IsCompared widest dpi first second (Err fault)
 
 -- two jobs aren't the same at a resolution, or one is refused there
-abbrev pub AreUnlike : (asks : Bool) → Dpi → (first second : List ℕ) → Type 0
-AreUnlike asks dpi first second =
-    ((comparison : AskedComparison) × (comparison ≢ asked.Same) × IsComparisonFor asks dpi first second comparison)
-    ⊎ IsOneRefused dpi first second
+abbrev pub AreUnlike : (asks : Bool) → (widest : Profile) → Dpi → (first second : List ℕ) → Type 0
+AreUnlike asks widest dpi first second =
+    ((comparison : AskedComparison) × (comparison ≢ asked.Same) × IsComparisonFor asks widest dpi first second comparison)
+    ⊎ IsOneRefused widest dpi first second
 
 -- 600 dots per inch where both are accepted there, else 300
-abbrev pub IsFiner : (first second : List ℕ) → Dpi → Type 0
-IsFiner first second Dpi600 = AreBothAccepted Dpi600 first second
-IsFiner first second Dpi300 = IsOneRefused Dpi600 first second
+abbrev pub IsFiner : (widest : Profile) → (first second : List ℕ) → Dpi → Type 0
+IsFiner widest first second Dpi600 = AreBothAccepted widest Dpi600 first second
+IsFiner widest first second Dpi300 = IsOneRefused widest Dpi600 first second
 
 -- two jobs are compared at the resolution that is asked for; or at the first at which both are accepted, and at 600 dots per inch where
 -- they are the same at 300 and both are accepted there too
-abbrev pub AreComparedAt : Resolution → (asks : Bool) → (first second : List ℕ) → Dpi → Type 0
-AreComparedAt (Given dpi) asks first second at = at ≡ dpi
-AreComparedAt FirstAccepted asks first second Dpi300 =
-    IsFirstCommon first second Dpi300 × (AreUnlike asks Dpi300 first second ⊎ IsOneRefused Dpi600 first second)
-AreComparedAt FirstAccepted asks first second Dpi600 =
-    IsFirstCommon first second Dpi600
-    ⊎ (IsFirstCommon first second Dpi300 × IsComparisonFor asks Dpi300 first second asked.Same × AreBothAccepted Dpi600 first second)
+abbrev pub AreComparedAt : Resolution → (asks : Bool) → (widest : Profile) → (first second : List ℕ) → Dpi → Type 0
+AreComparedAt (Given dpi) asks widest first second at = at ≡ dpi
+AreComparedAt FirstAccepted asks widest first second Dpi300 =
+    IsFirstCommon widest first second Dpi300
+    × (AreUnlike asks widest Dpi300 first second ⊎ IsOneRefused widest Dpi600 first second)
+AreComparedAt FirstAccepted asks widest first second Dpi600 =
+    IsFirstCommon widest first second Dpi600
+    ⊎ (IsFirstCommon widest first second Dpi300 × IsComparisonFor asks widest Dpi300 first second asked.Same
+    × AreBothAccepted widest Dpi600 first second)
 
 -- the bytes of the two files, each of the one that is asked for by its name
 pub record BothRead {F : Type 0} (acts : F → FileAct → F → Type 0) (files : F) (asked : ComparedFiles) (first second : Vec ℕ) : Type 0 where
@@ -78,19 +81,21 @@ pub record AreFilesSeen {F : Type 0} (acts : F → FileAct → F → Type 0) (fi
   pub second : Vec ℕ
   pub read : BothRead acts files asked first second
   pub dpi : Dpi
-  pub seen : AreComparedAt asked.resolution asked.asks first.items second.items dpi
+  pub seen : AreComparedAt asked.resolution asked.asks asked.profile first.items second.items dpi
 
 -- the first of the two jobs that is refused is so
 abbrev pub IsRefusedOf : {F : Type 0} → (F → FileAct → F → Type 0) → F → ComparedFiles → Job → Refusal → Type 0
 IsRefusedOf acts files asked which refusal =
-    (seen : AreFilesSeen acts files asked) × IsCompared seen.dpi seen.first.items seen.second.items (Err (same.Refused which refusal))
+    (seen : AreFilesSeen acts files asked)
+    × IsCompared asked.profile seen.dpi seen.first.items seen.second.items (Err (same.Refused which refusal))
 
 -- the comparison is right of the bytes of the two files, and this becomes of the image
 abbrev pub IsComparedAndDrawn : {F : Type 0} → (F → FileAct → F → Type 0) → ComparedFiles → (files kept : F) → AskedComparison
     → Result (Unit {0}) Fault → Type 0
 IsComparedAndDrawn acts asked files kept comparison drawn =
-    (seen : AreFilesSeen acts files asked) × IsComparisonFor asked.asks seen.dpi seen.first.items seen.second.items comparison
-    × IsImageDrawn acts asked.image seen.dpi seen.first.items seen.second.items (of_pages comparison) files kept drawn
+    (seen : AreFilesSeen acts files asked)
+    × IsComparisonFor asked.asks asked.profile seen.dpi seen.first.items seen.second.items comparison
+    × IsImageDrawn acts asked.image asked.profile seen.dpi seen.first.items seen.second.items (of_pages comparison) files kept drawn
 
 -- The image that is asked for is drawn, and then the line of the comparison is written: nothing where a fault came before, and a
 -- prefix of the line where its write failed. No file is made but for the image.

@@ -23,13 +23,13 @@ dotted_page (Page number (Dot x y)) = Some number
 dotted_page other = None
 
 -- the jobs compare so that the pages of this number are the first that differ, in a dot
-abbrev pub DifferInDots : Dpi → (first second : List ℕ) → ℕ → Type 0
-DifferInDots dpi first second number = (x y : ℕ) × IsComparison dpi first second (Page number (Dot x y))
+abbrev pub DifferInDots : (widest : Profile) → Dpi → (first second : List ℕ) → ℕ → Type 0
+DifferInDots widest dpi first second number = (x y : ℕ) × IsComparison widest dpi first second (Page number (Dot x y))
 
 -- an image that is black exactly where the pages of this number differ
-pub record IsDifferenceOf (dpi : Dpi) (first second : List ℕ) (number : ℕ) (image : Picture) : Type 0 where
+pub record IsDifferenceOf (widest : Profile) (dpi : Dpi) (first second : List ℕ) (number : ℕ) (image : Picture) : Type 0 where
   pub profile : Profile
-  pub read : AreReadBy profile dpi first second
+  pub read : AreReadBy widest profile dpi first second
   pub one : Picture
   pub one_is : HasPage profile dpi first number one
   pub other : Picture
@@ -37,15 +37,15 @@ pub record IsDifferenceOf (dpi : Dpi) (first second : List ℕ) (number : ℕ) (
   pub image_is : IsDifference one other image
 
 -- that image, or memory ran out
-abbrev pub IsDifferingPage : Dpi → (first second : List ℕ) → ℕ → Result Picture Fault → Type 0
-IsDifferingPage dpi first second number (Ok image) = IsDifferenceOf dpi first second number image
-IsDifferingPage dpi first second number (Err Memory) = Unit {0}
-IsDifferingPage dpi first second number (Err ReadFault) = ⊥
-IsDifferingPage dpi first second number (Err TooLong) = ⊥
-IsDifferingPage dpi first second number (Err CertificateTooLong) = ⊥
-IsDifferingPage dpi first second number (Err WriteFault) = ⊥
-IsDifferingPage dpi first second number (Err NoSuchPage) = ⊥
-IsDifferingPage dpi first second number (Err (Refused refusal)) = ⊥
+abbrev pub IsDifferingPage : (widest : Profile) → Dpi → (first second : List ℕ) → ℕ → Result Picture Fault → Type 0
+IsDifferingPage widest dpi first second number (Ok image) = IsDifferenceOf widest dpi first second number image
+IsDifferingPage widest dpi first second number (Err Memory) = Unit {0}
+IsDifferingPage widest dpi first second number (Err ReadFault) = ⊥
+IsDifferingPage widest dpi first second number (Err TooLong) = ⊥
+IsDifferingPage widest dpi first second number (Err CertificateTooLong) = ⊥
+IsDifferingPage widest dpi first second number (Err WriteFault) = ⊥
+IsDifferingPage widest dpi first second number (Err NoSuchPage) = ⊥
+IsDifferingPage widest dpi first second number (Err (Refused refusal)) = ⊥
 
 -- a file is begun for this name, gets the image, and is settled; or it can't be begun
 abbrev pub IsImageMade : {F : Type 0} → (F → FileAct → F → Type 0) → List ℕ → Picture → (files kept : F) → Result (Unit {0}) Fault → Type 0
@@ -55,15 +55,15 @@ IsImageMade {F} acts name image files kept done =
     × IsImageWritten held holds image written × IsSettled acts name holds written begun kept done)
 
 -- where no image is asked for, or no page differs in dots first, no file is begun; memory may run out before one is
-abbrev pub IsImageDrawnTo : {F : Type 0} → (F → FileAct → F → Type 0) → Option (Bor (List ℕ)) → Option ℕ → Dpi → (first second : List ℕ)
-    → (files kept : F) → Result (Unit {0}) Fault → Type 0
-IsImageDrawnTo acts (Some name) (Some number) dpi first second files kept done =
+abbrev pub IsImageDrawnTo : {F : Type 0} → (F → FileAct → F → Type 0) → Option (Bor (List ℕ)) → Option ℕ → (widest : Profile) → Dpi
+    → (first second : List ℕ) → (files kept : F) → Result (Unit {0}) Fault → Type 0
+IsImageDrawnTo acts (Some name) (Some number) widest dpi first second files kept done =
     ((kept ≡ files) × (done ≡ Err Memory))
-    ⊎ ((image : Picture) × IsDifferenceOf dpi first second number image × IsImageMade acts name.now image files kept done)
-IsImageDrawnTo acts name number dpi first second files kept done = (kept ≡ files) × (done ≡ Ok tt)
+    ⊎ ((image : Picture) × IsDifferenceOf widest dpi first second number image × IsImageMade acts name.now image files kept done)
+IsImageDrawnTo acts name number widest dpi first second files kept done = (kept ≡ files) × (done ≡ Ok tt)
 
 -- what becomes of the image of a comparison
-abbrev pub IsImageDrawn : {F : Type 0} → (F → FileAct → F → Type 0) → Option (Bor (List ℕ)) → Dpi → (first second : List ℕ) → Comparison
-    → (files kept : F) → Result (Unit {0}) Fault → Type 0
-IsImageDrawn acts name dpi first second comparison files kept done =
-    IsImageDrawnTo acts name (dotted_page comparison) dpi first second files kept done
+abbrev pub IsImageDrawn : {F : Type 0} → (F → FileAct → F → Type 0) → Option (Bor (List ℕ)) → (widest : Profile) → Dpi
+    → (first second : List ℕ) → Comparison → (files kept : F) → Result (Unit {0}) Fault → Type 0
+IsImageDrawn acts name widest dpi first second comparison files kept done =
+    IsImageDrawnTo acts name (dotted_page comparison) widest dpi first second files kept done

@@ -10,7 +10,7 @@ ghost use Rattle.pcl_answers.specs.Comparisons.{compare_fault_of, AreComparedAt,
 
 use crate::comparison_lines::comparison_line;
 use crate::difference_images::draw_difference;
-use pcl_base::{Dpi, Refusal};
+use pcl_base::{Dpi, Profile, Refusal};
 use pcl_files::{JobFiles, are_accepted, read_file, resolve_both};
 use pcl_request::{ComparedFiles, Resolution};
 use pcl_same::{AskedComparison, Job, SameFault, same_asked};
@@ -67,10 +67,19 @@ pub fn compare<F: JobFiles, W: Write>(
     let first = read_file(files, alloc, asked.first)?;
     let second = read_file(files, alloc, asked.second)?;
     let dpi = compared_at(alloc, asked, &first, &second)?;
-    let comparison = compare_jobs(alloc, asked.asks, &first, &second, dpi)?;
+    let comparison = compare_jobs(alloc, asked.asks, &first, &second, asked.profile, dpi)?;
     let line = comparison_line(alloc, &comparison)?;
     let pages = comparison.of_pages();
-    draw_difference(files, alloc, asked.image, &first, &second, dpi, &pages)?;
+    draw_difference(
+        files,
+        alloc,
+        asked.image,
+        &first,
+        &second,
+        asked.profile,
+        dpi,
+        &pages,
+    )?;
     write_all(out, &line)?;
     Ok(comparison)
 }
@@ -83,22 +92,30 @@ fn compared_at(
     first: &[u8],
     second: &[u8],
 ) -> Result<Dpi, AllocError>
-    ensures { IfOk result (λ dpi. AreComparedAt asked.entry.resolution asked.entry.asks first.now second.now dpi) }
+    ensures { IfOk result (λ dpi. AreComparedAt asked.entry.resolution asked.entry.asks asked.entry.profile first.now second.now dpi) }
 {
-    let dpi = resolve_both(alloc, asked.resolution, first, second)?;
+    let dpi = resolve_both(alloc, asked.resolution, asked.profile, first, second)?;
     match (asked.resolution, dpi) {
-        (Resolution::FirstAccepted, Dpi::Dpi300) => finest(alloc, asked.asks, first, second),
+        (Resolution::FirstAccepted, Dpi::Dpi300) => {
+            finest(alloc, asked.asks, first, second, asked.profile)
+        }
         _ => Ok(dpi),
     }
 }
 
 /// The same of jobs that are accepted at 300 dots per inch, or at neither.
-fn finest(alloc: Global, asks: bool, first: &[u8], second: &[u8]) -> Result<Dpi, AllocError>
-    ensures { IfOk result (λ dpi. IsFirstCommon first.now second.now Dpi300
-        → AreComparedAt FirstAccepted asks first.now second.now dpi) }
+fn finest(
+    alloc: Global,
+    asks: bool,
+    first: &[u8],
+    second: &[u8],
+    widest: Profile,
+) -> Result<Dpi, AllocError>
+    ensures { IfOk result (λ dpi. IsFirstCommon widest first.now second.now Dpi300
+        → AreComparedAt FirstAccepted asks widest first.now second.now dpi) }
 {
-    match compare_jobs(alloc, asks, first, second, Dpi::Dpi300) {
-        Ok(AskedComparison::Same) => finer(alloc, first, second),
+    match compare_jobs(alloc, asks, first, second, widest, Dpi::Dpi300) {
+        Ok(AskedComparison::Same) => finer(alloc, first, second, widest),
         Ok(AskedComparison::Pages(_)) => Ok(Dpi::Dpi300),
         Ok(AskedComparison::Asks(_)) => Ok(Dpi::Dpi300),
         Err(SameFault::Refused { .. }) => Ok(Dpi::Dpi300),
@@ -107,27 +124,29 @@ fn finest(alloc: Global, asks: bool, first: &[u8], second: &[u8]) -> Result<Dpi,
 }
 
 /// 600 dots per inch where both jobs are accepted there, else 300.
-fn finer(alloc: Global, first: &[u8], second: &[u8]) -> Result<Dpi, AllocError>
-    ensures { IfOk result (λ dpi. IsFiner first.now second.now dpi) }
+fn finer(alloc: Global, first: &[u8], second: &[u8], widest: Profile) -> Result<Dpi, AllocError>
+    ensures { IfOk result (λ dpi. IsFiner widest first.now second.now dpi) }
 {
-    if are_accepted(alloc, first, second, Dpi::Dpi600)? {
+    if are_accepted(alloc, first, second, widest, Dpi::Dpi600)? {
         Ok(Dpi::Dpi600)
     } else {
         Ok(Dpi::Dpi300)
     }
 }
 
-/// How two jobs compare. What they ask of the printer counts only where that is wanted.
+/// How two jobs compare. They are read by the widest profile that is given, but by the stated one where that accepts both; what they ask
+/// of the printer counts only where that is wanted.
 pub fn compare_jobs(
     alloc: Global,
     asks: bool,
     first: &[u8],
     second: &[u8],
+    widest: Profile,
     dpi: Dpi,
 ) -> Result<AskedComparison, SameFault>
-    ensures { IsComparedFor asks dpi first.now second.now result }
+    ensures { IsComparedFor asks widest dpi first.now second.now result }
 {
-    match same_asked(alloc, first, second, dpi) {
+    match same_asked(alloc, first, second, widest, dpi) {
         Ok(AskedComparison::Asks(_)) if !asks => Ok(AskedComparison::Same),
         Ok(comparison) => Ok(comparison),
         Err(fault) => Err(fault),

@@ -4,7 +4,7 @@ ghost use Rattle.std.specs.Prelude.{◌≡◌, ℕ};
 ghost use Rattle.pcl_same.specs.Comparing.{IsComparison};
 ghost use Rattle.pcl_answers.specs.DifferenceImages.{dotted_page, DifferInDots, IsDifferingPage, IsImageMade, IsImageDrawn};
 
-use pcl_base::Dpi;
+use pcl_base::{Dpi, Profile};
 use pcl_bitmap::Bitmap;
 use pcl_files::{JobFiles, settle};
 use pcl_same::{Comparison, Difference, differing_dots, read_by};
@@ -12,22 +12,23 @@ use pcl_streams::{Fault, page_dots, write_image};
 use std::alloc::Global;
 
 /// Makes the file that is asked for, with an image of the dots that differ on the first page that does; none where that page
-/// differs in something else.
+/// differs in something else. The jobs are read as they were compared, by this widest profile.
 pub fn draw_difference<F: JobFiles>(
     files: &mut F,
     alloc: Global,
     image: Option<&str>,
     first: &[u8],
     second: &[u8],
+    widest: Profile,
     dpi: Dpi,
     comparison: &Comparison,
 ) -> Result<(), Fault>
-    requires { IsComparison dpi first.now second.now comparison.now }
-    ensures { IsImageDrawn F.acts image.entry dpi first.now second.now comparison.now files.old files.new result }
+    requires { IsComparison widest dpi first.now second.now comparison.now }
+    ensures { IsImageDrawn F.acts image.entry widest dpi first.now second.now comparison.now files.old files.new result }
 {
     match (image, dotted_page(comparison)) {
         (Some(name), Some(page)) => {
-            let image = differing_page(alloc, first, second, page, dpi)?;
+            let image = differing_page(alloc, first, second, page, widest, dpi)?;
             make_image(files, alloc, name, &image)
         }
         _ => Ok(()),
@@ -54,12 +55,13 @@ fn differing_page(
     first: &[u8],
     second: &[u8],
     page: usize,
+    widest: Profile,
     dpi: Dpi,
 ) -> Result<Bitmap, Fault>
-    requires { DifferInDots dpi first.now second.now page }
-    ensures { IsDifferingPage dpi first.now second.now page result }
+    requires { DifferInDots widest dpi first.now second.now page }
+    ensures { IsDifferingPage widest dpi first.now second.now page result }
 {
-    let profile = read_by(alloc, first, second, dpi)?;
+    let profile = read_by(alloc, first, second, widest, dpi)?;
     let one = page_dots(alloc, first, page, profile, dpi)?;
     let other = page_dots(alloc, second, page, profile, dpi)?;
     Ok(differing_dots(alloc, &one, &other)?)

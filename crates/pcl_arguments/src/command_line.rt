@@ -31,6 +31,8 @@ enum Argument {
     InPlace,
     /// That a batch shrinks jobs too that printers may read otherwise.
     ProfileOnly,
+    /// That a batch reads jobs as `min` does.
+    Stated,
     /// The format of a certificate.
     Format,
     /// Which pages are shown.
@@ -72,6 +74,11 @@ const STATED: &str = "stated";
 
 const READ_AS_STATED: &str = "Read the job as min does, without what drivers send besides";
 
+const READ_BOTH_AS_STATED: &str = "Read both jobs as min does, without what drivers send besides";
+
+const READ_ALL_AS_STATED: &str =
+    "Read the jobs as min does, without what drivers send besides, which --min does by itself";
+
 /// The subcommands, in the order of the help.
 const SUBCOMMANDS: [Subcommand; 9] = [
     Subcommand {
@@ -106,6 +113,7 @@ const SUBCOMMANDS: [Subcommand; 9] = [
                 "Where the first difference is a dot, write a PBM image (P4) of all dots of its page that differ to \
                  this file; else it isn't made",
             ),
+            Argument::Flag(STATED, READ_BOTH_AS_STATED),
             Argument::Dpi,
         ],
     },
@@ -147,6 +155,7 @@ const SUBCOMMANDS: [Subcommand; 9] = [
                 "Tell on standard error the bytes of both jobs, the pages, and how they are written",
             ),
             Argument::Flag(PROFILE_ONLY, READ_OTHERWISE),
+            Argument::Flag(STATED, READ_AS_STATED),
             Argument::Dpi,
         ],
     },
@@ -166,6 +175,7 @@ const SUBCOMMANDS: [Subcommand; 9] = [
                 "Write least raster jobs as min does, each with a certificate beside it",
             ),
             Argument::ProfileOnly,
+            Argument::Stated,
             Argument::Flag("json", "Report in JSON, an object on each line"),
             Argument::Dpi,
             Argument::Jobs,
@@ -277,6 +287,7 @@ fn arg<'a>(alloc: Global, argument: Argument) -> Result<Arg<'a>, AllocError> {
         Argument::Folder => folder(alloc),
         Argument::InPlace => in_place(alloc),
         Argument::ProfileOnly => profile_only(alloc),
+        Argument::Stated => stated(alloc),
         Argument::Format => format(alloc),
         Argument::Pages => Ok(pages(alloc)),
         Argument::Scale => Ok(scale(alloc)),
@@ -362,6 +373,11 @@ fn in_place<'a>(alloc: Global) -> Result<Arg<'a>, AllocError> {
 /// That a batch shrinks jobs too that printers may read otherwise.
 fn profile_only<'a>(alloc: Global) -> Result<Arg<'a>, AllocError> {
     flag(alloc, PROFILE_ONLY, READ_OTHERWISE).conflicts_with("min")
+}
+
+/// That a batch reads jobs as `min` does.
+fn stated<'a>(alloc: Global) -> Result<Arg<'a>, AllocError> {
+    flag(alloc, STATED, READ_ALL_AS_STATED).conflicts_with("min")
 }
 
 /// The format of a certificate.

@@ -80,11 +80,7 @@ fn batch_with<'w>(batch: &ArgMatches<'w>) -> Result<Batch<'w>, WrongWord<'w>> {
     Ok(Batch {
         version: VERSION,
         place: place_of(batch)?,
-        rewriting: match resolution {
-            _ if batch.get_flag("min") => Rewriting::Certify,
-            Resolution::FirstAccepted => Rewriting::ShrinkEverywhere(readers_of(batch)),
-            Resolution::Given(_) => Rewriting::Shrink(readers_of(batch)),
-        },
+        rewriting: rewriting_of(batch, resolution),
         resolution,
         form: if batch.get_flag("json") {
             ReportForm::Json
@@ -92,6 +88,17 @@ fn batch_with<'w>(batch: &ArgMatches<'w>) -> Result<Batch<'w>, WrongWord<'w>> {
             ReportForm::Table
         },
     })
+}
+
+/// How a batch writes each job again.
+fn rewriting_of(batch: &ArgMatches<'_>, resolution: Resolution) -> Rewriting {
+    let profile = profile_of(batch);
+    let readers = readers_of(batch);
+    match resolution {
+        _ if batch.get_flag("min") => Rewriting::Certify,
+        Resolution::FirstAccepted => Rewriting::ShrinkEverywhere { profile, readers },
+        Resolution::Given(_) => Rewriting::Shrink { profile, readers },
+    }
 }
 
 /// Where a batch writes.
@@ -160,6 +167,7 @@ fn run_of<'w>(name: &str, command: &ArgMatches<'w>) -> Result<Run<'w>, WrongWord
         "pages" => Work::Task(pages_task(command)),
         "shrink" => Work::Task(Task::Shrink {
             report: command.get_flag("report"),
+            profile: profile_of(command),
             readers: readers_of(command),
         }),
         _ => Work::Task(Task::Preview {
@@ -181,7 +189,7 @@ fn run_of<'w>(name: &str, command: &ArgMatches<'w>) -> Result<Run<'w>, WrongWord
     })
 }
 
-/// By which profile a job is read.
+/// By which profile jobs are read, the widest where several are tried.
 fn profile_of(command: &ArgMatches<'_>) -> Profile {
     if command.get_flag("stated") {
         Profile::Stated
@@ -253,6 +261,7 @@ fn compared_files<'w>(same: &ArgMatches<'w>) -> Result<ComparedFiles<'w>, WrongW
         second: file_of(same, "B")?,
         asks: same.get_flag("asked"),
         image: same.get_str("image"),
+        profile: profile_of(same),
         resolution: resolution_of(same)?,
     })
 }

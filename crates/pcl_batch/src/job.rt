@@ -7,7 +7,7 @@ ghost use Rattle.pcl_batch.specs.inner.Jobs.{FailsByReason, IsFailing};
 use crate::reasons::{Obstacle, Reason};
 use crate::rewriter::Rewriter;
 use crate::writing::write_again;
-use pcl_base::{Dpi, JobFault};
+use pcl_base::{Dpi, JobFault, Profile};
 use pcl_files::{FileKind, JobFiles, read_file, resolve};
 use pcl_page::{Readers, page_count};
 use pcl_report::{Entry, FileSum, Outcome, Paths, Sums, file_name, sums_text};
@@ -183,23 +183,33 @@ fn how_of(alloc: Global, batch: Batch<'_>, dpi: Dpi) -> Result<String, AllocErro
     let version = batch.version;
     let dots = dpi.dots();
     match batch.rewriting {
-        Rewriting::Shrink(readers) => {
-            let flag = flag_of(readers);
-            format!(in alloc; "pclmin {version} shrink{flag} --dpi {dots}")
+        Rewriting::Shrink { profile, readers } => {
+            let caution = caution_of(readers);
+            let rules = rules_of(profile);
+            format!(in alloc; "pclmin {version} shrink{caution}{rules} --dpi {dots}")
         }
-        Rewriting::ShrinkEverywhere(readers) => {
-            let flag = flag_of(readers);
-            format!(in alloc; "pclmin {version} shrink{flag} --dpi auto")
+        Rewriting::ShrinkEverywhere { profile, readers } => {
+            let caution = caution_of(readers);
+            let rules = rules_of(profile);
+            format!(in alloc; "pclmin {version} shrink{caution}{rules} --dpi auto")
         }
         Rewriting::Certify => format!(in alloc; "pclmin {version} min --cert --dpi {dots}"),
     }
 }
 
-/// What says for which readers a job is shrunk, as digests name it.
-fn flag_of(readers: Readers) -> &'static str {
+/// The option that says for which readers a job is shrunk, as digests name it.
+fn caution_of(readers: Readers) -> &'static str {
     match readers {
         Readers::Printers => "",
         Readers::Profile => " --profile-only",
+    }
+}
+
+/// The option that says by which profile a job is read, as digests name it.
+fn rules_of(profile: Profile) -> &'static str {
+    match profile {
+        Profile::Stated => " --stated",
+        Profile::Drivers => "",
     }
 }
 
@@ -286,7 +296,7 @@ fn is_of(job: Job<'_>, sums: Sums<'_>) -> bool {
 fn has_foreign_certificate<F: JobFiles>(files: &F, job: Job<'_>, is_named: bool) -> bool {
     let is_there = files.kind_of(job.paths.certificate.as_str()).is_some();
     match job.rewriting {
-        Rewriting::Shrink(_) | Rewriting::ShrinkEverywhere(_) => is_there && is_named,
+        Rewriting::Shrink { .. } | Rewriting::ShrinkEverywhere { .. } => is_there && is_named,
         Rewriting::Certify => is_there && !is_named,
     }
 }
@@ -303,7 +313,7 @@ fn found_earlier<F: JobFiles>(
         return Ok(Found::Earlier);
     };
     let certificate = match job.rewriting {
-        Rewriting::Shrink(_) | Rewriting::ShrinkEverywhere(_) => None,
+        Rewriting::Shrink { .. } | Rewriting::ShrinkEverywhere { .. } => None,
         Rewriting::Certify => sum_of(files, alloc, job.paths.certificate.as_str())?,
     };
     let certificate = certificate.as_ref();

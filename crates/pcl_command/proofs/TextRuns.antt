@@ -1,6 +1,6 @@
 -- What was read and written where a text on a job is.
 use Rattle.std.proofs.Common.{◌≡◌, ◌≤◌, ℕ, List, Option, Result, Ok, Err, length, subst, arith}
-use Rattle.pcl_command.proofs.Names.{Keeps-refl, Dpi, Profile, Drivers, JobFault, Refusal, IsRefusalBy, fault_of, Fault, WriteFault, IsRead, input_limit, IsWritten, IsDescribed, IsRefusedEverywhere, IsShrunk, IsShrunkEverywhere, IsWrittenEverywhere, IsWrittenFor, Readers, Shrunk, IsTextRun}
+use Rattle.pcl_command.proofs.Names.{Keeps-refl, Dpi, Profile, JobFault, Refusal, IsRefusalBy, fault_of, Fault, WriteFault, IsRead, input_limit, IsWritten, IsDescribed, IsRefusedEverywhere, IsShrunk, IsShrunkEverywhere, IsWrittenEverywhere, IsWrittenFor, Readers, Shrunk, IsTextRun}
 use Rattle.pcl_base.specs.declared.fault.JobFault.TheVariants as fault
 use Rattle.pcl_shrink.proofs.Written.{written_for, written_everywhere}
 
@@ -37,22 +37,22 @@ pub undescribed : (profile : Profile) (dpi : Dpi) (job : List ℕ) (why : JobFau
 undescribed profile dpi job (fault.Refused refusal) d = d
 undescribed profile dpi job fault.Memory d = tt
 
-pub unshrunk : (readers : Readers) (dpi : Dpi) (job : List ℕ) (why : JobFault) → IsShrunk readers dpi job (Err why)
-    → IsTextless Drivers dpi job why
-unshrunk readers dpi job (fault.Refused refusal) s = s.1
-unshrunk readers dpi job fault.Memory s = tt
+pub unshrunk : (readers : Readers) (widest : Profile) (dpi : Dpi) (job : List ℕ) (why : JobFault)
+    → IsShrunk readers widest dpi job (Err why) → IsTextless widest dpi job why
+unshrunk readers widest dpi job (fault.Refused refusal) s = s.1
+unshrunk readers widest dpi job fault.Memory s = tt
 
-pub unshrunk_everywhere : (readers : Readers) (job : List ℕ) (why : JobFault) → IsShrunkEverywhere readers job (Err why)
-    → IsTextlessBy IsRefusedEverywhere job why
-unshrunk_everywhere readers job (fault.Refused refusal) s = s
-unshrunk_everywhere readers job fault.Memory s = tt
+pub unshrunk_everywhere : (readers : Readers) (widest : Profile) (job : List ℕ) (why : JobFault)
+    → IsShrunkEverywhere readers widest job (Err why) → IsTextlessBy (IsRefusedEverywhere widest) job why
+unshrunk_everywhere readers widest job (fault.Refused refusal) s = s
+unshrunk_everywhere readers widest job fault.Memory s = tt
 
-pub written_here : (readers : Readers) (dpi : Dpi) {lent job : List ℕ} (shrunk : Shrunk) → lent ≡ job
-    → IsShrunk readers dpi lent (Ok shrunk) → IsWrittenFor readers dpi job shrunk.job.items
-written_here readers dpi {lent} {job} shrunk is s =
-    subst (λ (it : List ℕ). IsWrittenFor readers dpi it shrunk.job.items) is (written_for dpi lent shrunk readers s)
+pub written_here : (readers : Readers) (widest : Profile) (dpi : Dpi) {lent job : List ℕ} (shrunk : Shrunk) → lent ≡ job
+    → IsShrunk readers widest dpi lent (Ok shrunk) → IsWrittenFor readers widest dpi job shrunk.job.items
+written_here readers widest dpi {lent} {job} shrunk is s =
+    subst (λ (it : List ℕ). IsWrittenFor readers widest dpi it shrunk.job.items) is (written_for widest dpi lent shrunk readers s)
 
-pub written_there : (readers : Readers) {lent job : List ℕ} (shrunk : Shrunk) → lent ≡ job → IsShrunkEverywhere readers lent (Ok shrunk)
-    → IsWrittenEverywhere readers job shrunk.job.items
-written_there readers {lent} {job} shrunk is s =
-    subst (λ (it : List ℕ). IsWrittenEverywhere readers it shrunk.job.items) is (written_everywhere lent shrunk readers s)
+pub written_there : (readers : Readers) (widest : Profile) {lent job : List ℕ} (shrunk : Shrunk) → lent ≡ job
+    → IsShrunkEverywhere readers widest lent (Ok shrunk) → IsWrittenEverywhere readers widest job shrunk.job.items
+written_there readers widest {lent} {job} shrunk is s =
+    subst (λ (it : List ℕ). IsWrittenEverywhere readers widest it shrunk.job.items) is (written_everywhere widest lent shrunk readers s)

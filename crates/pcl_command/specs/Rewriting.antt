@@ -3,7 +3,6 @@ use Rattle.std.specs.Prelude.{◌≡◌, ℕ, List, Option, Some, None, Result, 
 use Rattle.std.specs.Global.{Vec}
 use Rattle.pcl_base.specs.declared.dpi.Dpi.{Dpi}
 use Rattle.pcl_base.specs.declared.fault.JobFault.{JobFault}
-use Rattle.pcl_base.specs.declared.profile.Profile.TheVariants.{Drivers}
 use Rattle.pcl_base.specs.declared.refusal.Refusal.{Refusal}
 use Rattle.pcl_page.specs.Delivering.{IsRefusal, IsRefusalBy}
 use Rattle.pcl_cert.specs.declared.format.Format.TheVariants.{One}
@@ -21,17 +20,17 @@ use Rattle.pcl_command.specs.declared.rewriting.Again.{Again}
 
 -- the smallest job that is found, alone, or the least raster job and its certificate
 abbrev pub IsRewrittenTo : Rewriting → Dpi → (job again : List ℕ) → Option (Vec ℕ) → Type 0
-IsRewrittenTo (Shrink readers) dpi job again None = IsWrittenFor readers dpi job again
-IsRewrittenTo (Shrink readers) dpi job again (Some certificate) = ⊥
-IsRewrittenTo (ShrinkEverywhere readers) dpi job again None = IsWrittenEverywhere readers job again
-IsRewrittenTo (ShrinkEverywhere readers) dpi job again (Some certificate) = ⊥
+IsRewrittenTo (Shrink profile readers) dpi job again None = IsWrittenFor readers profile dpi job again
+IsRewrittenTo (Shrink profile readers) dpi job again (Some certificate) = ⊥
+IsRewrittenTo (ShrinkEverywhere profile readers) dpi job again None = IsWrittenEverywhere readers profile job again
+IsRewrittenTo (ShrinkEverywhere profile readers) dpi job again (Some certificate) = ⊥
 IsRewrittenTo Certify dpi job again (Some certificate) = IsCertifiedJobOf dpi One job again certificate.items
 IsRewrittenTo Certify dpi job again None = ⊥
 
 -- a refusal is the one at the resolution; or at both
 abbrev pub RefusesAgain : Rewriting → Dpi → List ℕ → Refusal → Type 0
-RefusesAgain (ShrinkEverywhere readers) dpi job refusal = IsRefusedEverywhere job refusal
-RefusesAgain (Shrink readers) dpi job refusal = IsRefusalBy Drivers dpi job refusal
+RefusesAgain (ShrinkEverywhere profile readers) dpi job refusal = IsRefusedEverywhere profile job refusal
+RefusesAgain (Shrink profile readers) dpi job refusal = IsRefusalBy profile dpi job refusal
 RefusesAgain Certify dpi job refusal = IsRefusal dpi job refusal
 
 -- where it isn't written again it is refused so, or memory ran out

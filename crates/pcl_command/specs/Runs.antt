@@ -4,7 +4,6 @@ use Rattle.std.specs.Io.KnownBytes.{Appends, Keeps}
 use Rattle.pcl_base.specs.declared.dpi.Dpi.{Dpi}
 use Rattle.pcl_base.specs.declared.kind.Kind.{Kind}
 use Rattle.pcl_base.specs.declared.profile.Profile.{Profile}
-use Rattle.pcl_base.specs.declared.profile.Profile.TheVariants.{Drivers}
 use Rattle.pcl_base.specs.declared.refusal.Refusal.{Refusal}
 use Rattle.pcl_page.specs.Accepting.{IsAccepted, IsFirstAccepted}
 use Rattle.pcl_page.specs.Delivering.{IsRefusalBy}
@@ -91,8 +90,8 @@ HasDoneTask (Explain profile) dpi given left old new done = IsTextRun (Explains 
 HasDoneTask (ExplainKind kind) dpi given left old new done = (left ≡ given) × IsKindExplained kind old new done
 HasDoneTask (DescribePages layout profile) dpi given left old new done =
     IsTextRun (TellsOfPages profile dpi) (IsRefusalBy profile dpi) given left old new done
-HasDoneTask (Shrink report readers) dpi given left old new done =
-    IsTextRun (IsWrittenFor readers dpi) (IsRefusalBy Drivers dpi) given left old new done
+HasDoneTask (Shrink report profile readers) dpi given left old new done =
+    IsTextRun (IsWrittenFor readers profile dpi) (IsRefusalBy profile dpi) given left old new done
 
 -- the job can't be read, or the task is done with the bytes of the job, at the first resolution at which that is accepted
 abbrev pub HasDoneFirst : Task → (given left old new : Option (List ℕ)) → Result (Unit {0}) Fault → Type 0
@@ -103,8 +102,8 @@ HasDoneFirst task given left old new done =
 
 -- a job is shrunk for each resolution at which it is accepted
 abbrev pub HasDoneAccepted : Task → (given left old new : Option (List ℕ)) → Result (Unit {0}) Fault → Type 0
-HasDoneAccepted (Shrink report readers) given left old new done =
-    IsTextRun (IsWrittenEverywhere readers) IsRefusedEverywhere given left old new done
+HasDoneAccepted (Shrink report profile readers) given left old new done =
+    IsTextRun (IsWrittenEverywhere readers profile) (IsRefusedEverywhere profile) given left old new done
 HasDoneAccepted task given left old new done = HasDoneFirst task given left old new done
 
 -- the task at a resolution that is given, or at those at which the job is accepted

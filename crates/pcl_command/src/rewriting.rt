@@ -24,9 +24,11 @@ pub fn rewrite(alloc: Global, job: &[u8], dpi: Dpi, rewriting: Rewriting) -> Res
     ensures { IsRewritten rewriting dpi job.now result }
 {
     match rewriting {
-        Rewriting::Shrink(readers) => shrunk_again(alloc, shrink(alloc, job, dpi, readers)),
-        Rewriting::ShrinkEverywhere(readers) => {
-            shrunk_again(alloc, shrink_everywhere(alloc, job, readers))
+        Rewriting::Shrink { profile, readers } => {
+            shrunk_again(alloc, shrink(alloc, job, profile, dpi, readers))
+        }
+        Rewriting::ShrinkEverywhere { profile, readers } => {
+            shrunk_again(alloc, shrink_everywhere(alloc, job, profile, readers))
         }
         Rewriting::Certify => match minimize(alloc, job, dpi, Format::One) {
             Ok(output) => Ok(Again {

@@ -1,7 +1,6 @@
 //! A run: what is asked for is done, over any reader and writer.
 
 ghost use Rattle.std.specs.Prelude.{◌≡◌, if◌then◌else◌, None, Some};
-ghost use Rattle.pcl_base.specs.declared.profile.Profile.TheVariants.{Drivers};
 ghost use Rattle.pcl_page.specs.Delivering.{IsRefusalBy};
 ghost use Rattle.pcl_explain.specs.Findings.{Explains};
 ghost use Rattle.pcl_shrink.specs.Shrinking.{IsWrittenFor, IsWrittenEverywhere, IsRefusedEverywhere};
@@ -198,9 +197,11 @@ fn do_accepted<R: Read, W: Write, P: Reporter>(
     ensures { HasDoneAccepted task (R.remaining reader.old) (R.remaining reader.new) (W.contents out.old) (W.contents out.new) result }
 {
     match task {
-        Task::Shrink { report, readers } => {
-            write_smallest(alloc, report, readers, reader, out, watcher)
-        }
+        Task::Shrink {
+            report,
+            profile,
+            readers,
+        } => write_smallest(alloc, report, profile, readers, reader, out, watcher),
         Task::Minimize
         | Task::Preview { .. }
         | Task::Explain { .. }
@@ -248,9 +249,11 @@ fn do_task<R: Read, W: Write, P: Reporter>(
         Task::DescribePages { layout, profile } => {
             describe(alloc, layout, profile, dpi, reader, out, watcher)
         }
-        Task::Shrink { report, readers } => {
-            write_smaller(alloc, report, readers, dpi, reader, out, watcher)
-        }
+        Task::Shrink {
+            report,
+            profile,
+            readers,
+        } => write_smaller(alloc, report, profile, readers, dpi, reader, out, watcher),
     }
 }
 
@@ -316,22 +319,24 @@ fn describe<R: Read, W: Write, P: Reporter>(
     write_all(out, &text)
 }
 
-/// Writes the smallest job that is found with the pages of the job that a reader gives, which asks for the same, for these readers. A
-/// job without pages is reported, and what shrinking it did if that is asked for.
+/// Writes the smallest job that is found with the pages of the job that a reader gives, which asks for the same, for these readers. That
+/// job is read by the widest profile that is given, but by the stated one where that accepts it. A job without pages is reported, and what
+/// shrinking it did if that is asked for.
 fn write_smaller<R: Read, W: Write, P: Reporter>(
     alloc: Global,
     report: bool,
+    widest: Profile,
     readers: Readers,
     dpi: Dpi,
     reader: &mut R,
     out: &mut W,
     reporter: P,
 ) -> Result<(), Fault>
-    ensures { IsTextRun (IsWrittenFor readers dpi) (IsRefusalBy Drivers dpi) (R.remaining reader.old) (R.remaining reader.new)
+    ensures { IsTextRun (IsWrittenFor readers widest dpi) (IsRefusalBy widest dpi) (R.remaining reader.old) (R.remaining reader.new)
         (W.contents out.old) (W.contents out.new) result }
 {
     let job = read_all(alloc, reader, INPUT_LIMIT)?;
-    let shrunk = shrink(alloc, &job, dpi, readers)?;
+    let shrunk = shrink(alloc, &job, widest, dpi, readers)?;
     report_shrunk(alloc, job.len(), &shrunk, report, reporter)?;
     write_all(out, &shrunk.job)
 }
@@ -340,16 +345,17 @@ fn write_smaller<R: Read, W: Write, P: Reporter>(
 fn write_smallest<R: Read, W: Write, P: Reporter>(
     alloc: Global,
     report: bool,
+    widest: Profile,
     readers: Readers,
     reader: &mut R,
     out: &mut W,
     reporter: P,
 ) -> Result<(), Fault>
-    ensures { IsTextRun (IsWrittenEverywhere readers) IsRefusedEverywhere (R.remaining reader.old) (R.remaining reader.new)
+    ensures { IsTextRun (IsWrittenEverywhere readers widest) (IsRefusedEverywhere widest) (R.remaining reader.old) (R.remaining reader.new)
         (W.contents out.old) (W.contents out.new) result }
 {
     let job = read_all(alloc, reader, INPUT_LIMIT)?;
-    let shrunk = shrink_everywhere(alloc, &job, readers)?;
+    let shrunk = shrink_everywhere(alloc, &job, widest, readers)?;
     report_shrunk(alloc, job.len(), &shrunk, report, reporter)?;
     write_all(out, &shrunk.job)
 }

@@ -2,6 +2,16 @@
 
 use pcl_base::{Kind, Name};
 
+/// What is said of a command that the drivers' profile alone knows, behind what it asks for.
+macro_rules! known_to_drivers {
+    ($what:literal) => {
+        concat!(
+            $what,
+            ": shrink, same, pages and batch know it, and pbm and pgm with --drivers; min and check don't"
+        )
+    };
+}
+
 /// What a kind of refusal means, and what to do.
 pub fn advice_on_kind(kind: Kind) -> &'static str {
     match kind {
@@ -50,8 +60,7 @@ fn page_control(name: Name) -> Option<&'static str> {
             "left offset: shrink, same, pages and batch know it on a page without marks, and pbm and pgm with --drivers; min and check know 0 alone",
         Name::Three(b'&', b'l', b'Z') =>
             "top offset: shrink, same, pages and batch know it on a page without marks, and pbm and pgm with --drivers; min and check know 0 alone",
-        Name::Three(b'&', b'l', b'T') =>
-            "job separation: shrink, same, pages and batch know it, and pbm and pgm with --drivers; min and check don't",
+        Name::Three(b'&', b'l', b'T') => known_to_drivers!("job separation"),
         Name::Three(b'&', b'l', b'X') => "copies: 1 to 99 are known",
         Name::Three(b'&', b'l', b'D') =>
             "lines per inch: 1, 2, 3, 4, 6, 8, 12, 16, 24 and 48 are known",
@@ -62,8 +71,7 @@ fn page_control(name: Name) -> Option<&'static str> {
 /// The same of graphics.
 fn graphics(name: Name) -> Option<&'static str> {
     Some(match name {
-        Name::Three(b'*', b'o', b'M' | b'Q' | b'D') =>
-            "print quality: shrink, same, pages and batch know it, and pbm and pgm with --drivers; min and check don't",
+        Name::Three(b'*', b'o', b'M' | b'Q' | b'D') => known_to_drivers!("print quality"),
         Name::Three(b'*', b'o', _) =>
             "driver configuration: drivers for colour send it; choose black and white",
         Name::Three(b'*', b'b', b'S') =>
@@ -74,8 +82,7 @@ fn graphics(name: Name) -> Option<&'static str> {
             "raster data in planes or strips: drivers for inkjets and colour send it; choose a LaserJet driver",
         Name::Three(b'*', b'g', _) | Name::Three(b'*', b'i', _) =>
             "raster configuration: drivers for inkjets and colour send it; choose a LaserJet driver",
-        Name::Three(b'*', b'r', b'Q') =>
-            "raster quality: shrink, same, pages and batch know it, and pbm and pgm with --drivers; min and check don't",
+        Name::Three(b'*', b'r', b'Q') => known_to_drivers!("raster quality"),
         Name::Three(b'*', b'r', b'U') =>
             "planes of colour: drivers for colour send it; choose black and white",
         Name::Three(b'*', b't', b'R') =>
@@ -101,8 +108,7 @@ fn other_command(name: Name) -> Option<&'static str> {
     Some(match name {
         Name::Two(b'%', b'B') =>
             "HP-GL/2 pictures: aren't known; let the driver send graphics as a raster",
-        Name::Three(b'&', b'k', b'W') =>
-            "text scale, or the mode of a DeskJet: shrink, same, pages and batch know it, and pbm and pgm with --drivers; min and check don't",
+        Name::Three(b'&', b'k', b'W') => known_to_drivers!("text scale, or the mode of a DeskJet"),
         Name::Three(b'&', b'k', b'S') =>
             "pitch of the printer's own fonts: isn't known; let the driver send fonts or graphics",
         Name::Three(b'&', b'f', b'X') =>

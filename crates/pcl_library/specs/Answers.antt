@@ -148,7 +148,7 @@ HasWrittenJob job number dpi answer = (format : Option Format) × IsFormatFor nu
 
 -- a job with the same pages, which asks for the same and is no longer; for printers it may be the job as it came
 abbrev pub HasSmallerJob : List ℕ → Dpi → Answer → Type 0
-HasSmallerJob job dpi answer = IsWrittenFor Printers dpi job answer.made.now
+HasSmallerJob job dpi answer = IsWrittenFor Printers Drivers dpi job answer.made.now
 
 -- the number of the job's pages
 abbrev pub HasPageCount : List ℕ → Dpi → Answer → Type 0
@@ -174,7 +174,7 @@ pub record HasVerdict (input output certificate : List ℕ) (dpi : Dpi) (answer 
 -- the right comparison of two jobs; it holds where they are the same
 pub record HasComparison (first second : List ℕ) (dpi : Dpi) (answer : Answer) : Type 0 where
   pub comparison : AskedComparison
-  pub right : IsComparisonFor false dpi first second comparison
+  pub right : IsComparisonFor false Drivers dpi first second comparison
   pub line : IsLine (comparison_line_of comparison) answer.line.now
   pub holds : IsTrue answer.holds ↔ (comparison ≡ comparisons.Same)
 

@@ -4,6 +4,7 @@ use Rattle.pcl_base.specs.Limits.{input_limit, page_limit}
 use Rattle.pcl_base.specs.declared.dpi.Dpi.{Dpi}
 use Rattle.pcl_base.specs.declared.dpi.Dpi.TheVariants.{Dpi300, Dpi600}
 use Rattle.pcl_base.specs.declared.profile.Profile.{Profile}
+use Rattle.pcl_base.specs.declared.profile.Profile.TheVariants.{Drivers}
 use Rattle.pcl_cert.specs.declared.format.Format.{Format}
 use Rattle.pcl_cert.specs.declared.format.Format.TheVariants.{One, Two}
 use Rattle.pcl_streams.specs.declared.fault.Fault.TheVariants as run
@@ -32,7 +33,7 @@ IsSeen profile number job dpi = (asked : Resolution) × (resolution_number asked
 
 -- two jobs are
 abbrev pub AreSeen : ℕ → (first second : List ℕ) → Dpi → Type 0
-AreSeen number first second dpi = (asked : Resolution) × (resolution_number asked ≡ number) × AreSeenAt asked first second dpi
+AreSeen number first second dpi = (asked : Resolution) × (resolution_number asked ≡ number) × AreSeenAt asked Drivers first second dpi
 
 -- the pages from one number to another, counted from 1, or all of them by 0 and 0
 abbrev pub IsChoiceFor : (first last : ℕ) → PageChoice → Type 0

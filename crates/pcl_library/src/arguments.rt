@@ -40,7 +40,7 @@ pub fn both_seen_at(
     let asked = resolution_numbered(resolution)?;
     within_limit(first)?;
     within_limit(second)?;
-    Ok(resolve_both(alloc, asked, first, second)?)
+    Ok(resolve_both(alloc, asked, Profile::Drivers, first, second)?)
 }
 
 /// Fails where there are more bytes than the program reads as one input.

@@ -8,7 +8,7 @@ use crate::answer::Answer;
 use crate::arguments::both_seen_at;
 use crate::failure::Failure;
 use pcl_answers::{compare_jobs, comparison_line};
-use pcl_base::Dpi;
+use pcl_base::{Dpi, Profile};
 use std::alloc::Global;
 
 /// `pclmin_same`: whether two jobs have the same pages. The line says what differs first.
@@ -33,7 +33,7 @@ pub extern "C" fn pcl_library_same(
 fn same_answer(alloc: Global, first: &[u8], second: &[u8], dpi: Dpi) -> Answer
     ensures { ComparesAt dpi first.now second.now result }
 {
-    match compare_jobs(alloc, false, first, second, dpi) {
+    match compare_jobs(alloc, false, first, second, Profile::Drivers, dpi) {
         Ok(comparison) => {
             let line = comparison_line(alloc, &comparison);
             Answer::of_line(line, comparison.is_same(), dpi)

@@ -100,7 +100,7 @@ pub extern "C" fn pcl_library_shrink(
 fn shrink_answer(alloc: Global, job: &[u8], dpi: Dpi) -> Answer
     ensures { AnswersAt Drivers dpi job.now (HasSmallerJob job.now dpi) result }
 {
-    match shrink(alloc, job, dpi, Readers::Printers) {
+    match shrink(alloc, job, Profile::Drivers, dpi, Readers::Printers) {
         Ok(shrunk) => Answer::of_bytes(shrunk.job, dpi),
         Err(fault) => Answer::of_failure(alloc, &Failure::from(fault), 0),
     }

@@ -3,8 +3,10 @@ use Rattle.std.specs.Prelude.{◌≡◌, ℕ, Bool, true, false, ◌&&◌, List,
 use Rattle.std.specs.Borrow.{Bor}
 use Rattle.pcl_base.specs.declared.dpi.Dpi.TheVariants.{Dpi300, Dpi600}
 use Rattle.pcl_base.specs.declared.profile.Profile.{Profile}
-use Rattle.pcl_base.specs.declared.profile.Profile.TheVariants.{Stated, Drivers}
+use Rattle.pcl_base.specs.declared.profile.Profile.TheVariants.{Stated}
 use Rattle.pcl_streams.specs.PageImages.{last_page}
+use Rattle.pcl_request.specs.declared.batch.Rewriting.{Rewriting}
+use Rattle.pcl_request.specs.declared.batch.Rewriting.TheVariants as rewriting
 use Rattle.pcl_request.specs.declared.request.Beside.{Beside}
 use Rattle.pcl_request.specs.declared.request.Beside.TheVariants.{Input, Images}
 use Rattle.pcl_request.specs.declared.request.Request.{Request}
@@ -25,17 +27,23 @@ abbrev pub task_page : Task → ℕ
 task_page (Preview choice form profile) = last_page choice
 task_page other = 0
 
--- by which profile the job is read
+-- by which profile the job is read, the widest where several are tried
 abbrev pub task_profile : Task → Profile
 task_profile (Preview choice form profile) = profile
 task_profile (Explain profile) = profile
 task_profile (DescribePages layout profile) = profile
-task_profile (Shrink report readers) = Drivers
+task_profile (Shrink report profile readers) = profile
 task_profile other = Stated
 
 abbrev pub page_of : Work → ℕ
 page_of (work.Task task) = task_page task
 page_of (work.Certify certificate) = 0
+
+-- the same of a job of a batch
+abbrev pub rewriting_profile : Rewriting → Profile
+rewriting_profile (rewriting.Shrink profile readers) = profile
+rewriting_profile (rewriting.ShrinkEverywhere profile readers) = profile
+rewriting_profile rewriting.Certify = Stated
 
 -- a job or an image is made, and not a text
 abbrev pub makes_raw : Task → Bool

@@ -1,5 +1,8 @@
 //! What a batch is asked for.
 
+ghost use Rattle.std.specs.Prelude.{◌≡◌};
+ghost use Rattle.pcl_request.specs.Requests.{rewriting_profile};
+
 use crate::request::Resolution;
 use pcl_base::Profile;
 use pcl_page::Readers;
@@ -7,19 +10,23 @@ use pcl_page::Readers;
 /// How each job is written again.
 #[derive(Clone, Copy, Debug, PartialEq, Eq)]
 pub enum Rewriting {
-    /// As the smallest job that is found with the same dots, for these readers.
-    Shrink(Readers),
+    /// As the smallest job that is found with the same dots, for these readers. This profile is the widest by which it is read.
+    Shrink { profile: Profile, readers: Readers },
     /// The same at each resolution at which the job is accepted.
-    ShrinkEverywhere(Readers),
+    ShrinkEverywhere { profile: Profile, readers: Readers },
     /// As the least raster job, with a certificate of the first format in a file of its own.
     Certify,
 }
 
 impl Rewriting {
-    /// By which profile jobs are read.
-    pub fn profile(self) -> Profile {
+    /// By which profile jobs are read, the widest where several are tried.
+    pub fn profile(self) -> Profile
+        ensures { result ≡ rewriting_profile self }
+    {
         match self {
-            Rewriting::Shrink(_) | Rewriting::ShrinkEverywhere(_) => Profile::Drivers,
+            Rewriting::Shrink { profile, .. } | Rewriting::ShrinkEverywhere { profile, .. } => {
+                profile
+            }
             Rewriting::Certify => Profile::Stated,
         }
     }

@@ -34,9 +34,10 @@ pub enum Task {
         profile: Profile,
     },
     /// The smallest job that is found with its pages, which asks for the same, for these readers; and a report of its bytes if that is
-    /// asked for.
+    /// asked for. This profile is the widest by which it is read.
     Shrink {
         report: bool,
+        profile: Profile,
         readers: Readers,
     },
 }
@@ -122,7 +123,7 @@ impl Task {
         }
     }
 
-    /// By which profile its job is read.
+    /// By which profile its job is read, the widest where several are tried.
     pub fn profile(self) -> Profile
         ensures { result ≡ task_profile self }
     {
@@ -130,8 +131,8 @@ impl Task {
             Task::Minimize | Task::ExplainKind { .. } => Profile::Stated,
             Task::Preview { profile, .. }
             | Task::Explain { profile }
-            | Task::DescribePages { profile, .. } => profile,
-            Task::Shrink { .. } => Profile::Drivers,
+            | Task::DescribePages { profile, .. }
+            | Task::Shrink { profile, .. } => profile,
         }
     }
 
@@ -269,6 +270,8 @@ pub struct ComparedFiles<'w> {
     pub asks: bool,
     /// The file that is made where dots differ, of an image of these.
     pub image: Option<&'w str>,
+    /// The widest profile by which they are read.
+    pub profile: Profile,
     /// The resolution.
     pub resolution: Resolution,
 }

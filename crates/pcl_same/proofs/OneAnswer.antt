@@ -140,26 +140,30 @@ same_answer_by {profile} one dpi first second =
 
 -- two jobs are read by one profile
 module _ (one : HasOneMeaning Stated) (dpi : Dpi) (first second : List ℕ) where
-  apart_there : AreReadBy Stated dpi first second → AreReadBy Drivers dpi first second → ⊥
+  apart_there : AreReadBy Drivers Stated dpi first second → AreReadBy Drivers Drivers dpi first second → ⊥
   apart_there both (inl refused) = one.apart dpi first both.0.0 refused.0 both.0.1 refused.1
   apart_there both (inr refused) = one.apart dpi second both.1.0 refused.0 both.1.1 refused.1
 
   module _ {C : Type 0} (IsBy : Profile → Result C SameFault → Type 0)
       (alone : (profile : Profile) (a b : Result C SameFault) → IsBy profile a → IsBy profile b → a ≢ Err Memory → b ≢ Err Memory → a ≡ b)
     where
-      by_one : (profile other : Profile) (a b : Result C SameFault) → AreReadBy profile dpi first second → AreReadBy other dpi first second
-          → IsBy profile a → IsBy other b → a ≢ Err Memory → b ≢ Err Memory → a ≡ b
-      by_one Stated Stated a b r s p q m n = alone Stated a b p q m n
-      by_one Drivers Drivers a b r s p q m n = alone Drivers a b p q m n
-      by_one Stated Drivers a b r s p q m n = absurd (apart_there r s)
-      by_one Drivers Stated a b r s p q m n = absurd (apart_there s r)
+      by_one : (widest profile other : Profile) (a b : Result C SameFault) → AreReadBy widest profile dpi first second
+          → AreReadBy widest other dpi first second → IsBy profile a → IsBy other b → a ≢ Err Memory → b ≢ Err Memory → a ≡ b
+      by_one widest Stated Stated a b r s p q m n = alone Stated a b p q m n
+      by_one widest Drivers Drivers a b r s p q m n = alone Drivers a b p q m n
+      by_one Drivers Stated Drivers a b r s p q m n = absurd (apart_there r s)
+      by_one Drivers Drivers Stated a b r s p q m n = absurd (apart_there s r)
+      by_one Stated Stated Drivers a b r s p q m n = absurd s
+      by_one Stated Drivers Stated a b r s p q m n = absurd r
 
-      pub one_told : (a b : Result C SameFault) → IsAnsweredByOne IsBy dpi first second a → IsAnsweredByOne IsBy dpi first second b
-          → a ≢ Err Memory → b ≢ Err Memory → a ≡ b
-      one_told (Err Memory) b p q m n = absurd (m refl)
-      one_told a (Err Memory) p q m n = absurd (n refl)
-      one_told (Ok a) (Ok b) p q m n = by_one p.0 q.0 (Ok a) (Ok b) p.1 q.1 p.2 q.2 m n
-      one_told (Ok a) (Err (Refused other s)) p q m n = by_one p.0 Drivers (Ok a) (Err (Refused other s)) p.1 q.0 p.2 q.1 m n
-      one_told (Err (Refused which r)) (Ok b) p q m n = by_one Drivers q.0 (Err (Refused which r)) (Ok b) p.0 q.1 p.1 q.2 m n
-      one_told (Err (Refused which r)) (Err (Refused other s)) p q m n =
-          by_one Drivers Drivers (Err (Refused which r)) (Err (Refused other s)) p.0 q.0 p.1 q.1 m n
+      pub one_told : (widest : Profile) (a b : Result C SameFault) → IsAnsweredByOne IsBy widest dpi first second a
+          → IsAnsweredByOne IsBy widest dpi first second b → a ≢ Err Memory → b ≢ Err Memory → a ≡ b
+      one_told widest (Err Memory) b p q m n = absurd (m refl)
+      one_told widest a (Err Memory) p q m n = absurd (n refl)
+      one_told widest (Ok a) (Ok b) p q m n = by_one widest p.0 q.0 (Ok a) (Ok b) p.1 q.1 p.2 q.2 m n
+      one_told widest (Ok a) (Err (Refused other s)) p q m n =
+          by_one widest p.0 widest (Ok a) (Err (Refused other s)) p.1 q.0 p.2 q.1 m n
+      one_told widest (Err (Refused which r)) (Ok b) p q m n =
+          by_one widest widest q.0 (Err (Refused which r)) (Ok b) p.0 q.1 p.1 q.2 m n
+      one_told widest (Err (Refused which r)) (Err (Refused other s)) p q m n =
+          by_one widest widest widest (Err (Refused which r)) (Err (Refused other s)) p.0 q.0 p.1 q.1 m n

@@ -35,19 +35,21 @@ Compare dpi pages others (Page number difference) =
 
 -- ---- by which profile
 
--- two jobs are read by the stated profile where that accepts both, else by the drivers'
-abbrev pub AreReadBy : Profile → Dpi → (first second : List ℕ) → Type 0
-AreReadBy Stated dpi first second = IsAccepted Stated dpi first × IsAccepted Stated dpi second
-AreReadBy Drivers dpi first second = IsRefused Stated dpi first ⊎ IsRefused Stated dpi second
+-- two jobs are read by the widest profile, but by the stated one where that accepts both
+abbrev pub AreReadBy : (widest profile : Profile) → Dpi → (first second : List ℕ) → Type 0
+AreReadBy Stated Stated dpi first second = Unit {0}
+AreReadBy Stated Drivers dpi first second = ⊥
+AreReadBy Drivers Stated dpi first second = IsAccepted Stated dpi first × IsAccepted Stated dpi second
+AreReadBy Drivers Drivers dpi first second = IsRefused Stated dpi first ⊎ IsRefused Stated dpi second
 
 -- what is answered by a profile, of the one by which two jobs are read
-abbrev pub IsAnsweredByOne : {C : Type 0} → (Profile → Result C SameFault → Type 0) → Dpi → (first second : List ℕ) → Result C SameFault
-    → Type 0
-IsAnsweredByOne IsBy dpi first second (Ok comparison) =
-    (profile : Profile) × AreReadBy profile dpi first second × IsBy profile (Ok comparison)
-IsAnsweredByOne IsBy dpi first second (Err (Refused which refusal)) =
-    AreReadBy Drivers dpi first second × IsBy Drivers (Err (Refused which refusal))
-IsAnsweredByOne IsBy dpi first second (Err Memory) = Unit {0}
+abbrev pub IsAnsweredByOne : {C : Type 0} → (Profile → Result C SameFault → Type 0) → (widest : Profile) → Dpi → (first second : List ℕ)
+    → Result C SameFault → Type 0
+IsAnsweredByOne IsBy widest dpi first second (Ok comparison) =
+    (profile : Profile) × AreReadBy widest profile dpi first second × IsBy profile (Ok comparison)
+IsAnsweredByOne IsBy widest dpi first second (Err (Refused which refusal)) =
+    AreReadBy widest widest dpi first second × IsBy widest (Err (Refused which refusal))
+IsAnsweredByOne IsBy widest dpi first second (Err Memory) = Unit {0}
 
 -- ---- pages
 
@@ -67,11 +69,12 @@ IsComparedBy profile dpi first second (Err (Refused Second refusal)) =
     (pages : List Sheet) × HasPagesBy profile dpi first pages × IsRefusalBy profile dpi second refusal
 IsComparedBy profile dpi first second (Err Memory) = Unit {0}
 
-abbrev pub IsCompared : Dpi → List ℕ → List ℕ → Result Comparison SameFault → Type 0
-IsCompared dpi first second answer = IsAnsweredByOne (λ profile it. IsComparedBy profile dpi first second it) dpi first second answer
+abbrev pub IsCompared : (widest : Profile) → Dpi → List ℕ → List ℕ → Result Comparison SameFault → Type 0
+IsCompared widest dpi first second answer =
+    IsAnsweredByOne (λ profile it. IsComparedBy profile dpi first second it) widest dpi first second answer
 
-abbrev pub IsComparison : Dpi → List ℕ → List ℕ → Comparison → Type 0
-IsComparison dpi first second comparison = IsCompared dpi first second (Ok comparison)
+abbrev pub IsComparison : (widest : Profile) → Dpi → List ℕ → List ℕ → Comparison → Type 0
+IsComparison widest dpi first second comparison = IsCompared widest dpi first second (Ok comparison)
 
 -- ---- with what is asked
 
@@ -112,12 +115,12 @@ IsComparedAskedBy last profile dpi first second (Ok comparison) = IsComparisonCo
 IsComparedAskedBy last profile dpi first second (Err fault) = IsComparedBy profile dpi first second (Err fault)
 
 -- a last exit without lines ends a job
-abbrev pub IsComparedAsked : Dpi → List ℕ → List ℕ → Result AskedComparison SameFault → Type 0
-IsComparedAsked dpi first second answer =
-    IsAnsweredByOne (λ profile it. IsComparedAskedBy Ends profile dpi first second it) dpi first second answer
+abbrev pub IsComparedAsked : (widest : Profile) → Dpi → List ℕ → List ℕ → Result AskedComparison SameFault → Type 0
+IsComparedAsked widest dpi first second answer =
+    IsAnsweredByOne (λ profile it. IsComparedAskedBy Ends profile dpi first second it) widest dpi first second answer
 
-abbrev pub IsAskedComparison : Dpi → List ℕ → List ℕ → AskedComparison → Type 0
-IsAskedComparison dpi first second comparison = IsComparedAsked dpi first second (Ok comparison)
+abbrev pub IsAskedComparison : (widest : Profile) → Dpi → List ℕ → List ℕ → AskedComparison → Type 0
+IsAskedComparison widest dpi first second comparison = IsComparedAsked widest dpi first second (Ok comparison)
 
 -- ---- faults
 

@@ -1,6 +1,7 @@
 //! Two jobs, compared.
 
 ghost use Rattle.std.specs.Prelude.{IfOk};
+ghost use Rattle.pcl_base.specs.declared.profile.Profile.TheVariants.{Drivers};
 ghost use Rattle.pcl_same.specs.Comparing.{AreReadBy, IsCompared, IsComparedAsked, IsComparedAskedBy};
 ghost use Rattle.pcl_same.specs.declared.asking.LastExit.TheVariants.{Ends};
 
@@ -13,12 +14,19 @@ use pcl_page::is_accepted;
 use std::alloc::{AllocError, Global};
 
 /// Whether two jobs print the same pages at a resolution, and where not: a different number of pages is reported
-/// first, else the first page that differs, and how. They are read by the stated profile where that accepts both, else by the drivers'.
-/// A refusal is the first job's, else the second's. While it runs one page is held as dots, and the first job's pages as row data.
-pub fn same(alloc: Global, first: &[u8], second: &[u8], dpi: Dpi) -> Result<Comparison, SameFault>
-    ensures { IsCompared dpi first.now second.now result }
+/// first, else the first page that differs, and how. They are read by the widest profile that is given, but by the stated one where that
+/// accepts both. A refusal is the first job's, else the second's. While it runs one page is held as dots, and the first job's pages as
+/// row data.
+pub fn same(
+    alloc: Global,
+    first: &[u8],
+    second: &[u8],
+    widest: Profile,
+    dpi: Dpi,
+) -> Result<Comparison, SameFault>
+    ensures { IsCompared widest dpi first.now second.now result }
 {
-    match same_asked(alloc, first, second, dpi) {
+    match same_asked(alloc, first, second, widest, dpi) {
         Ok(comparison) => Ok(comparison.of_pages()),
         Err(fault) => Err(fault),
     }
@@ -32,9 +40,25 @@ pub fn same_asked(
     alloc: Global,
     first: &[u8],
     second: &[u8],
+    widest: Profile,
     dpi: Dpi,
 ) -> Result<AskedComparison, SameFault>
-    ensures { IsComparedAsked dpi first.now second.now result }
+    ensures { IsComparedAsked widest dpi first.now second.now result }
+{
+    match widest {
+        Profile::Stated => same_by(alloc, first, second, Profile::Stated, dpi),
+        Profile::Drivers => same_by_either(alloc, first, second, dpi),
+    }
+}
+
+/// The same by the stated profile where that accepts both jobs, else by the drivers'.
+fn same_by_either(
+    alloc: Global,
+    first: &[u8],
+    second: &[u8],
+    dpi: Dpi,
+) -> Result<AskedComparison, SameFault>
+    ensures { IsComparedAsked Drivers dpi first.now second.now result }
 {
     match same_by(alloc, first, second, Profile::Stated, dpi) {
         Err(SameFault::Refused { .. }) => same_by(alloc, first, second, Profile::Drivers, dpi),
@@ -62,9 +86,30 @@ fn same_by(
     }
 }
 
-/// By which profile two jobs are read: the stated one where that accepts both, else the drivers'.
-pub fn read_by(alloc: Global, first: &[u8], second: &[u8], dpi: Dpi) -> Result<Profile, AllocError>
-    ensures { IfOk result (λ profile. AreReadBy profile dpi first.now second.now) }
+/// By which profile two jobs are read: the widest that is given, but the stated one where that accepts both.
+pub fn read_by(
+    alloc: Global,
+    first: &[u8],
+    second: &[u8],
+    widest: Profile,
+    dpi: Dpi,
+) -> Result<Profile, AllocError>
+    ensures { IfOk result (λ profile. AreReadBy widest profile dpi first.now second.now) }
+{
+    match widest {
+        Profile::Stated => Ok(Profile::Stated),
+        Profile::Drivers => read_by_either(alloc, first, second, dpi),
+    }
+}
+
+/// The same where the drivers' profile is the widest.
+fn read_by_either(
+    alloc: Global,
+    first: &[u8],
+    second: &[u8],
+    dpi: Dpi,
+) -> Result<Profile, AllocError>
+    ensures { IfOk result (λ profile. AreReadBy Drivers profile dpi first.now second.now) }
 {
     if !is_accepted(alloc, first, Profile::Stated, dpi)? {
         return Ok(Profile::Drivers);

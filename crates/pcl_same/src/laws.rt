@@ -15,9 +15,9 @@ use pcl_page::one_meaning;
 /// Two jobs have one answer at most, out of memory aside: it is `Same` exactly where they have the same pages, and a
 /// job is refused exactly where the answer says so. A law: the call does nothing.
 pub fn one_answer()
-    ensures { (dpi : Dpi) (first second : List ℕ) (answer other : Result Comparison SameFault)
-        → IsCompared dpi first second answer → IsCompared dpi first second other → answer ≢ Err Memory → other ≢ Err Memory
-        → answer ≡ other }
+    ensures { (widest : Profile) (dpi : Dpi) (first second : List ℕ) (answer other : Result Comparison SameFault)
+        → IsCompared widest dpi first second answer → IsCompared widest dpi first second other
+        → answer ≢ Err Memory → other ≢ Err Memory → answer ≡ other }
 {
     one_meaning();
 }
@@ -29,9 +29,9 @@ pub fn one_asked_answer()
     ensures by { (last : LastExit) (profile : Profile) (dpi : Dpi) (first second : List ℕ) (answer other : Result AskedComparison SameFault)
         → IsComparedAskedBy last profile dpi first second answer → IsComparedAskedBy last profile dpi first second other
         → answer ≢ Err Memory → other ≢ Err Memory → answer ≡ other }
-    ensures answer { (dpi : Dpi) (first second : List ℕ) (answer other : Result AskedComparison SameFault)
-        → IsComparedAsked dpi first second answer → IsComparedAsked dpi first second other → answer ≢ Err Memory → other ≢ Err Memory
-        → answer ≡ other }
+    ensures answer { (widest : Profile) (dpi : Dpi) (first second : List ℕ) (answer other : Result AskedComparison SameFault)
+        → IsComparedAsked widest dpi first second answer → IsComparedAsked widest dpi first second other
+        → answer ≢ Err Memory → other ≢ Err Memory → answer ≡ other }
 {
     one_meaning();
 }

@@ -1,7 +1,7 @@
 -- What is written for readers.
 use Rattle.std.proofs.Common.{◌≡◌, ◌≤◌, inl, inr, ℕ, List, length, Option, Some, None, Result, Ok, Err, IfOk, refl, sym, subst, arith}
 use Rattle.pcl_page.specs.declared.doubts.Readers.TheVariants as reader
-use Rattle.pcl_shrink.proofs.Names.{Profile, Stated, Drivers, Dpi, JobFault, Refused, Memory, HasPagesBy, HasAsksBy, IsRefusalBy, Asks, Sheet, IsAccepted, Doubt, Readers, Shrunk, PrintsAlike, IsShrunk, IsShrunkAt, IsShrunkFor, IsShrunkTo, IsLeft, IsWrittenFor, IsWrittenBy, IsWrittenEverywhere, IsWrittenEverywhereBy, IsShrunkEverywhere, CountsAt, IsReadBy, IsReadEverywhere, Refusal}
+use Rattle.pcl_shrink.proofs.Names.{Profile, Stated, Drivers, Dpi, JobFault, Refused, Memory, HasPagesBy, HasAsksBy, IsRefusalBy, Asks, Sheet, IsAccepted, Doubt, Readers, Shrunk, PrintsAlike, IsShrunk, IsShrunkAt, IsShrunkFor, IsShrunkTo, IsLeft, IsWrittenFor, IsWrittenBy, IsWrittenEverywhere, IsWrittenEverywhereBy, IsShrunkEverywhere, IsShrunkEverywhereBy, CountsAt, IsReadBy, IsReadEverywhere, Refusal}
 use Rattle.pcl_base.specs.declared.dpi.Dpi.TheVariants.{Dpi300, Dpi600}
 use Rattle.pcl_shrink.proofs.Smaller.{OnePages, OneAsks, prints_pages, asks_again, prints_itself}
 
@@ -74,13 +74,13 @@ module _ (profile : Profile) (dpi : Dpi) (job : List ℕ) (shrunk : Shrunk) wher
 
 -- ---- by the profile by which a job is read
 
-pub written_for : (dpi : Dpi) (job : List ℕ) (shrunk : Shrunk) (readers : Readers) → IsShrunk readers dpi job (Ok shrunk)
-    → IsWrittenFor readers dpi job shrunk.job.items
-written_for dpi job shrunk readers s = (s.0, s.1, written_here_by s.0 dpi job shrunk readers shrunk.doubt s.2)
+pub written_for : (widest : Profile) (dpi : Dpi) (job : List ℕ) (shrunk : Shrunk) (readers : Readers)
+    → IsShrunk readers widest dpi job (Ok shrunk) → IsWrittenFor readers widest dpi job shrunk.job.items
+written_for widest dpi job shrunk readers s = (s.0, s.1, written_here_by s.0 dpi job shrunk readers shrunk.doubt s.2)
 
-pub written_everywhere : (job : List ℕ) (shrunk : Shrunk) (readers : Readers) → IsShrunkEverywhere readers job (Ok shrunk)
-    → IsWrittenEverywhere readers job shrunk.job.items
-written_everywhere job shrunk readers s =
+pub written_everywhere : (widest : Profile) (job : List ℕ) (shrunk : Shrunk) (readers : Readers)
+    → IsShrunkEverywhere readers widest job (Ok shrunk) → IsWrittenEverywhere readers widest job shrunk.job.items
+written_everywhere widest job shrunk readers s =
     (s.0, s.1, written_there_by s.0 s.2.0 s.2.1 job shrunk readers shrunk.doubt s.2.2 s.2.3)
 
 -- a job is read by one profile
@@ -88,30 +88,46 @@ abbrev pub StatedApart : Type 0
 StatedApart = (dpi : Dpi) (job : List ℕ) (pages : List Sheet) (refusal : Refusal) → HasPagesBy Stated dpi job pages
     → IsRefusalBy Stated dpi job refusal → ⊥
 
-pub one_profile : StatedApart → (dpi : Dpi) (job : List ℕ) (profile other : Profile) → IsReadBy profile dpi job → IsReadBy other dpi job
-    → profile ≡ other
-one_profile apart dpi job Stated Stated one other = refl
-one_profile apart dpi job Drivers Drivers one other = refl
-one_profile apart dpi job Stated Drivers one other = absurd (apart dpi job one.0 other.0 one.1 other.1)
-one_profile apart dpi job Drivers Stated one other = absurd (apart dpi job other.0 one.0 other.1 one.1)
+pub one_profile : StatedApart → (dpi : Dpi) (job : List ℕ) (widest profile other : Profile) → IsReadBy widest profile dpi job
+    → IsReadBy widest other dpi job → profile ≡ other
+one_profile apart dpi job widest Stated Stated one other = refl
+one_profile apart dpi job widest Drivers Drivers one other = refl
+one_profile apart dpi job Drivers Stated Drivers one other = absurd (apart dpi job one.0 other.0 one.1 other.1)
+one_profile apart dpi job Drivers Drivers Stated one other = absurd (apart dpi job other.0 one.0 other.1 one.1)
+one_profile apart dpi job Stated Stated Drivers one other = absurd other
+one_profile apart dpi job Stated Drivers Stated one other = absurd one
 
-module _ (apart : StatedApart) (readers : Readers) (profile : Profile) (dpi : Dpi) (job : List ℕ) (shrunk : Shrunk)
-    (s : IsShrunk readers dpi job (Ok shrunk)) where
+module _ (apart : StatedApart) (readers : Readers) (widest profile : Profile) (dpi : Dpi) (job : List ℕ) (shrunk : Shrunk)
+    (s : IsShrunk readers widest dpi job (Ok shrunk)) where
   -- it was shrunk by the profile by which it is read
-  shrunk_by : IsReadBy profile dpi job → IsShrunkFor readers shrunk.doubt profile dpi None job shrunk
+  shrunk_by : IsReadBy widest profile dpi job → IsShrunkFor readers shrunk.doubt profile dpi None job shrunk
   shrunk_by read =
-      subst (λ (it : Profile). IsShrunkFor readers shrunk.doubt it dpi None job shrunk) (one_profile apart dpi job s.0 profile s.1 read) s.2
+      subst (λ (it : Profile). IsShrunkFor readers shrunk.doubt it dpi None job shrunk)
+      (one_profile apart dpi job widest s.0 profile s.1 read) s.2
 
-  pub prints_again : OnePages profile → (pages : List Sheet) → IsReadBy profile dpi job → HasPagesBy profile dpi job pages
+  pub prints_again : OnePages profile → (pages : List Sheet) → IsReadBy widest profile dpi job → HasPagesBy profile dpi job pages
       → PrintsAlike profile dpi pages shrunk.job.items
   prints_again one pages read meaning = prints_for profile dpi job shrunk one pages readers shrunk.doubt (shrunk_by read) meaning
 
-  pub asks_the_same : OneAsks profile → (asks : Asks) → IsReadBy profile dpi job → HasAsksBy profile dpi job asks
+  pub asks_the_same : OneAsks profile → (asks : Asks) → IsReadBy widest profile dpi job → HasAsksBy profile dpi job asks
       → HasAsksBy profile dpi shrunk.job.items asks
   asks_the_same one asks read asked = asks_for profile dpi job shrunk one asks readers shrunk.doubt (shrunk_by read) asked
 
+-- by the stated profile alone
+pub shrunk_by_stated : (dpi : Dpi) (job : List ℕ) (readers : Readers) (result : Result Shrunk JobFault)
+    → IsShrunkAt readers Stated dpi None job result → IsShrunk readers Stated dpi job result
+shrunk_by_stated dpi job readers (Ok shrunk) s = (Stated, tt, s)
+shrunk_by_stated dpi job readers (Err (Refused refusal)) s = (tt, s)
+shrunk_by_stated dpi job readers (Err Memory) s = tt
+
+pub everywhere_by_stated : (job : List ℕ) (readers : Readers) (result : Result Shrunk JobFault)
+    → IsShrunkEverywhereBy readers Stated job result → IsShrunkEverywhere readers Stated job result
+everywhere_by_stated job readers (Ok shrunk) s = (Stated, tt, s)
+everywhere_by_stated job readers (Err (Refused refusal)) s = (tt, s)
+everywhere_by_stated job readers (Err Memory) s = tt
+
 -- a job that counts somewhere by the stated profile is read by that
-pub counted_read : {job : List ℕ} (dpi : Dpi) (also : Option Dpi) → CountsAt Stated job dpi also → IsReadEverywhere Stated job
+pub counted_read : {job : List ℕ} (dpi : Dpi) (also : Option Dpi) → CountsAt Stated job dpi also → IsReadEverywhere Drivers Stated job
 counted_read Dpi300 (Some Dpi600) counts = inl counts.0
 counted_read Dpi300 None counts = inl counts.0
 counted_read Dpi600 None counts = inr counts.1

@@ -74,16 +74,18 @@ IsShrunkAt readers profile dpi also job (Ok shrunk) = IsShrunkFor readers shrunk
 IsShrunkAt readers profile dpi also job (Err (Refused refusal)) = IsRefusalBy profile dpi job refusal
 IsShrunkAt readers profile dpi also job (Err Memory) = Unit {0}
 
--- a job is read by the stated profile where that accepts it, else by the drivers'
-abbrev pub IsReadBy : Profile → Dpi → List ℕ → Type 0
-IsReadBy Stated dpi job = IsAccepted Stated dpi job
-IsReadBy Drivers dpi job = IsRefused Stated dpi job
+-- a job is read by the widest profile, but by the stated one where that accepts it
+abbrev pub IsReadBy : (widest profile : Profile) → Dpi → List ℕ → Type 0
+IsReadBy Stated Stated dpi job = Unit {0}
+IsReadBy Stated Drivers dpi job = ⊥
+IsReadBy Drivers Stated dpi job = IsAccepted Stated dpi job
+IsReadBy Drivers Drivers dpi job = IsRefused Stated dpi job
 
-abbrev pub IsShrunk : Readers → Dpi → List ℕ → Result Shrunk JobFault → Type 0
-IsShrunk readers dpi job (Ok shrunk) =
-    (profile : Profile) × IsReadBy profile dpi job × IsShrunkFor readers shrunk.doubt profile dpi None job shrunk
-IsShrunk readers dpi job (Err (Refused refusal)) = IsReadBy Drivers dpi job × IsRefusalBy Drivers dpi job refusal
-IsShrunk readers dpi job (Err Memory) = Unit {0}
+abbrev pub IsShrunk : Readers → (widest : Profile) → Dpi → List ℕ → Result Shrunk JobFault → Type 0
+IsShrunk readers widest dpi job (Ok shrunk) =
+    (profile : Profile) × IsReadBy widest profile dpi job × IsShrunkFor readers shrunk.doubt profile dpi None job shrunk
+IsShrunk readers widest dpi job (Err (Refused refusal)) = IsReadBy widest widest dpi job × IsRefusalBy widest dpi job refusal
+IsShrunk readers widest dpi job (Err Memory) = Unit {0}
 
 -- ---- what is written
 
@@ -95,8 +97,9 @@ abbrev pub IsWrittenBy : Readers → Profile → Dpi → List ℕ → List ℕ �
 IsWrittenBy reader.Printers profile dpi job output = IsSmallerJob profile dpi job output ⊎ IsInput profile dpi job output
 IsWrittenBy reader.Profile profile dpi job output = IsSmallerJob profile dpi job output
 
-abbrev pub IsWrittenFor : Readers → Dpi → List ℕ → List ℕ → Type 0
-IsWrittenFor readers dpi job output = (profile : Profile) × IsReadBy profile dpi job × IsWrittenBy readers profile dpi job output
+abbrev pub IsWrittenFor : Readers → (widest : Profile) → Dpi → List ℕ → List ℕ → Type 0
+IsWrittenFor readers widest dpi job output =
+    (profile : Profile) × IsReadBy widest profile dpi job × IsWrittenBy readers profile dpi job output
 
 -- ---- at each resolution
 
@@ -111,26 +114,28 @@ abbrev pub IsSmallerEverywhere : Profile → List ℕ → List ℕ → Type 0
 IsSmallerEverywhere profile job output =
     (dpi : Dpi) × (also : Option Dpi) × CountsAt profile job dpi also × IsSmallerJobAt profile dpi also job output
 
--- at each of them a job is read by the stated profile where that accepts it at one, else by the drivers'
-abbrev pub IsReadEverywhere : Profile → List ℕ → Type 0
-IsReadEverywhere Stated job = IsAccepted Stated Dpi300 job ⊎ IsAccepted Stated Dpi600 job
-IsReadEverywhere Drivers job = IsRefused Stated Dpi300 job × IsRefused Stated Dpi600 job
+-- at each of them a job is read by the widest profile, but by the stated one where that accepts it at one
+abbrev pub IsReadEverywhere : (widest profile : Profile) → List ℕ → Type 0
+IsReadEverywhere Stated Stated job = Unit {0}
+IsReadEverywhere Stated Drivers job = ⊥
+IsReadEverywhere Drivers Stated job = IsAccepted Stated Dpi300 job ⊎ IsAccepted Stated Dpi600 job
+IsReadEverywhere Drivers Drivers job = IsRefused Stated Dpi300 job × IsRefused Stated Dpi600 job
 
 abbrev pub IsWrittenEverywhereBy : Readers → Profile → List ℕ → List ℕ → Type 0
 IsWrittenEverywhereBy reader.Printers profile job output =
     IsSmallerEverywhere profile job output ⊎ ((dpi : Dpi) × IsInput profile dpi job output)
 IsWrittenEverywhereBy reader.Profile profile job output = IsSmallerEverywhere profile job output
 
-abbrev pub IsWrittenEverywhere : Readers → List ℕ → List ℕ → Type 0
-IsWrittenEverywhere readers job output =
-    (profile : Profile) × IsReadEverywhere profile job × IsWrittenEverywhereBy readers profile job output
+abbrev pub IsWrittenEverywhere : Readers → (widest : Profile) → List ℕ → List ℕ → Type 0
+IsWrittenEverywhere readers widest job output =
+    (profile : Profile) × IsReadEverywhere widest profile job × IsWrittenEverywhereBy readers profile job output
 
 -- it is refused at both, at 300 dots per inch so
 abbrev pub IsRefusedEverywhereBy : Profile → List ℕ → Refusal → Type 0
 IsRefusedEverywhereBy profile job refusal = IsRefusalBy profile Dpi300 job refusal × IsRefused profile Dpi600 job
 
-abbrev pub IsRefusedEverywhere : List ℕ → Refusal → Type 0
-IsRefusedEverywhere job refusal = IsReadEverywhere Drivers job × IsRefusedEverywhereBy Drivers job refusal
+abbrev pub IsRefusedEverywhere : (widest : Profile) → List ℕ → Refusal → Type 0
+IsRefusedEverywhere widest job refusal = IsReadEverywhere widest widest job × IsRefusedEverywhereBy widest job refusal
 
 abbrev pub IsShrunkEverywhereBy : Readers → Profile → List ℕ → Result Shrunk JobFault → Type 0
 IsShrunkEverywhereBy readers profile job (Ok shrunk) =
@@ -138,8 +143,8 @@ IsShrunkEverywhereBy readers profile job (Ok shrunk) =
 IsShrunkEverywhereBy readers profile job (Err (Refused refusal)) = IsRefusedEverywhereBy profile job refusal
 IsShrunkEverywhereBy readers profile job (Err Memory) = Unit {0}
 
-abbrev pub IsShrunkEverywhere : Readers → List ℕ → Result Shrunk JobFault → Type 0
-IsShrunkEverywhere readers job (Ok shrunk) =
-    (profile : Profile) × IsReadEverywhere profile job × IsShrunkEverywhereBy readers profile job (Ok shrunk)
-IsShrunkEverywhere readers job (Err (Refused refusal)) = IsRefusedEverywhere job refusal
-IsShrunkEverywhere readers job (Err Memory) = Unit {0}
+abbrev pub IsShrunkEverywhere : Readers → (widest : Profile) → List ℕ → Result Shrunk JobFault → Type 0
+IsShrunkEverywhere readers widest job (Ok shrunk) =
+    (profile : Profile) × IsReadEverywhere widest profile job × IsShrunkEverywhereBy readers profile job (Ok shrunk)
+IsShrunkEverywhere readers widest job (Err (Refused refusal)) = IsRefusedEverywhere widest job refusal
+IsShrunkEverywhere readers widest job (Err Memory) = Unit {0}

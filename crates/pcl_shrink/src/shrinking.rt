@@ -25,10 +25,31 @@ use std::alloc::{AllocError, Global};
 
 /// The smallest job that is found with the pages of a job, dot for dot, and which asks the printer for what that asks for. It is
 /// never longer than the job, nor than the least raster job of its pages where nothing is asked for. For printers it is the job as it
-/// came where these may read that otherwise. The job is read by the stated profile where that accepts it, else by the drivers'. A refusal
-/// is the job's.
-pub fn shrink(alloc: Global, job: &[u8], dpi: Dpi, readers: Readers) -> Result<Shrunk, JobFault>
-    ensures { IsShrunk readers dpi job.now result }
+/// came where these may read that otherwise. The job is read by the widest profile that is given, but by the stated one where that accepts
+/// it. A refusal is the job's.
+pub fn shrink(
+    alloc: Global,
+    job: &[u8],
+    widest: Profile,
+    dpi: Dpi,
+    readers: Readers,
+) -> Result<Shrunk, JobFault>
+    ensures { IsShrunk readers widest dpi job.now result }
+{
+    match widest {
+        Profile::Stated => shrink_by(alloc, job, Profile::Stated, dpi, readers),
+        Profile::Drivers => shrink_by_either(alloc, job, dpi, readers),
+    }
+}
+
+/// The same by the stated profile where that accepts the job, else by the drivers'.
+fn shrink_by_either(
+    alloc: Global,
+    job: &[u8],
+    dpi: Dpi,
+    readers: Readers,
+) -> Result<Shrunk, JobFault>
+    ensures { IsShrunk readers Drivers dpi job.now result }
 {
     match shrink_by(alloc, job, Profile::Stated, dpi, readers) {
         Ok(shrunk) => Ok(shrunk),
@@ -57,8 +78,23 @@ fn shrink_by(
 
 /// The same at each of 300 and 600 dots per inch at which a job is accepted: what is written has its pages at both, where both accept it.
 /// A refusal is the one at 300, where it is refused at 600 too.
-pub fn shrink_everywhere(alloc: Global, job: &[u8], readers: Readers) -> Result<Shrunk, JobFault>
-    ensures { IsShrunkEverywhere readers job.now result }
+pub fn shrink_everywhere(
+    alloc: Global,
+    job: &[u8],
+    widest: Profile,
+    readers: Readers,
+) -> Result<Shrunk, JobFault>
+    ensures { IsShrunkEverywhere readers widest job.now result }
+{
+    match widest {
+        Profile::Stated => everywhere_by(alloc, job, Profile::Stated, readers),
+        Profile::Drivers => everywhere_by_either(alloc, job, readers),
+    }
+}
+
+/// The same by the stated profile where that accepts the job at one of them, else by the drivers'.
+fn everywhere_by_either(alloc: Global, job: &[u8], readers: Readers) -> Result<Shrunk, JobFault>
+    ensures { IsShrunkEverywhere readers Drivers job.now result }
 {
     match everywhere_by(alloc, job, Profile::Stated, readers) {
         Ok(shrunk) => Ok(shrunk),

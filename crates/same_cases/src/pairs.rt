@@ -12,7 +12,7 @@
 
 use crate::answers::words_of;
 use crate::notation::bytes_of;
-use pcl_base::Dpi;
+use pcl_base::{Dpi, Profile};
 use pcl_same::{AskedComparison, Comparison, SameFault, same, same_asked};
 use std::alloc::{AllocError, Global};
 
@@ -79,8 +79,8 @@ impl Pairs {
 
     /// Compares the pair, with what it asks of the printer and without.
     fn compare(&self, alloc: Global, expected: &str) -> Result<Taken, AllocError> {
-        let answer = same_asked(alloc, &self.first, &self.second, self.dpi);
-        let pages = same(alloc, &self.first, &self.second, self.dpi);
+        let answer = same_asked(alloc, &self.first, &self.second, Profile::Drivers, self.dpi);
+        let pages = same(alloc, &self.first, &self.second, Profile::Drivers, self.dpi);
         let came = words_of(alloc, answer)?;
         if came.as_str() != expected || pages != of_pages(answer) {
             return Ok(Taken::Fails(came));

@@ -13,7 +13,7 @@
 //! For those that read it as the language says no job goes as it came for that.
 
 use case_tables::{CasesOfLines, TableFault, bytes_of, resolution};
-use pcl_base::{Dpi, JobFault};
+use pcl_base::{Dpi, JobFault, Profile};
 use pcl_shrink::{Readers, Shrunk, shrink, shrink_everywhere};
 use std::alloc::{AllocError, Global};
 
@@ -70,8 +70,8 @@ impl DoubtCases {
     /// Why the job goes as it came, in a word.
     fn came(&self, alloc: Global, readers: Readers) -> Result<String, AllocError> {
         let shrunk = match self.dpi {
-            Some(dpi) => shrink(alloc, &self.job, dpi, readers),
-            None => shrink_everywhere(alloc, &self.job, readers),
+            Some(dpi) => shrink(alloc, &self.job, Profile::Drivers, dpi, readers),
+            None => shrink_everywhere(alloc, &self.job, Profile::Drivers, readers),
         };
         word_of(alloc, &self.job, shrunk)
     }

@@ -27,7 +27,7 @@ mod doubts;
 
 use case_tables::{RunFault, check_lines};
 use doubts::DoubtCases;
-use pcl_base::{Dpi, JobFault};
+use pcl_base::{Dpi, JobFault, Profile};
 use pcl_shrink::{Readers, Shrunk, shrink, shrink_everywhere};
 use std::alloc::{AllocError, Global};
 use std::io;
@@ -192,7 +192,13 @@ fn print_letters<R: Print + AllocGlobal>(rt: &R) -> io::Result<()> {
     append_letters(90, &mut letters)?;
     print_shrunk(rt, "a letter ninety times", &letters, Dpi::Dpi300)?;
     print_shrunk(rt, "the same at 600 dots per inch", &letters, Dpi::Dpi600)?;
-    let again = shrink(rt.alloc(), &letters, Dpi::Dpi300, Readers::Printers);
+    let again = shrink(
+        rt.alloc(),
+        &letters,
+        Profile::Drivers,
+        Dpi::Dpi300,
+        Readers::Printers,
+    );
     if let Ok(shrunk) = again {
         print_shrunk(
             rt,
@@ -245,7 +251,7 @@ fn print_everywhere<R: Print + AllocGlobal>(rt: &R, letters: &[u8]) -> io::Resul
 
 /// Prints the line of a job that is shrunk for both resolutions.
 fn print_at_both<R: Print + AllocGlobal>(rt: &R, name: &str, job: &[u8]) -> io::Result<()> {
-    match shrink_everywhere(rt.alloc(), job, Readers::Printers) {
+    match shrink_everywhere(rt.alloc(), job, Profile::Drivers, Readers::Printers) {
         Ok(shrunk) => print_lengths(rt, name, job, &shrunk),
         Err(fault) => print_fault(rt, name, fault),
     }
@@ -267,7 +273,7 @@ fn print_shrunk<R: Print + AllocGlobal>(
     job: &[u8],
     dpi: Dpi,
 ) -> io::Result<()> {
-    match shrink(rt.alloc(), job, dpi, Readers::Printers) {
+    match shrink(rt.alloc(), job, Profile::Drivers, dpi, Readers::Printers) {
         Ok(shrunk) => print_lengths(rt, name, job, &shrunk),
         Err(fault) => print_fault(rt, name, fault),
     }

@@ -22,31 +22,34 @@ of_bytes P p q h = rw (← p, ← q) h
 -- the bytes of the two files, and where they are seen, whatever lent them
 abbrev are_seen : {F : Type 0} {acts : F → FileAct → F → Type 0} {files : F} (asked : ComparedFiles) (dpi : Dpi) {first second : Vec ℕ}
     {one other : List ℕ} → IsFileRead acts files asked.first.now (Ok first) → IsFileRead acts files asked.second.now (Ok second)
-    → one ≡ first.items → other ≡ second.items → AreComparedAt asked.resolution asked.asks one other dpi → AreFilesSeen acts files asked
+    → one ≡ first.items → other ≡ second.items → AreComparedAt asked.resolution asked.asks asked.profile one other dpi
+    → AreFilesSeen acts files asked
 are_seen asked dpi {first} {second} f s p q seen = record {
   first = first;
   second = second;
   read = record { first_is = f; second_is = s };
   dpi = dpi;
-  seen = of_bytes (λ (one other : List ℕ). AreComparedAt asked.resolution asked.asks one other dpi) p q seen;
+  seen = of_bytes (λ (one other : List ℕ). AreComparedAt asked.resolution asked.asks asked.profile one other dpi) p q seen;
 }
 
 -- their comparison, and its image, whatever lent the bytes
 drawn_beside : {F : Type 0} (acts : F → FileAct → F → Type 0) (files kept : F) (asked : ComparedFiles) (comparison : AskedComparison)
     (pages : Comparison) (done : Result (Unit {0}) Fault) (seen : AreFilesSeen acts files asked) {one other third fourth : List ℕ}
-    → one ≡ seen.first.items → other ≡ seen.second.items → IsComparisonFor asked.asks seen.dpi one other comparison
+    → one ≡ seen.first.items → other ≡ seen.second.items → IsComparisonFor asked.asks asked.profile seen.dpi one other comparison
     → pages ≡ of_pages comparison → third ≡ seen.first.items → fourth ≡ seen.second.items
-    → IsImageDrawn acts asked.image seen.dpi third fourth pages files kept done → IsComparedAndDrawn acts asked files kept comparison done
+    → IsImageDrawn acts asked.image asked.profile seen.dpi third fourth pages files kept done
+    → IsComparedAndDrawn acts asked files kept comparison done
 drawn_beside acts files kept asked comparison pages done seen p q compared e r s drawn = (
   seen,
-  of_bytes (λ (one other : List ℕ). IsComparisonFor asked.asks seen.dpi one other comparison) p q compared,
-  of_bytes (λ (one other : List ℕ). IsImageDrawn acts asked.image seen.dpi one other (of_pages comparison) files kept done) r s
-      (rw e at drawn),
+  of_bytes (λ (one other : List ℕ). IsComparisonFor asked.asks asked.profile seen.dpi one other comparison) p q compared,
+  of_bytes (λ (one other : List ℕ). IsImageDrawn acts asked.image asked.profile seen.dpi one other (of_pages comparison) files kept done)
+      r s (rw e at drawn),
 )
 
 -- jobs that can't be compared
 uncompared : {F : Type 0} (acts : F → FileAct → F → Type 0) (files : F) (asked : ComparedFiles) (held : Option (List ℕ))
-    (fault : SameFault) (seen : AreFilesSeen acts files asked) → IsCompared seen.dpi seen.first.items seen.second.items (Err fault)
+    (fault : SameFault) (seen : AreFilesSeen acts files asked)
+    → IsCompared asked.profile seen.dpi seen.first.items seen.second.items (Err fault)
     → IsCompareRun acts asked files files held held (Err (compare_fault_of fault))
 uncompared acts files asked held (same.Refused which refusal) seen a = (refl, (seen, a), Keeps-refl held)
 uncompared acts files asked held same.Memory seen a = (inl refl, Keeps-refl held)
@@ -57,8 +60,8 @@ undrawn : {F : Type 0} (acts : F → FileAct → F → Type 0) (files kept : F) 
     → IsCompareRun acts asked files kept held held (Err (Failed fault))
 undrawn acts files kept asked held comparison WriteFault a = (comparison, inl (a, Keeps-refl held))
 undrawn acts files kept asked held comparison Memory a = (inr (comparison, a), Keeps-refl held)
-undrawn acts files kept asked held comparison other a = absurd (drawn_fault acts asked.image (dotted_page (of_pages comparison)) a.0.dpi
-    a.0.first.items a.0.second.items files kept other a.2)
+undrawn acts files kept asked held comparison other a = absurd (drawn_fault acts asked.image (dotted_page (of_pages comparison))
+    asked.profile a.0.dpi a.0.first.items a.0.second.items files kept other a.2)
 
 -- a write of the line that fails
 stops : {F : Type 0} (acts : F → FileAct → F → Type 0) (files kept : F) (asked : ComparedFiles) (old new : Option (List ℕ))
@@ -87,14 +90,16 @@ returns-in_err-comparison g c =
     c.deref-2.ensures.value c.in_ok-dpi.ensures in
     rw (p.1, p.2)
     (uncompared g.F.JobFiles.acts _ c.args.asked _ fault seen
-    (of_bytes (λ (one other : List ℕ). IsCompared c.in_ok-dpi.dpi one other (Err fault)) c.deref-3.ensures.value c.deref-4.ensures.value
+    (of_bytes (λ (one other : List ℕ). IsCompared c.args.asked.profile c.in_ok-dpi.dpi one other (Err fault)) c.deref-3.ensures.value
+    c.deref-4.ensures.value
     c.in_err-comparison.ensures))
 
 pub draw_difference-requires : goal.draw_difference-requires
 draw_difference-requires g c =
-    subst (IsComparison c.in_ok-dpi.dpi c.deref-5.result.now c.deref-6.result.now) (sym c.of_pages-pages.ensures)
-    (by_pages c.args.asked.asks _ _ _ c.in_ok-comparison.comparison
-    (of_bytes (λ (one other : List ℕ). IsComparisonFor c.args.asked.asks c.in_ok-dpi.dpi one other c.in_ok-comparison.comparison)
+    subst (IsComparison c.args.asked.profile c.in_ok-dpi.dpi c.deref-5.result.now c.deref-6.result.now) (sym c.of_pages-pages.ensures)
+    (by_pages c.args.asked.asks _ _ _ _ c.in_ok-comparison.comparison
+    (of_bytes (λ (one other : List ℕ).
+    IsComparisonFor c.args.asked.asks c.args.asked.profile c.in_ok-dpi.dpi one other c.in_ok-comparison.comparison)
     (c.deref-3.ensures.value ∙ sym c.deref-5.ensures.value) (c.deref-4.ensures.value ∙ sym c.deref-6.ensures.value)
     c.in_ok-comparison.ensures))
 

@@ -13,11 +13,11 @@ returns-clause-by c = λ last profile.
     }) (c.one_meaning.ensures.asks profile)
 
 pub returns-clause-answer : goal.returns-clause-answer
-returns-clause-answer c = λ dpi first second.
+returns-clause-answer c = λ widest dpi first second.
     let one : (profile : Profile) → HasOneMeaning profile = λ profile. record {
       pages = c.one_meaning.ensures.pages profile;
       refusal = c.one_meaning.ensures.refusal profile;
       apart = c.one_meaning.ensures.apart profile;
     } in
     one_told (one Stated) dpi first second (λ profile it. IsComparedAskedBy Ends profile dpi first second it)
-    (λ profile. same_asked_answer_by Ends (one profile) (c.one_meaning.ensures.asks profile) dpi first second)
+    (λ profile. same_asked_answer_by Ends (one profile) (c.one_meaning.ensures.asks profile) dpi first second) widest

@@ -1,8 +1,6 @@
-use Rattle.pcl_shrink.proofs.Names.{Stated}
-use Rattle.std.specs.Prelude.{None}
-use Rattle.pcl_shrink.proofs.Written.{accepted_for}
+use Rattle.pcl_shrink.proofs.Written.{shrunk_by_stated}
 use Rattle.pcl_shrink.proofs.shrinking.shrink.Goals as goal
 
-pub returns-in-Ok : goal.returns-in-Ok
-returns-in-Ok c =
-    let s = c.in-Ok.ensures in (Stated, accepted_for Stated c.args.dpi None c.args.job.now _ c.args.readers _ s, s)
+pub returns-in-Stated : goal.returns-in-Stated
+returns-in-Stated c =
+    rw c.in-Stated.is (shrunk_by_stated c.args.dpi c.args.job.now c.args.readers c.shrink_by.result c.shrink_by.ensures)

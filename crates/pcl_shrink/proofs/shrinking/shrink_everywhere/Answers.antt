@@ -1,6 +1,6 @@
-use Rattle.pcl_shrink.proofs.Names.{Stated}
-use Rattle.pcl_shrink.proofs.Written.{counted_read}
+use Rattle.pcl_shrink.proofs.Written.{everywhere_by_stated}
 use Rattle.pcl_shrink.proofs.shrinking.shrink_everywhere.Goals as goal
 
-pub returns-in-Ok : goal.returns-in-Ok
-returns-in-Ok c = let s = c.in-Ok.ensures in (Stated, counted_read s.0 s.1 s.2, s)
+pub returns-in-Stated : goal.returns-in-Stated
+returns-in-Stated c =
+    rw c.in-Stated.is (everywhere_by_stated c.args.job.now c.args.readers c.everywhere_by.result c.everywhere_by.ensures)
