@@ -19,7 +19,7 @@ pub enum CertFault {
     #[error("there are bytes behind the last page")]
     Extra,
     /// No size of page has this many rows.
-    #[error("no size of page has so many rows")]
+    #[error("no size of page has as many rows")]
     Rows,
     /// A list of a row table is longer than a row, or ends in 0.
     #[error("a list of a row table is too long or ends in 0")]

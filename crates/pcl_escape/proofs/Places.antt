@@ -10,7 +10,7 @@ abbrev pub data_of : Option Said → List ℕ
 data_of None = []
 data_of (Some said) = said.bytes
 
--- the name is told by its bytes
+-- the name is the one that its bytes spell
 abbrev pub IsTold : Name → Type 0
 IsTold name = name_with (name_bytes name) ≡ name
 

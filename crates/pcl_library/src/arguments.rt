@@ -82,7 +82,7 @@ pub fn pages_between(first: u32, last: u32) -> Result<PageChoice, Failure>
     })
 }
 
-/// The scale that a number asks for: so many dots across, and as many down, make a pixel.
+/// The scale that a number asks for: as many dots across and down make a pixel.
 pub fn scale_numbered(number: u32) -> Result<Scale, Failure>
     ensures { IsScaleOf number result }
 {

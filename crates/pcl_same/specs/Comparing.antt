@@ -42,7 +42,7 @@ AreReadBy Stated Drivers dpi first second = ⊥
 AreReadBy Drivers Stated dpi first second = IsAccepted Stated dpi first × IsAccepted Stated dpi second
 AreReadBy Drivers Drivers dpi first second = IsRefused Stated dpi first ⊎ IsRefused Stated dpi second
 
--- what is answered by a profile, of the one by which two jobs are read
+-- what a profile answers, of the one by which two jobs are read
 abbrev pub IsAnsweredByOne : {C : Type 0} → (Profile → Result C SameFault → Type 0) → (widest : Profile) → Dpi → (first second : List ℕ)
     → Result C SameFault → Type 0
 IsAnsweredByOne IsBy widest dpi first second (Ok comparison) =

@@ -15,7 +15,7 @@ goes_on_more {old} a b = (b.0 ++ a.0, b.1 ∙ ap (λ (items : List Item). b.0 ++
 one_more : {old items : List Item} (item : Item) → GoesOn old items → GoesOn old (item ∷ items)
 one_more item a = (item ∷ a.0, ap (λ (items : List Item). item ∷ items) a.1)
 
--- ---- the look back
+-- ---- looking back
 
 pub looked_back : (dpi : Dpi) (more old : List Item) → ago (length (more ++ old) - length old) (situations dpi (more ++ old)) ≡ now dpi old
 looked_back dpi [] old = let none : length old - length old ≡ 0 = omega arith in rw none refl
