@@ -1,6 +1,6 @@
 -- Two jobs have one answer, what they ask of the printer with it.
 use Rattle.std.proofs.Common.{◌≡◌, ◌≢◌, ℕ, List, [], ◌∷◌, ◌++◌, length, Result, Err, refl, sym, ap, ◌∙◌, arith}
-use Rattle.pcl_same.proofs.Names.{Profile, append_cancel_left, Dpi, AskedPage, Asks, HasAsksBy, AskedComparison, AskedDifference, AsksDifference, ExitCount, Exit, Lasting, ExitDifference, Setting, SettingDifference, SameFault, Memory, Compare, of_pages, CompareAsks, IsComparisonCounting, IsComparedAskedBy, counted, DifferAt, setting_of, order_of, IsFirstSetting, IsAskedBy, ExitsDifferBy, AsksDifferBy}
+use Rattle.pcl_same.proofs.Names.{Profile, append_cancel_left, Dpi, AskedPage, Asks, HasAsksBy, AskedComparison, AskedDifference, AsksDifference, ExitCount, Exit, Lasting, ExitDifference, Setting, SettingDifference, SameFault, Memory, Compare, of_pages, CompareAsks, IsComparisonCounting, IsComparedAskedBy, as_counted, DifferAt, setting_of, order_of, IsFirstSetting, IsAskedBy, ExitsDifferBy, AsksDifferBy}
 use Rattle.pcl_page.specs.Asks.{Exit as UniversalExit}
 use Rattle.pcl_same.specs.declared.asking.LastExit.{LastExit}
 use Rattle.pcl_same.specs.declared.comparison.AskedComparison.TheVariants as asked
@@ -114,8 +114,8 @@ same_asked {last} one one_asks {dpi} {first} {second} a b p q =
     let compare : Compare dpi p.pages p.others (of_pages b) =
     rw (one.pages dpi first p.pages q.pages p.meaning q.meaning, same) q.compare in
     let alike = one_asks dpi second p.other_asks q.other_asks p.other_asked q.other_asked in
-    let compare_asks : CompareAsks (counted last p.asks) (counted last p.other_asks) b = rw (one_asks dpi first p.asks q.asks p.asked q.asked, alike) q.compare_asks in
-    one_asked (counted last p.asks) (counted last p.other_asks) a b (one_comparison dpi p.pages p.others (of_pages a) (of_pages b) p.compare compare) p.compare_asks
+    let compare_asks : CompareAsks (as_counted last p.asks) (as_counted last p.other_asks) b = rw (one_asks dpi first p.asks q.asks p.asked q.asked, alike) q.compare_asks in
+    one_asked (as_counted last p.asks) (as_counted last p.other_asks) a b (one_comparison dpi p.pages p.others (of_pages a) (of_pages b) p.compare compare) p.compare_asks
     compare_asks
 
 pub same_asked_answer_by : (last : LastExit) {profile : Profile} → HasOneMeaning profile → OneAsks profile → (dpi : Dpi) (first second : List ℕ)

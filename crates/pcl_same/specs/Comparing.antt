@@ -23,7 +23,7 @@ use Rattle.pcl_same.specs.declared.fault.Job.TheVariants.{First, Second}
 use Rattle.pcl_same.specs.declared.fault.SameFault.{SameFault}
 use Rattle.pcl_same.specs.declared.fault.SameFault.TheVariants.{Refused, Memory}
 use Rattle.pcl_same.specs.Differing.{DifferFirst}
-use Rattle.pcl_same.specs.DifferingAsks.{AsksDifferBy, counted}
+use Rattle.pcl_same.specs.DifferingAsks.{AsksDifferBy, as_counted}
 
 -- two lists of pages are the same, one by one; or not as many; or as many, of which one pair is the first that differs
 abbrev pub Compare : Dpi → List Sheet → List Sheet → Comparison → Type 0
@@ -104,7 +104,7 @@ pub record IsComparisonCounting (last : LastExit) (profile : Profile) (dpi : Dpi
   pub other_asks : Asks
   pub other_asked : HasAsksBy profile dpi second other_asks
   pub compare : Compare dpi pages others (of_pages comparison)
-  pub compare_asks : CompareAsks (counted last asks) (counted last other_asks) comparison
+  pub compare_asks : CompareAsks (as_counted last asks) (as_counted last other_asks) comparison
 
 abbrev pub IsAskedComparisonBy : Profile → Dpi → (first second : List ℕ) → AskedComparison → Type 0
 IsAskedComparisonBy profile dpi first second comparison = IsComparisonCounting Counts profile dpi first second comparison

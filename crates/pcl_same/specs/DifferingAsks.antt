@@ -97,8 +97,8 @@ counted_exits Counts pages exits = exits
 counted_exits Ends pages exits = if is_end pages (drop (length exits - 1) exits) then take (length exits - 1) exits else exits
 
 -- what is asked, of which those exits count
-abbrev pub counted : LastExit → Asks → Asks
-counted last asks = record asks { exits = counted_exits last (length asks.pages) asks.exits }
+abbrev pub as_counted : LastExit → Asks → Asks
+as_counted last asks = record asks { exits = counted_exits last (length asks.pages) asks.exits }
 
 -- ---- jobs
 

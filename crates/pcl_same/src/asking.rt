@@ -2,7 +2,7 @@
 
 ghost use Rattle.std.specs.Prelude.{◌≡◌, ◌≢◌, ◌-◌, MatchOption, length, map, drop};
 ghost use Rattle.pcl_page.specs.Asks.{asks_of, exit_of};
-ghost use Rattle.pcl_same.specs.DifferingAsks.{IsFirstSetting, HaveSameSettings, IsAskedBy, ExitsDifferBy, AsksDifferBy, counted, counted_exits, is_end};
+ghost use Rattle.pcl_same.specs.DifferingAsks.{IsFirstSetting, HaveSameSettings, IsAskedBy, ExitsDifferBy, AsksDifferBy, as_counted, counted_exits, is_end};
 ghost use Rattle.pcl_same.specs.inner.Asking.{IsSettingDifference, IsPageDifference, IsExitDifference};
 
 use crate::{AskedDifference, AsksDifference, ExitDifference, Setting, SettingDifference};
@@ -48,8 +48,8 @@ pub fn asks_difference(
     last: LastExit,
 ) -> Option<AsksDifference>
     ensures { length first.now.pages.items ≡ length second.now.pages.items → first.now.next ≡ second.now.next
-        → MatchOption result (counted last (asks_of first.now) ≡ counted last (asks_of second.now))
-            (AsksDifferBy (counted last (asks_of first.now)) (counted last (asks_of second.now))) }
+        → MatchOption result (as_counted last (asks_of first.now) ≡ as_counted last (asks_of second.now))
+            (AsksDifferBy (as_counted last (asks_of first.now)) (as_counted last (asks_of second.now))) }
 {
     if let Some(difference) = page_difference(&first.pages, &second.pages) {
         return Some(difference);

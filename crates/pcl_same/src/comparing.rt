@@ -3,7 +3,7 @@
 ghost use Rattle.std.specs.Prelude.{◌≡◌, ℕ, List, length, None};
 ghost use Rattle.pcl_page.specs.Asks.{asks_of};
 ghost use Rattle.pcl_same.specs.Comparing.{of_pages, CompareAsks};
-ghost use Rattle.pcl_same.specs.DifferingAsks.{counted};
+ghost use Rattle.pcl_same.specs.DifferingAsks.{as_counted};
 ghost use Rattle.pcl_same.specs.Keeping.{IsKept, IsComparedBeside, IsCountedBeside};
 ghost use Rattle.pcl_same.specs.inner.Pages.{IsFound, IsConcluded, comparison_of};
 
@@ -60,7 +60,7 @@ fn conclude(
 ) -> AskedComparison
     ensures pages { of_pages result ≡ comparison_of pages }
     ensures asks { (pages ≡ None → length first.now.pages.items ≡ length second.now.pages.items) → first.now.next ≡ second.now.next
-        → CompareAsks (counted last (asks_of first.now)) (counted last (asks_of second.now)) result }
+        → CompareAsks (as_counted last (asks_of first.now)) (as_counted last (asks_of second.now)) result }
 {
     if let Some(difference) = pages {
         return AskedComparison::Pages(difference);
