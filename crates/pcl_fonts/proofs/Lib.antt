@@ -1,4 +1,5 @@
 pub mod Names
+mod Expanding
 mod Glyphs
 pub mod Histories
 mod Permanent

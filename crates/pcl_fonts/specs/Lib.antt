@@ -1,3 +1,5 @@
+pub mod Compressed
 pub mod Fields
 pub mod History
 pub mod Table
+pub mod inner

@@ -2,6 +2,7 @@
 //! PCL 5 Printer Language Technical Reference Manual, "Soft Font Creation").
 #![tactic(auto)]
 
+mod compressed;
 mod fields;
 mod fonts;
 mod glyph;
