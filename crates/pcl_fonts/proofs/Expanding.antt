@@ -1,5 +1,5 @@
 -- Bits in bytes, and rows of runs.
-use Rattle.std.proofs.Common.{◌≡◌, ℕ, zero, suc, ◌+◌, ◌-◌, ◌*◌, ◌/◌, ◌%◌, ◌^◌, ◌<◌, ◌≤◌, Bool, true, false, not, nat_le, if◌then◌else◌, List, [], ◌∷◌, ◌++◌, length, get_or, set, drop, Option, Some, None, refl, sym, ap, ◌∙◌, arith, replicate}
+use Rattle.std.proofs.Common.{◌≡◌, ℕ, zero, suc, ◌+◌, ◌-◌, ◌*◌, ◌/◌, ◌%◌, ◌^◌, ◌<◌, ◌≤◌, Bool, true, false, not, if◌then◌else◌, List, [], ◌∷◌, ◌++◌, length, get_or, set, drop, Option, Some, None, refl, sym, ap, ◌∙◌, arith, replicate}
 use Rattle.std.specs.Int.Bits.{bit_or}
 use Rattle.std.proofs.lemmas.Nat.{pow-add, pow_pos, or_shifted, shl-shr}
 use Rattle.std.proofs.lemmas.List.{drop-replicate, drop-append-le, drop_all, append_assoc, append-nil, length-append, length-replicate, length-drop, replicate-append-replicate}
@@ -10,7 +10,7 @@ use Rattle.std.proofs.lemmas.Bool.{le-leb, lt-leb}
 use Rattle.std.proofs.lemmas.List.{replicate_more}
 use Rattle.std.proofs.lemmas.List.Folds.{concat-append}
 use Rattle.pcl_fonts.specs.inner.Expanding.{HasRow, HasRows}
-use Rattle.pcl_fonts.specs.Compressed.{Front, byte_of, bytes_of, after, row_of, rows_of, with_copies, expanded}
+use Rattle.pcl_fonts.specs.Compressed.{RowFront, byte_of, bytes_of, preceded, row_by_runs, rows_by_groups, with_copies, expanded}
 
 -- ---- a byte
 
@@ -106,12 +106,16 @@ black_bytes (suc n) zero f s m r mask bits long first more sum lt =
     ap (λ b. bit_or b mask) byte ∙ or_shifted (byte_of f bits) s mask small ∙ ap (λ b. b + mask) (sym byte) in
     let inked = black_byte 8 s m r mask bits (omega arith) more sum in
     let none = drop_all 8 bits (omega arith) in
-    let none_behind = drop_all 8 (bits ++ replicate m true) (omega (arith, length-append bits (replicate m true), length-replicate m true)) in
+    let none_behind = drop_all 8 (bits ++ replicate m true)
+    (omega (arith, length-append bits (replicate m true), length-replicate m true)) in
     rw (inked, joined, none, none_behind) refl
 black_bytes (suc n) (suc place) f s m r mask bits long first more sum lt =
     let eight : 8 ≤ length bits = omega arith in
-    rw (full_byte 8 bits (replicate m true) eight, drop-append-le 8 bits (replicate m true) eight,
-    black_bytes n place f s m r mask (drop 8 bits) (omega (arith, length-drop 8 bits)) first more sum (omega arith)) refl
+    rw (
+      full_byte 8 bits (replicate m true) eight,
+      drop-append-le 8 bits (replicate m true) eight,
+      black_bytes n place f s m r mask (drop 8 bits) (omega (arith, length-drop 8 bits)) first more sum (omega arith),
+    ) refl
 
 -- ---- a mask
 
@@ -156,11 +160,11 @@ blackened_more {start = start} {old = old} {row = row} {column = column} count m
           let bits_too : length (bits ++ black) ≡ 8 * place + first =
           omega (arith, length-append bits black, length-replicate (column - start) true, whole, begins, from) in
           ap (λ r. set r place (bit_or (get_or r place 0) mask)) (b.row_is bits begins is)
-              ∙ sym (black_bytes (length old) place first (8 - first) count (8 - (first + count)) mask (bits ++ black) bits_too (omega arith)
-              (omega arith) sum (omega (arith, whole)))
-              ∙ ap (bytes_of (length old)) (append_assoc bits black (replicate count true)
-              ∙ ap (λ more. bits ++ more) (replicate-append-replicate (column - start) count true
-              ∙ ap (λ k. replicate k true) black_too));
+          ∙ sym (black_bytes (length old) place first (8 - first) count (8 - (first + count)) mask (bits ++ black) bits_too (omega arith)
+          (omega arith) sum (omega (arith, whole)))
+          ∙ ap (bytes_of (length old)) (append_assoc bits black (replicate count true)
+          ∙ ap (λ more. bits ++ more) (replicate-append-replicate (column - start) count true
+          ∙ ap (λ k. replicate k true) black_too));
     }
 
 -- ---- a row
@@ -168,35 +172,35 @@ blackened_more {start = start} {old = old} {row = row} {column = column} count m
 pub record IsBegun (width : ℕ) (bytes row rest : List ℕ) (column : ℕ) (black : Bool) : Type 0 where
   pub within : column ≤ width
   pub so_far : (bits : List Bool) × (length bits ≡ column) × (row ≡ bytes_of ((width + 7) / 8) bits)
-      × (row_of false width bytes ≡ option_map (after bits) (row_of black (width - column) rest))
+      × (row_by_runs false width bytes ≡ option_map (preceded bits) (row_by_runs black (width - column) rest))
 
-after_none : (front : Option Front) → option_map (after []) front ≡ front
-after_none None = refl
-after_none (Some front) = refl
+preceded_none : (front : Option RowFront) → option_map (preceded []) front ≡ front
+preceded_none None = refl
+preceded_none (Some front) = refl
 
-after_after : (xs ys : List Bool) (front : Option Front)
-    → option_map (after xs) (option_map (after ys) front) ≡ option_map (after (xs ++ ys)) front
-after_after xs ys None = refl
-after_after xs ys (Some front) = rw (append_assoc xs ys front.bits) refl
+preceded_twice : (xs ys : List Bool) (front : Option RowFront)
+    → option_map (preceded xs) (option_map (preceded ys) front) ≡ option_map (preceded (xs ++ ys)) front
+preceded_twice xs ys None = refl
+preceded_twice xs ys (Some front) = rw (append_assoc xs ys front.bits) refl
 
-row_cut : (black : Bool) (left : ℕ) → 0 < left → row_of black left [] ≡ None
-unfolding row_of
+row_cut : (black : Bool) (left : ℕ) → 0 < left → row_by_runs black left [] ≡ None
+unfolding row_by_runs
 row_cut black zero lt = absurd (omega arith)
 row_cut black (suc more) lt = refl
 
-row_past : (black : Bool) (left run : ℕ) (rest : List ℕ) → left < run → 0 < left → row_of black left (run ∷ rest) ≡ None
-unfolding row_of
+row_past : (black : Bool) (left run : ℕ) (rest : List ℕ) → left < run → 0 < left → row_by_runs black left (run ∷ rest) ≡ None
+unfolding row_by_runs
 row_past black zero run rest past lt = absurd (omega arith)
 row_past black (suc more) run rest past lt = rw (lt-leb run (suc more) past) refl
 
 row_step : (black : Bool) (left run : ℕ) (rest : List ℕ) → run ≤ left → 0 < left
-    → row_of black left (run ∷ rest) ≡ option_map (after (replicate run black)) (row_of (not black) (left - run) rest)
-unfolding row_of
+    → row_by_runs black left (run ∷ rest) ≡ option_map (preceded (replicate run black)) (row_by_runs (not black) (left - run) rest)
+unfolding row_by_runs
 row_step black zero run rest le lt = absurd (omega arith)
 row_step black (suc more) run rest le lt = rw (le-leb run (suc more) le) refl
 
-row_end : (black : Bool) (left : ℕ) (rest : List ℕ) → left ≡ 0 → row_of black left rest ≡ Some (record { bits = []; rest = rest })
-unfolding row_of
+row_end : (black : Bool) (left : ℕ) (rest : List ℕ) → left ≡ 0 → row_by_runs black left rest ≡ Some (record { bits = []; rest = rest })
+unfolding row_by_runs
 row_end black zero rest e = refl
 row_end black (suc more) rest e = absurd (omega arith)
 
@@ -204,26 +208,26 @@ pub begun : (width : ℕ) (bytes : List ℕ) → IsBegun width bytes (replicate 
 begun width bytes = record {
   within = omega arith;
   so_far = (
-      [],
-      refl,
-      sym (no_bytes ((width + 7) / 8)),
-      sym (after_none (row_of false width bytes))
-          ∙ ap (λ n. option_map (after []) (row_of false n bytes)) (let none : width ≡ width - 0 = omega arith in none),
-    );
+    [],
+    refl,
+    sym (no_bytes ((width + 7) / 8)),
+    sym (preceded_none (row_by_runs false width bytes))
+        ∙ ap (λ n. option_map (preceded []) (row_by_runs false n bytes)) (let none : width ≡ width - 0 = omega arith in none),
+  );
 }
 
 pub has_no_bytes : {width : ℕ} {bytes row rest : List ℕ} {column : ℕ} {black : Bool} → IsBegun width bytes row rest column black
-    → column < width → rest ≡ [] → row_of false width bytes ≡ None
+    → column < width → rest ≡ [] → row_by_runs false width bytes ≡ None
 has_no_bytes {width = width} {column = column} {black = black} b lt none =
-    b.so_far.3 ∙ ap (λ r. option_map (after b.so_far.0) (row_of black (width - column) r)) none
-    ∙ ap (option_map (after b.so_far.0)) (row_cut black (width - column) (omega arith))
+    b.so_far.3 ∙ ap (λ r. option_map (preceded b.so_far.0) (row_by_runs black (width - column) r)) none
+    ∙ ap (option_map (preceded b.so_far.0)) (row_cut black (width - column) (omega arith))
 
 pub goes_past : {width : ℕ} {bytes row : List ℕ} {rest : List ℕ} {column : ℕ} {black : Bool} (run : ℕ) (others : List ℕ)
     → IsBegun width bytes row rest column black → column < width → rest ≡ run ∷ others → width < column + run
-    → row_of false width bytes ≡ None
+    → row_by_runs false width bytes ≡ None
 goes_past {width = width} {column = column} {black = black} run others b lt is past =
-    b.so_far.3 ∙ ap (λ r. option_map (after b.so_far.0) (row_of black (width - column) r)) is
-    ∙ ap (option_map (after b.so_far.0)) (row_past black (width - column) run others (omega arith) (omega arith))
+    b.so_far.3 ∙ ap (λ r. option_map (preceded b.so_far.0) (row_by_runs black (width - column) r)) is
+    ∙ ap (option_map (preceded b.so_far.0)) (row_past black (width - column) run others (omega arith) (omega arith))
 
 pub begun_more : {width : ℕ} {bytes row rest : List ℕ} {column : ℕ} {black : Bool} (new : List ℕ) (run : ℕ) (others : List ℕ)
     → IsBegun width bytes row rest column black → column < width → rest ≡ run ∷ others → column + run ≤ width
@@ -239,10 +243,10 @@ begun_more {width = width} {column = column} {black = black} new run others b lt
         length-append bits (replicate run black) ∙ ap (λ n. n + length (replicate run black)) b.so_far.1
             ∙ ap (λ n. column + n) (length-replicate run black),
         inked bits b.so_far.1 b.so_far.2,
-        b.so_far.3 ∙ ap (λ r. option_map (after bits) (row_of black (width - column) r)) is
-            ∙ ap (option_map (after bits)) (row_step black (width - column) run others (omega arith) (omega arith))
-            ∙ after_after bits (replicate run black) (row_of (not black) (width - column - run) others)
-            ∙ ap (λ n. option_map (after (bits ++ replicate run black)) (row_of (not black) n others)) left,
+        b.so_far.3 ∙ ap (λ r. option_map (preceded bits) (row_by_runs black (width - column) r)) is
+            ∙ ap (option_map (preceded bits)) (row_step black (width - column) run others (omega arith) (omega arith))
+            ∙ preceded_twice bits (replicate run black) (row_by_runs (not black) (width - column - run) others)
+            ∙ ap (λ n. option_map (preceded (bits ++ replicate run black)) (row_by_runs (not black) n others)) left,
       );
     }
 
@@ -250,7 +254,7 @@ pub has_row : {width : ℕ} {bytes row rest : List ℕ} {column : ℕ} {black : 
     → width ≤ column → HasRow width bytes row (Some rest)
 has_row {width = width} {rest = rest} {column = column} {black = black} b le = (
   b.so_far.0,
-  b.so_far.3 ∙ ap (option_map (after b.so_far.0)) (row_end black (width - column) rest (omega arith))
+  b.so_far.3 ∙ ap (option_map (preceded b.so_far.0)) (row_end black (width - column) rest (omega arith))
       ∙ ap (λ bits. Some (record { bits = bits; rest = rest })) (append-nil b.so_far.0),
   b.so_far.2,
 )
@@ -259,7 +263,7 @@ has_row {width = width} {rest = rest} {column = column} {black = black} b le = (
 
 pub record AreBegun (width height : ℕ) (bytes old rows rest : List ℕ) (left : ℕ) : Type 0 where
   pub so_far : (most : ℕ) × (given : List ℕ) × (left ≤ most) × (rows ≡ old ++ given)
-      × (expanded width height bytes ≡ option_map (λ later. given ++ later) (rows_of most width left rest))
+      × (expanded width height bytes ≡ option_map (λ later. given ++ later) (rows_by_groups most width left rest))
 
 before_none : (rows : Option (List ℕ)) → option_map (λ later. [] ++ later) rows ≡ rows
 before_none None = refl
@@ -268,32 +272,33 @@ before_none (Some rows) = refl
 pub groups_begun : (width height : ℕ) (bytes old : List ℕ) → AreBegun width height bytes old old bytes height
 unfolding expanded
 groups_begun width height bytes old = record {
-  so_far = (height, [], omega arith, sym (append-nil old), sym (before_none (rows_of height width height bytes)));
+  so_far = (height, [], omega arith, sym (append-nil old), sym (before_none (rows_by_groups height width height bytes)));
 }
 
-pub groups_cut : (most width left : ℕ) → 0 < left → rows_of most width left [] ≡ None
-unfolding rows_of
+pub groups_cut : (most width left : ℕ) → 0 < left → rows_by_groups most width left [] ≡ None
+unfolding rows_by_groups
 groups_cut most width zero lt = absurd (omega arith)
 groups_cut zero width (suc below) lt = refl
 groups_cut (suc most) width (suc below) lt = refl
 
-pub group_past : (most width left repeats : ℕ) (rest : List ℕ) → 0 < left → left ≤ repeats → rows_of most width left (repeats ∷ rest) ≡ None
-unfolding rows_of
+pub group_past : (most width left repeats : ℕ) (rest : List ℕ) → 0 < left → left ≤ repeats
+    → rows_by_groups most width left (repeats ∷ rest) ≡ None
+unfolding rows_by_groups
 group_past most width zero repeats rest lt past = absurd (omega arith)
 group_past zero width (suc below) repeats rest lt past = refl
 group_past (suc most) width (suc below) repeats rest lt past = rw (lt-leb repeats below (omega arith)) refl
 
-pub group_bad : (most width left repeats : ℕ) (rest : List ℕ) → 0 < left → repeats < left → row_of false width rest ≡ None
-    → rows_of most width left (repeats ∷ rest) ≡ None
-unfolding rows_of
+pub group_bad : (most width left repeats : ℕ) (rest : List ℕ) → 0 < left → repeats < left → row_by_runs false width rest ≡ None
+    → rows_by_groups most width left (repeats ∷ rest) ≡ None
+unfolding rows_by_groups
 group_bad most width zero repeats rest lt le bad = absurd (omega arith)
 group_bad zero width (suc below) repeats rest lt le bad = refl
 group_bad (suc most) width (suc below) repeats rest lt le bad = rw (le-leb repeats below (omega arith), bad) refl
 
-group_step : (most width left repeats : ℕ) (rest : List ℕ) (front : Front) → 0 < left → repeats < left → left ≤ suc most
-    → row_of false width rest ≡ Some front → rows_of (suc most) width left (repeats ∷ rest)
-    ≡ option_map (with_copies repeats (bytes_of ((width + 7) / 8) front.bits)) (rows_of most width (left - (repeats + 1)) front.rest)
-unfolding rows_of
+group_step : (most width left repeats : ℕ) (rest : List ℕ) (front : RowFront) → 0 < left → repeats < left → left ≤ suc most
+    → row_by_runs false width rest ≡ Some front → rows_by_groups (suc most) width left (repeats ∷ rest)
+    ≡ option_map (with_copies repeats (bytes_of ((width + 7) / 8) front.bits)) (rows_by_groups most width (left - (repeats + 1)) front.rest)
+unfolding rows_by_groups
 group_step most width zero repeats rest front lt le enough is = absurd (omega arith)
 group_step most width (suc below) repeats rest front lt le enough is =
     let left : below - repeats ≡ suc below - (repeats + 1) = omega arith in
@@ -304,13 +309,13 @@ before_before : (xs ys : List ℕ) (rows : Option (List ℕ))
 before_before xs ys None = refl
 before_before xs ys (Some rows) = rw (append_assoc xs ys rows) refl
 
-groups_end : (most width left : ℕ) (rest : List ℕ) → left ≡ 0 → rows_of most width left rest ≡ Some []
-unfolding rows_of
+groups_end : (most width left : ℕ) (rest : List ℕ) → left ≡ 0 → rows_by_groups most width left rest ≡ Some []
+unfolding rows_by_groups
 groups_end most width zero rest e = refl
 groups_end most width (suc below) rest e = absurd (omega arith)
 
 pub no_groups : {width height : ℕ} {bytes old rows rest : List ℕ} {left : ℕ} → AreBegun width height bytes old rows rest left
-    → ((most : ℕ) → rows_of most width left rest ≡ None) → expanded width height bytes ≡ None
+    → ((most : ℕ) → rows_by_groups most width left rest ≡ None) → expanded width height bytes ≡ None
 no_groups b cut = b.so_far.4 ∙ ap (option_map (λ later. b.so_far.1 ++ later)) (cut b.so_far.0)
 
 pub has_groups : {width height : ℕ} {bytes old rows rest : List ℕ} {left : ℕ} → AreBegun width height bytes old rows rest left
@@ -326,23 +331,24 @@ module _ {width height : ℕ} {bytes old rows rest : List ℕ} {left : ℕ} (new
     (is : rest ≡ repeats ∷ runs) (within : repeats < left) (has_row : HasRow width runs row (Some later))
     (copied : new ≡ rows ++ concat (replicate (repeats + 1) row)) where
   more_of : (most : ℕ) (given : List ℕ) → left ≤ most → rows ≡ old ++ given
-      → expanded width height bytes ≡ option_map (λ later. given ++ later) (rows_of most width left rest)
+      → expanded width height bytes ≡ option_map (λ later. given ++ later) (rows_by_groups most width left rest)
       → AreBegun width height bytes old new later (left - (repeats + 1))
   more_of zero given enough appended given_is = absurd (omega arith)
   more_of (suc most) given enough appended given_is =
       let copies = concat (replicate (repeats + 1) row) in
-      let front : Front = record { bits = has_row.0; rest = later } in
+      let front : RowFront = record { bits = has_row.0; rest = later } in
       record {
         so_far = (
           most,
           given ++ copies,
           omega arith,
           copied ∙ ap (λ r. r ++ copies) appended ∙ append_assoc old given copies,
-          given_is ∙ ap (λ r. option_map (λ later. given ++ later) (rows_of (suc most) width left r)) is
+          given_is ∙ ap (λ r. option_map (λ later. given ++ later) (rows_by_groups (suc most) width left r)) is
               ∙ ap (option_map (λ later. given ++ later)) (group_step most width left repeats runs front some within enough has_row.1)
-              ∙ ap (λ r. option_map (λ later. given ++ later) (option_map (with_copies repeats r) (rows_of most width (left - (repeats + 1)) later)))
+              ∙ ap (λ r. option_map (λ later. given ++ later) (option_map (with_copies repeats r)
+              (rows_by_groups most width (left - (repeats + 1)) later)))
               (sym has_row.2)
-              ∙ before_before given copies (rows_of most width (left - (repeats + 1)) later),
+              ∙ before_before given copies (rows_by_groups most width (left - (repeats + 1)) later),
         );
       }
 

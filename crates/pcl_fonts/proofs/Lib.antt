@@ -1,6 +1,7 @@
 pub mod Names
 mod Expanding
-mod Glyphs
 pub mod Histories
+mod Patterns
 mod Permanent
+mod Refusals
 mod Tables

@@ -7,7 +7,9 @@ mod fields;
 mod fonts;
 mod glyph;
 mod header;
+mod sent_rows;
 
 pub use fonts::{FontControl, Fonts};
 pub use glyph::Glyph;
 pub use header::FontInfo;
+pub use sent_rows::{GlyphRows, SentRows};

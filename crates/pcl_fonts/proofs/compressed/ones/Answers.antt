@@ -1,4 +1,3 @@
-use Rattle.std.proofs.Common.{arith}
 use Rattle.pcl_fonts.proofs.Expanding.{mask_fits, mask_is}
 use Rattle.pcl_fonts.proofs.compressed.ones.Goals as goal
 

@@ -1,7 +1,6 @@
-use Rattle.std.proofs.Common.{◌∷◌, ◌+◌, replicate, arith, ap, sym, ◌∙◌, ◌++◌}
+use Rattle.std.proofs.Common.{◌∷◌, arith, ap, sym, ◌∙◌}
 use Rattle.std.proofs.lemmas.List.{nil_from_length}
-use Rattle.std.specs.List.{concat}
-use Rattle.pcl_fonts.specs.Compressed.{rows_of}
+use Rattle.pcl_fonts.specs.Compressed.{rows_by_groups}
 use Rattle.pcl_fonts.proofs.Expanding.{groups_begun, groups_cut, group_past, group_bad, no_groups, has_groups, groups_more}
 use Rattle.pcl_fonts.proofs.compressed.put_groups.Goals as goal
 
@@ -12,24 +11,24 @@ pub returns-in_default : goal.returns-in_default
 returns-in_default c =
     let left = c.loop-left.left in
     no_groups c.loop-left.invariant (λ most.
-      ap (rows_of most c.args.width left) (nil_from_length c.loop-left.rest.now c.in_default.ensures.cases)
-      ∙ groups_cut most c.args.width left c.loop-left-test.true)
+    ap (rows_by_groups most c.args.width left) (nil_from_length c.loop-left.rest.now c.in_default.ensures.cases)
+    ∙ groups_cut most c.args.width left c.loop-left-test.true)
 
 pub returns-then-copies-left : goal.returns-then-copies-left
 returns-then-copies-left c =
     let left = c.loop-left.left in
     no_groups c.loop-left.invariant (λ most.
-      ap (rows_of most c.args.width left) c.in-Some.ensures.cases.0
-      ∙ group_past most c.args.width left c.in-Some.repeats.now c.in-Some.runs.now c.loop-left-test.true
-      (omega (arith, c.from-copies.ensures)))
+    ap (rows_by_groups most c.args.width left) c.in-Some.ensures.cases.0
+    ∙ group_past most c.args.width left c.in-Some.repeats.now c.in-Some.runs.now c.loop-left-test.true
+    (omega (arith, c.from-copies.ensures)))
 
 pub returns-in_default-put_row : goal.returns-in_default-put_row
 returns-in_default-put_row c =
     let left = c.loop-left.left in
     no_groups c.loop-left.invariant (λ most.
-      ap (rows_of most c.args.width left) c.in-Some.ensures.cases.0
-      ∙ group_bad most c.args.width left c.in-Some.repeats.now c.in-Some.runs.now c.loop-left-test.true
-      (omega (arith, c.from-copies.ensures)) c.in_default-put_row.ensures)
+    ap (rows_by_groups most c.args.width left) c.in-Some.ensures.cases.0
+    ∙ group_bad most c.args.width left c.in-Some.repeats.now c.in-Some.runs.now c.loop-left-test.true
+    (omega (arith, c.from-copies.ensures)) c.in_default-put_row.ensures)
 
 pub loop-left-preserved : goal.loop-left-preserved
 loop-left-preserved c =

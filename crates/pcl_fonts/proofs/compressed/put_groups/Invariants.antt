@@ -1,4 +1,3 @@
-use Rattle.std.proofs.Common.{◌-◌}
 use Rattle.pcl_fonts.proofs.Expanding.{AreBegun}
 use Rattle.pcl_fonts.proofs.compressed.put_groups.Given as goal
 

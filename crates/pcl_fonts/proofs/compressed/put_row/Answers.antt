@@ -1,4 +1,4 @@
-use Rattle.std.proofs.Common.{◌≡◌, ◌∷◌, ◌++◌, ◌/◌, ◌+◌, ◌-◌, true, replicate, length, arith, ap, sym, ◌∙◌, refl}
+use Rattle.std.proofs.Common.{◌≡◌, ◌∷◌, ◌++◌, ◌/◌, ◌+◌, ◌-◌, true, replicate, arith, ap, sym, ◌∙◌}
 use Rattle.std.proofs.lemmas.List.{nil_from_length}
 use Rattle.pcl_fonts.specs.Compressed.{bytes_of}
 use Rattle.pcl_fonts.proofs.Expanding.{begun, has_no_bytes, goes_past, begun_more, has_row, white_bytes}
@@ -28,16 +28,16 @@ loop-column-preserved c =
     let width : column + count - column ≡ count = omega arith in
     begun_more c.if-is_black.row count c.in_ok-run.others.now c.loop-column.invariant c.loop-column-test.true bytes (omega arith)
     (λ bits begins is.
-      elim c.if-is_black.branch [
-        | then-is_black w ↦
-            w.row-is ∙ w.blacken.ensures bits begins (is ∙ ap (λ n. bytes_of n bits) (sym long))
-            ∙ ap (λ n. bytes_of n (bits ++ replicate (column + count - column) true)) long
-            ∙ ap (λ n. bytes_of ((c.args.width + 7) / 8) (bits ++ replicate n true)) width
-            ∙ ap (λ b. bytes_of ((c.args.width + 7) / 8) (bits ++ replicate count b)) (sym w.if-is_black.true)
-        | else-is_black w ↦
-            w.row-is ∙ is ∙ sym (white_bytes ((c.args.width + 7) / 8) count bits)
-            ∙ ap (λ b. bytes_of ((c.args.width + 7) / 8) (bits ++ replicate count b)) (sym w.if-is_black.false)
-      ])
+    elim c.if-is_black.branch [
+      | then-is_black w ↦
+          w.row-is ∙ w.blacken.ensures bits begins (is ∙ ap (λ n. bytes_of n bits) (sym long))
+          ∙ ap (λ n. bytes_of n (bits ++ replicate (column + count - column) true)) long
+          ∙ ap (λ n. bytes_of ((c.args.width + 7) / 8) (bits ++ replicate n true)) width
+          ∙ ap (λ b. bytes_of ((c.args.width + 7) / 8) (bits ++ replicate count b)) (sym w.if-is_black.true)
+      | else-is_black w ↦
+          w.row-is ∙ is ∙ sym (white_bytes ((c.args.width + 7) / 8) count bits)
+          ∙ ap (λ b. bytes_of ((c.args.width + 7) / 8) (bits ++ replicate count b)) (sym w.if-is_black.false)
+    ])
 
 pub returns : goal.returns
 returns c = has_row c.loop-column.invariant c.loop-column-test.false

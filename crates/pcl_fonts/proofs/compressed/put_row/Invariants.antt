@@ -1,4 +1,4 @@
-use Rattle.std.proofs.Common.{◌-◌, length}
+use Rattle.std.proofs.Common.{length}
 use Rattle.pcl_fonts.proofs.Expanding.{IsBegun}
 use Rattle.pcl_fonts.proofs.compressed.put_row.Given as goal
 
