@@ -2,7 +2,8 @@
 
 Each is drawn from a `random.Random`: `job_of` gives a job of any kind, `right_job` one that is mostly accepted, and `long_job` one that
 performs as many commands as a job may, or one more. With `drivers_dpi` a job has what the drivers' profile takes besides at this
-resolution: offsets of the page, what else a page is asked with, the seed row source, and fonts with a resolution of their own.
+resolution: offsets of the page, what else a page is asked with, the seed row source, and fonts with a resolution of their own, whose
+characters may be compressed.
 """
 
 ESC = b"\x1b"
@@ -98,6 +99,31 @@ def character(draw):
     if draw.random() < 0.01:
         head = head[:draw.randint(0, 16)]
     return head + bits[:len(bits) - (draw.random() < 0.01)]
+
+
+def runs_of(draw, width):
+    """Runs of bits that make a row of a width: mostly right, or with one too few or one too long."""
+    left, runs = width, []
+    while left:
+        runs.append(min(draw.choice([0, 1, 2, 3, 8, 9, 255, 255, left]), left, 255))
+        left -= runs[-1]
+    if runs and draw.random() < 0.01:
+        runs[-1] = draw.choice([min(runs[-1] + 1, 255), 255])
+    return bytes(runs[:len(runs) - (draw.random() < 0.005)])
+
+
+def compressed_character(draw):
+    """A character whose rows are given by runs of bits."""
+    width, height = draw.choice([(draw.randint(0, 19), draw.randint(0, 9)), (draw.randint(240, 600), draw.randint(0, 4))])
+    fields = [draw.randint(-20, 20), draw.randint(-20, 20), width, height, draw.choice([-9, 0, 12, 80, 400])]
+    head = bytes([4, 0, 14, 2, 0, draw.choice([0, 0, 7])]) + b"".join(field.to_bytes(2, "big", signed=True) for field in fields)
+    groups, left = [], height
+    while left:
+        repeats = min(draw.choice([0, 0, 1, 2, 9]), left - 1) if draw.random() < 0.99 else draw.randint(left, 255)
+        groups.append(bytes([repeats]) + runs_of(draw, width))
+        left = max(0, left - 1 - repeats)
+    rows = b"".join(groups) + draw.choice([b"", b"", b"", b"\0\xff"])
+    return head + rows[:len(rows) - (draw.random() < 0.01)]
 
 
 def with_data(prefix, letter, content):
@@ -403,7 +429,8 @@ def font_with_resolution(draw, dpi):
     heads = [header_with_resolution(draw, dpi)]
     if draw.random() < 0.25:
         heads.insert(draw.randint(0, 1), draw.choice([header(draw), header_with_resolution(draw, dpi)]))
-    letters = b"".join(ESC + b"*c%dE" % code + with_data(b"(s", b"W", character(draw)) for code in draw.choice([[65], [65, 66], [65, 200]]))
+    letters = b"".join(ESC + b"*c%dE" % code + with_data(b"(s", b"W", draw.choice([character, compressed_character])(draw))
+                       for code in draw.choice([[65], [65, 66], [65, 200]]))
     select = ESC + draw.choice([b"(%dX", b"(%dX", b")%dX"]) % number
     place = draw.choice([b"", ESC + b"*p%dx%dY" % (draw.randint(0, 2400), draw.randint(0, 3300)), ESC + b"&u600D" + ESC + b"*p51x51Y"])
     use = draw.choice([b"\x0f", b"\x0f", b"\x0e"]) if b")" in select else b""

@@ -278,18 +278,48 @@ def font_of(data, dpi, profile):
     return Font(data[3], across, pitch, data[13] == 0)
 
 
-def character_of(data):
-    """The character that data define; None where they are no character."""
-    if len(data) < 16 or tuple(data[:5]) != (4, 0, 14, 1, 0):
+def plain_bits(data, width, height):
+    """The set bits of a pattern whose rows are the data; None where these are too few."""
+    in_row = -(-width // 8)
+    if len(data) < in_row * height:
+        return None
+    return [(column, row) for row in range(height) for column in range(width) if data[row * in_row + column // 8] & 0x80 >> column % 8]
+
+
+def compressed_bits(data, width, height):
+    """The set bits of a pattern whose rows are given by runs; None where they aren't all there, go too far or are too many bytes."""
+    if -(-width // 8) * height > 65536:
+        return None
+    values, bits, row = iter(data), [], 0
+    while row < height:
+        repeats = next(values, None)
+        ends = [0]
+        while ends[-1] < width:
+            run = next(values, None)
+            if run is None:
+                return None
+            ends.append(ends[-1] + run)
+        if repeats is None or ends[-1] > width or row + 1 + repeats > height:
+            return None
+        black = [column for start, end in zip(ends[1::2], ends[2::2]) for column in range(start, end)]
+        bits += [(column, row + copy) for copy in range(1 + repeats) for column in black]
+        row += 1 + repeats
+    return bits
+
+
+def character_of(data, profile):
+    """The character that data define; None where they are none that the profile takes."""
+    if len(data) < 16 or (*data[:3], data[4]) != (4, 0, 14, 0):
         return None
     left, top, delta = (int.from_bytes(data[at:at + 2], "big", signed=True) for at in (6, 8, 14))
     width, height = (int.from_bytes(data[at:at + 2], "big") for at in (10, 12))
-    in_row = -(-width // 8)
-    if len(data) - 16 < in_row * height:
-        return None
-    bits = [(column, row) for row in range(height) for column in range(width)
-            if data[16 + row * in_row + column // 8] & 0x80 >> column % 8]
-    return Character(left, top, delta, bits)
+    if data[3] == 1:
+        bits = plain_bits(data[16:], width, height)
+    elif data[3] == 2 and profile is Profile.DRIVERS:
+        bits = compressed_bits(data[16:], width, height)
+    else:
+        bits = None
+    return None if bits is None else Character(left, top, delta, bits)
 
 
 class Performer:
@@ -741,7 +771,7 @@ def download_font(performer, command):
 
 def download_character(performer, command):
     if command.data and performer.font_id in performer.fonts:
-        character = character_of(command.data)
+        character = character_of(command.data, performer.profile)
         if not character:
             raise Refused("CharacterData", command.at, command.name)
         performer.fonts[performer.font_id].characters[performer.code] = character

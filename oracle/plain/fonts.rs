@@ -1,9 +1,14 @@
 //! Soft fonts.
 
+use std::borrow::Cow;
+
 use crate::commands::Profile;
 
 /// The dots to an inch of a font whose header doesn't say them, and of the page at the lower resolution.
 const COARSE: u32 = 300;
+
+/// The most bytes of a pattern that runs give.
+const EXPANDED_LIMIT: usize = 65_536;
 
 /// A character: a pattern of whole rows, and where it lies about the cursor.
 pub struct Glyph<'a> {
@@ -12,26 +17,59 @@ pub struct Glyph<'a> {
     pub width: usize,
     /// In quarter dots of the font.
     pub advance: i16,
-    pub pattern: &'a [u8],
+    pub pattern: Cow<'a, [u8]>,
 }
 
 impl<'a> Glyph<'a> {
-    pub fn read(data: &'a [u8]) -> Option<Glyph<'a>> {
+    /// The character of data, if the profile takes them.
+    pub fn read(data: &'a [u8], profile: Profile) -> Option<Glyph<'a>> {
         let (head, rows) = data.split_at_checked(16)?;
-        if !matches!(head[..5], [4, 0, 14, 1, 0]) {
-            return None;
-        }
         let signed = |place| i16::from_be_bytes([head[place], head[place + 1]]);
         let count = |place| usize::from(u16::from_be_bytes([head[place], head[place + 1]]));
         let (width, height) = (count(10), count(12));
+        let pattern = match (&head[..5], profile) {
+            ([4, 0, 14, 1, 0], _) => Cow::Borrowed(rows.get(..width.div_ceil(8) * height)?),
+            ([4, 0, 14, 2, 0], Profile::Drivers) => Cow::Owned(expanded(width, height, rows)?),
+            _ => return None,
+        };
         Some(Glyph {
             left: signed(6),
             top: signed(8),
             width,
             advance: signed(14),
-            pattern: rows.get(..width.div_ceil(8) * height)?,
+            pattern,
         })
     }
+}
+
+/// The pattern that runs give, white and black in turn in each row, behind a byte that says how many copies of the row follow it.
+fn expanded(width: usize, height: usize, data: &[u8]) -> Option<Vec<u8>> {
+    let row_bytes = width.div_ceil(8);
+    if row_bytes * height > EXPANDED_LIMIT {
+        return None;
+    }
+    let mut values = data.iter().copied().map(usize::from);
+    let mut pattern = Vec::with_capacity(row_bytes * height);
+    let mut left = height;
+    while left > 0 {
+        left = left.checked_sub(values.next()? + 1)?;
+        let mut row = vec![0; row_bytes];
+        let (mut column, mut is_black) = (0, false);
+        while column < width {
+            let end = column + values.next()?;
+            if end > width {
+                return None;
+            }
+            if is_black {
+                (column..end).for_each(|column| row[column / 8] |= 0x80 >> (column % 8));
+            }
+            (column, is_black) = (end, !is_black);
+        }
+        while pattern.len() < row_bytes * (height - left) {
+            pattern.extend_from_slice(&row);
+        }
+    }
+    Some(pattern)
 }
 
 pub struct Font<'a> {

@@ -161,7 +161,7 @@ impl<'a> Performer<'a> {
             }
             Operation::Character if !data.is_empty() => {
                 if let Some(font) = self.fonts.get_mut(&settings.font_id) {
-                    let glyph = Glyph::read(data).ok_or(Kind::CharacterData)?;
+                    let glyph = Glyph::read(data, self.profile).ok_or(Kind::CharacterData)?;
                     font.glyphs[usize::from(settings.code)] = Some(glyph);
                 }
             }

@@ -10,7 +10,12 @@ pub(crate) const HEADER: [u8; 64] = [
 ];
 
 /// A character of eight dots and two rows.
-pub(crate) const CHARACTER: [u8; 18] = [4, 0, 14, 1, 0, 0, 0, 2, 0, 3, 0, 8, 0, 2, 0, 80, 255, 129];
+const CHARACTER: [u8; 18] = [4, 0, 14, 1, 0, 0, 0, 2, 0, 3, 0, 8, 0, 2, 0, 80, 255, 129];
+
+/// The same character, compressed.
+pub(crate) const COMPRESSED: [u8; 24] = [
+    4, 0, 14, 2, 0, 0, 0, 2, 0, 3, 0, 8, 0, 2, 0, 80, 0, 0, 8, 0, 0, 1, 6, 1,
+];
 
 /// Two letters of a soft font: its header and its character stand where `HEADER` and `CHARACTER` do.
 const LETTERS: [&[u8]; 5] = [

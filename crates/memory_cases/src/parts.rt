@@ -1,6 +1,6 @@
 //! Parts of jobs alone: the text of a page, a font and its character, and a macro.
 
-use crate::jobs::{CHARACTER, HEADER};
+use crate::jobs::{COMPRESSED, HEADER};
 use pcl_base::{CallFault, Dpi, Profile, Size};
 use pcl_bitmap::{Bitmap, Ink, Page};
 use pcl_fonts::Fonts;
@@ -46,19 +46,30 @@ fn page_text(alloc: Global) -> Result<usize, AllocError> {
     Ok(out.len() - 1)
 }
 
-/// Prints what a font and its character are taken as.
+/// Prints what a font and its compressed character are taken as.
 fn print_font<R: Print + AllocGlobal>(rt: &R) -> io::Result<()> {
     let mut fonts = Fonts::new(rt.alloc());
     let header = match fonts.header(1, &HEADER, Profile::Stated, Dpi::Dpi300) {
         Err(CallFault::Memory) => fonts.header(1, &HEADER, Profile::Stated, Dpi::Dpi300),
         answer => answer,
     };
-    let character = match fonts.character(1, 65, &CHARACTER) {
-        Err(CallFault::Memory) => fonts.character(1, 65, &CHARACTER),
+    let character = match fonts.character(1, 65, &COMPRESSED, Profile::Drivers) {
+        Err(CallFault::Memory) => fonts.character(1, 65, &COMPRESSED, Profile::Drivers),
         answer => answer,
     };
-    let is_there = fonts.glyph(1, 65).is_some();
-    println!(rt; "a font: {header:?}, its character: {character:?}, there: {is_there}")
+    let len = match row_bytes(rt.alloc(), &fonts) {
+        Err(AllocError) => row_bytes(rt.alloc(), &fonts),
+        answer => answer,
+    };
+    println!(rt; "a font: {header:?}, its character: {character:?}, bytes of its rows: {len:?}")
+}
+
+/// How many bytes the rows of the font's character have.
+fn row_bytes(alloc: Global, fonts: &Fonts<'_>) -> Result<Option<usize>, AllocError> {
+    let Some(glyph) = fonts.glyph(1, 65) else {
+        return Ok(None);
+    };
+    Ok(Some(glyph.rows(alloc)?.as_slice().len()))
 }
 
 /// Prints where a macro stands.

@@ -1,5 +1,7 @@
 pub mod Names
-mod Glyphs
+mod Expanding
 pub mod Histories
+mod Patterns
 mod Permanent
+mod Refusals
 mod Tables

@@ -1,5 +1,6 @@
 -- What the data of a soft font say: the header of a font, and a character (docs/LANGUAGE.md, "Soft fonts").
-use Rattle.std.specs.Prelude.{ℕ, ◌+◌, ◌*◌, ◌/◌, ℤ, Bool, true, false, ◌&&◌, ◌||◌, ◌==◌, if◌then◌else◌, nat_le, nat_eq, List, length, take, drop, slice_index, Option, Some, None}
+use Rattle.std.specs.Prelude.{ℕ, ◌+◌, ◌*◌, ◌/◌, ℤ, Bool, true, false, ◌&&◌, ◌||◌, ◌==◌, if◌then◌else◌, nat_le, nat_eq, List, [], length, take, drop, slice_index, Option, Some, None, is_some}
+use Rattle.std.specs.Option.{unwrap_or}
 use Rattle.std.specs.Int.{w16, cast_signed}
 use Rattle.byteorder.specs.Endian.{big_number}
 use Rattle.pcl_base.specs.declared.dpi.Dpi.{Dpi}
@@ -7,6 +8,7 @@ use Rattle.pcl_base.specs.declared.dpi.Dpi.TheVariants.{Dpi300, Dpi600}
 use Rattle.pcl_base.specs.declared.profile.Profile.{Profile}
 use Rattle.pcl_base.specs.declared.profile.Profile.TheVariants.{Stated, Drivers}
 use Rattle.pcl_base.specs.Dpi.{dots_per_inch, units_per_dot}
+use Rattle.pcl_fonts.specs.Compressed.{expanded}
 use Rattle.pcl_fonts.specs.declared.header.FontInfo.{FontInfo}
 use Rattle.pcl_fonts.specs.declared.header.FontType.{FontType}
 use Rattle.pcl_fonts.specs.declared.header.FontType.TheVariants.{SevenBit, EightBit, EveryCode}
@@ -101,15 +103,36 @@ pub record Character : Type 0 where
 abbrev pub pattern_bytes : ℕ → ℕ → ℕ
 pattern_bytes width height = height * ((width + 7) / 8)
 
--- format 4, no continuation, a descriptor of 14 bytes, class 1, no orientation
-abbrev pub has_fixed_bytes : List ℕ → Bool
-has_fixed_bytes bytes =
-    has_byte bytes 0 4 && has_byte bytes 1 0 && has_byte bytes 2 14 && has_byte bytes 3 1 && has_byte bytes 4 0
+-- the most bytes of rows that are expanded from runs
+abbrev pub expanded_limit : ℕ
+expanded_limit = 65536
 
--- a whole descriptor, its fixed bytes, and all rows
-abbrev pub is_character : List ℕ → Bool
-is_character bytes =
-    nat_le 16 (length bytes) && has_fixed_bytes bytes && nat_le (16 + pattern_bytes (word bytes 10) (word bytes 12)) (length bytes)
+-- a whole descriptor of a class: format 4, no continuation, a descriptor of 14 bytes, the class, no orientation
+abbrev pub has_descriptor : ℕ → List ℕ → Bool
+has_descriptor class bytes =
+    nat_le 16 (length bytes) && has_byte bytes 0 4 && has_byte bytes 1 0 && has_byte bytes 2 14 && has_byte bytes 3 class
+    && has_byte bytes 4 0
+
+-- class 1: the rows are all there
+abbrev pub is_plain : List ℕ → Bool
+is_plain bytes = has_descriptor 1 bytes && nat_le (16 + pattern_bytes (word bytes 10) (word bytes 12)) (length bytes)
+
+-- class 2: runs give the rows, which aren't too many
+abbrev pub is_compressed : List ℕ → Bool
+is_compressed bytes =
+    has_descriptor 2 bytes && nat_le (pattern_bytes (word bytes 10) (word bytes 12)) expanded_limit
+    && is_some (expanded (word bytes 10) (word bytes 12) (drop 16 bytes))
+
+-- the characters that a profile takes
+abbrev pub is_character : Profile → List ℕ → Bool
+is_character Stated bytes = is_plain bytes
+is_character Drivers bytes = is_plain bytes || is_compressed bytes
+
+-- the rows of a character, by its class
+abbrev pub character_rows : List ℕ → List ℕ
+character_rows bytes =
+    if has_byte bytes 3 2 then unwrap_or (expanded (word bytes 10) (word bytes 12) (drop 16 bytes)) []
+    else take (pattern_bytes (word bytes 10) (word bytes 12)) (drop 16 bytes)
 
 -- the character that data define
 abbrev pub character_of : List ℕ → Character
@@ -119,5 +142,5 @@ character_of bytes = record {
   width = word bytes 10;
   height = word bytes 12;
   delta = signed_word bytes 14;
-  rows = take (pattern_bytes (word bytes 10) (word bytes 12)) (drop 16 bytes);
+  rows = character_rows bytes;
 }

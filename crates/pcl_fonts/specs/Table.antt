@@ -10,6 +10,7 @@ use Rattle.pcl_base.specs.declared.dpi.Dpi.{Dpi}
 use Rattle.pcl_base.specs.declared.profile.Profile.{Profile}
 use Rattle.pcl_fonts.specs.Fields.{Font, Character, has_code, is_header, is_character}
 use Rattle.pcl_fonts.specs.History.{FontEvent, header, character, font_step, font_after, character_step, character_after}
+use Rattle.pcl_fonts.specs.SentRows.{sent_rows_in}
 use Rattle.pcl_fonts.specs.declared.header.Header.{Header}
 use Rattle.pcl_fonts.specs.declared.fonts.Entry.{Entry}
 use Rattle.pcl_fonts.specs.declared.fonts.Fonts.TheInside.{Inside}
@@ -63,13 +64,13 @@ HasHeader profile dpi id bytes (Err (Refused kind)) old new =
     (is_header profile dpi bytes ≡ false) × (kind ≡ FontHeader) × IsSame old new
 HasHeader profile dpi id bytes (Err Memory) old new = IsSame old new
 
--- A character for an ID and a code: it is refused exactly where a font of the ID is there and it is no character.
-abbrev pub HasCharacter : ℕ → ℕ → List ℕ → Result (Unit {0}) CallFault → FontTable → FontTable → Type 0
-HasCharacter id code bytes (Ok unit) old new =
-    (is_some (font_at old id) ≡ true → is_character bytes ≡ true) × Follows old new (character id code bytes)
-HasCharacter id code bytes (Err (Refused kind)) old new =
-    (is_some (font_at old id) ≡ true) × (is_character bytes ≡ false) × (kind ≡ CharacterData) × IsSame old new
-HasCharacter id code bytes (Err Memory) old new = IsSame old new
+-- A character for an ID and a code, by a profile: it is refused exactly where a font of the ID is there and it is no character.
+abbrev pub HasCharacter : Profile → ℕ → ℕ → List ℕ → Result (Unit {0}) CallFault → FontTable → FontTable → Type 0
+HasCharacter profile id code bytes (Ok unit) old new =
+    (is_some (font_at old id) ≡ true → is_character profile bytes ≡ true) × Follows old new (character id code bytes)
+HasCharacter profile id code bytes (Err (Refused kind)) old new =
+    (is_some (font_at old id) ≡ true) × (is_character profile bytes ≡ false) × (kind ≡ CharacterData) × IsSame old new
+HasCharacter profile id code bytes (Err Memory) old new = IsSame old new
 
 -- ---- how the table is kept
 
@@ -92,7 +93,14 @@ font_in e = record {
 }
 
 abbrev pub character_in : Glyph → Character
-character_in g = record { left = g.left; top = g.top; width = g.width; height = g.height; delta = g.delta; rows = g.rows.now }
+character_in g = record {
+  left = g.left;
+  top = g.top;
+  width = g.width;
+  height = g.height;
+  delta = g.delta;
+  rows = sent_rows_in g.width g.height g.sent;
+}
 
 abbrev pub stored_in : Entry → Stored
 stored_in e = record { font = font_in e; characters = map (λ c. (c.0, character_in c.1)) e.characters.entries }

@@ -72,7 +72,7 @@ impl<'a> Fonts<'a> {
     ghost use Rattle.std.specs.Prelude.{ℕ, List, [], nat_eq, if◌then◌else◌};
     ghost use Rattle.std.specs.Map.{lookup};
     ghost use Rattle.std.specs.Option.{option_map};
-    ghost use Rattle.pcl_fonts.specs.Fields.{is_header, is_character, info_of};
+    ghost use Rattle.pcl_fonts.specs.Fields.{info_of};
     ghost use Rattle.pcl_fonts.specs.History.{FontEvent, header, character, control, has_permanent};
     ghost use Rattle.pcl_fonts.specs.Table.{Holds, Follows, IsSame, HasHeader, HasCharacter, printed, font_at, character_in, stored_in};
 
@@ -116,21 +116,26 @@ impl<'a> Fonts<'a> {
     }
 
     /// Takes a character for an ID and a code (`ESC(s#W`), in place of any other. Without a font of the ID the data aren't
-    /// looked at and nothing happens. CharacterData where they are no character that is taken. After an error nothing has
-    /// changed.
-    pub fn character(&mut self, id: u16, code: u8, bytes: &'a [u8]) -> Result<(), CallFault>
-        ensures { HasCharacter id code bytes.now result self.old self.new }
+    /// looked at and nothing happens. CharacterData where they are no character that the profile takes. After an error nothing
+    /// has changed.
+    pub fn character(
+        &mut self,
+        id: u16,
+        code: u8,
+        bytes: &'a [u8],
+        profile: Profile,
+    ) -> Result<(), CallFault>
+        ensures { HasCharacter profile id code bytes.now result self.old self.new }
     {
         let deletions = self.deletions;
+        let alloc = self.alloc;
         let Some(entry) = self.entries.get_mut(&id) else {
             return Ok(());
         };
         if !entry.is_there(deletions) {
             return Ok(());
         }
-        let Some(glyph) = Glyph::read(bytes) else {
-            return Err(CallFault::Refused(Kind::CharacterData));
-        };
+        let glyph = Glyph::read(alloc, bytes, profile)?;
         match entry.characters.insert(code, glyph) {
             Ok(_) => Ok(()),
             Err(_) => Err(CallFault::Memory),

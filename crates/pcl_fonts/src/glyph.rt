@@ -1,12 +1,12 @@
 //! The characters of fonts.
 
-ghost use Rattle.std.specs.Prelude.{◌≡◌, ◌≤◌, ◌+◌, ◌*◌, ◌/◌, length, true, false, MatchOption};
-ghost use Rattle.pcl_fonts.specs.Fields.{is_character, character_of, has_fixed_bytes, pattern_bytes};
+ghost use Rattle.std.specs.Prelude.{◌≡◌, true};
+ghost use Rattle.pcl_fonts.specs.SentRows.{is_whole};
 
 use crate::fields::{signed_word, word};
-
-/// The bytes before the rows of a pattern.
-const DESCRIPTOR_BYTES: usize = 16;
+use crate::sent_rows::{GlyphRows, SentRows};
+use pcl_base::{CallFault, Kind, Profile};
+use std::alloc::{AllocError, Global};
 
 /// A character of a font. Offsets, width and height are in bits of its pattern, which are dots of the font.
 #[derive(Clone, Copy, Debug)]
@@ -21,53 +21,44 @@ pub struct Glyph<'a> {
     pub height: u16,
     /// The advance of the character in a proportional font, in quarter dots.
     pub delta: i16,
-    /// The rows of the pattern, one after the other, each of whole bytes, the left bit the highest: a part of the job.
-    pub rows: &'a [u8],
-    pub ghost whole: { height * ((width + 7) / 8) ≤ length rows.now },
+    /// The rows of the pattern, as a part of the job.
+    pub sent: SentRows<'a>,
+    pub ghost whole: { is_whole width height sent ≡ true },
 }
 
 impl<'a> Glyph<'a> {
+    ghost use Rattle.std.specs.Prelude.{◌≤◌, length, IfOk};
+    ghost use Rattle.pcl_fonts.specs.Fields.{pattern_bytes};
+    ghost use Rattle.pcl_fonts.specs.SentRows.{bytes_of_rows};
     ghost use Rattle.pcl_fonts.specs.Table.{character_in};
+    ghost use Rattle.pcl_fonts.specs.inner.Glyphs.{HasGlyph};
 
-    /// Reads a character, if there is one. There is none where its fixed bytes are others or its
-    /// rows aren't all there.
-    pub fn read(bytes: &'a [u8]) -> Option<Glyph<'a>>
-        ensures { MatchOption result (is_character bytes.now ≡ false)
-            (λ glyph. (is_character bytes.now ≡ true) × (character_in glyph ≡ character_of bytes.now)) }
+    /// Reads a character. CharacterData where data are none that the profile takes.
+    pub(crate) fn read(
+        alloc: Global,
+        bytes: &'a [u8],
+        profile: Profile,
+    ) -> Result<Glyph<'a>, CallFault>
+        ensures { HasGlyph profile bytes.now result }
     {
-        if bytes.len() < DESCRIPTOR_BYTES || !has_fixed_bytes(bytes) {
-            return None;
-        }
-        let width = word(bytes, 10);
-        let height = word(bytes, 12);
-        let size = pattern_bytes(width, height);
-        if bytes.len() - DESCRIPTOR_BYTES < size {
-            return None;
-        }
-        let rows = &bytes[DESCRIPTOR_BYTES..][..size];
-        Some(Glyph {
+        let Some(sent) = SentRows::read(alloc, bytes, profile)? else {
+            return Err(CallFault::Refused(Kind::CharacterData));
+        };
+        Ok(Glyph {
             left: signed_word(bytes, 6),
             top: signed_word(bytes, 8),
-            width,
-            height,
+            width: word(bytes, 10),
+            height: word(bytes, 12),
             delta: signed_word(bytes, 14),
-            rows,
+            sent,
         })
     }
-}
 
-/// Whether the first five bytes are those of a character that is taken: format 4, no continuation, a descriptor of 14
-/// bytes, class 1, portrait.
-fn has_fixed_bytes(bytes: &[u8]) -> bool
-    requires { 16 ≤ length bytes.now }
-    ensures { result ≡ has_fixed_bytes bytes.now }
-{
-    bytes[0] == 4 && bytes[1] == 0 && bytes[2] == 14 && bytes[3] == 1 && bytes[4] == 0
-}
-
-/// How many bytes the rows of a pattern have, each in whole bytes.
-fn pattern_bytes(width: u16, height: u16) -> usize
-    ensures { result ≡ pattern_bytes width height }
-{
-    usize::from(height) * usize::from(width).div_ceil(8)
+    /// The rows of the pattern, one after the other, each of whole bytes, the left bit the highest.
+    pub fn rows(&self, alloc: Global) -> Result<GlyphRows<'a>, AllocError>
+        ensures rows { IfOk result (λ rows. bytes_of_rows rows ≡ (character_in self.now).rows) }
+        ensures whole { IfOk result (λ rows. pattern_bytes self.now.width self.now.height ≤ length (bytes_of_rows rows)) }
+    {
+        self.sent.expanded(alloc, self.width, self.height)
+    }
 }

@@ -2,11 +2,14 @@
 //! PCL 5 Printer Language Technical Reference Manual, "Soft Font Creation").
 #![tactic(auto)]
 
+mod compressed;
 mod fields;
 mod fonts;
 mod glyph;
 mod header;
+mod sent_rows;
 
 pub use fonts::{FontControl, Fonts};
 pub use glyph::Glyph;
 pub use header::FontInfo;
+pub use sent_rows::{GlyphRows, SentRows};

@@ -1,12 +1,12 @@
 -- What the stated profile accepts, performed by the drivers' profile.
 use Rattle.std.proofs.Common.{◌≡◌, ℕ, zero, suc, ◌+◌, Bool, true, false, ◌||◌, if◌then◌else◌, List, [], ◌∷◌, length, Option, Some, None, Result, Ok, Err, refl, ap, ◌∙◌, arith, is_some}
 use Rattle.pcl_base.specs.declared.operation.Operation.TheVariants as operations
-use Rattle.pcl_base.specs.declared.kind.Kind.TheVariants.{FontHeader}
+use Rattle.pcl_base.specs.declared.kind.Kind.TheVariants.{FontHeader, CharacterData}
 use Rattle.pcl_fonts.specs.declared.header.FontInfo.{FontInfo}
-use Rattle.pcl_fonts.specs.Fields.{has_format, info_of}
-use Rattle.pcl_page.specs.Text.{header_refusal}
+use Rattle.pcl_fonts.specs.Fields.{has_format, is_plain, info_of}
+use Rattle.pcl_page.specs.Text.{header_refusal, character_refusal}
 use Rattle.pcl_page.specs.Situation.{after, blank_passed, blanks_passed, text_in}
-use Rattle.pcl_page.proofs.Names.{Dpi, Kind, MacroOpen, Asking, SheetSide, Operation, ControlMacros, DownloadFont, PrintText, Stated, Drivers, Refusal, Value, macro_limit, operation_of, option_map, Effect, EjectMarked, Settings, defaults, font_in_use, Outcome, Said, Character, Action, Keeping, Raster, ends_raster, prints, Situation, at_begin, settings_below, end_raster, turned, turned_by, taken, code_printed, codes_printed, font_now, put_back, asked_for, drawn, drawn_on, draw_refusal, unless_refused, ◌|>◌, is_ignored, prepared, after_named, counted_in_limit, page_refusal, within_page_limit, tried, with_what_stays, at_end, Run, action_of, acted, lasting_by, managed, counting, defining, keeping_of, after_command, run_by, run_from, run_of, macro_ended, Performance, done, unless, then_on, in_order, concluded, and_run, step, commands_left, runs, end_refusal, ended, after_end, performance, performance_of}
+use Rattle.pcl_page.proofs.Names.{Dpi, Kind, MacroOpen, Asking, SheetSide, Operation, ControlMacros, DownloadCharacter, DownloadFont, PrintText, Stated, Drivers, Refusal, Value, macro_limit, operation_of, option_map, Effect, EjectMarked, Settings, defaults, font_in_use, Outcome, Said, Character, Font, font_after, Action, Keeping, Raster, ends_raster, prints, Situation, at_begin, settings_below, end_raster, turned, turned_by, taken, code_printed, codes_printed, font_now, put_back, asked_for, drawn, drawn_on, draw_refusal, unless_refused, ◌|>◌, is_ignored, prepared, after_named, counted_in_limit, page_refusal, within_page_limit, tried, with_what_stays, at_end, Run, action_of, acted, lasting_by, managed, counting, defining, keeping_of, after_command, run_by, run_from, run_of, macro_ended, Performance, done, unless, then_on, in_order, concluded, and_run, step, commands_left, runs, end_refusal, ended, after_end, performance, performance_of}
 use Rattle.pcl_page.proofs.Profiles.{IsStated, set_by_drivers, AreSetAlike, AreTakenAlike, outcome_alike}
 
 -- ---- situations by both profiles
@@ -111,19 +111,28 @@ drawn_alike dpi PrintText command s stated =
     rw (font_alike s.settings) (printed_alike dpi command.bytes (info_of (font_now s)) s stated)
 drawn_alike dpi other command s stated = grind (arith, stated)
 
-either_alike : (one two : Bool) → (if one then None else Some FontHeader) ≡ None → (if one || two then None else Some FontHeader) ≡ None
-either_alike true two e = refl
-either_alike false two e = absurd cc
+either_alike : (kind : Kind) (one two : Bool) → (if one then None else Some kind) ≡ None → (if one || two then None else Some kind) ≡ None
+either_alike kind true two e = refl
+either_alike kind false two e = absurd cc
 
 -- a header that the stated profile takes, the drivers' takes
 header_alike : (dpi : Dpi) (bytes : List ℕ) → header_refusal Stated dpi bytes ≡ None → header_refusal Drivers dpi bytes ≡ None
 header_alike dpi [] e = refl
-header_alike dpi (byte ∷ bytes) e = either_alike (has_format 0 64 (byte ∷ bytes)) _ e
+header_alike dpi (byte ∷ bytes) e = either_alike FontHeader (has_format 0 64 (byte ∷ bytes)) _ e
+
+-- and a character
+character_alike : (bytes : List ℕ) (font : Option Font) → character_refusal Stated bytes font ≡ None
+    → character_refusal Drivers bytes font ≡ None
+character_alike [] font e = refl
+character_alike (byte ∷ bytes) None e = refl
+character_alike (byte ∷ bytes) (Some font) e = either_alike CharacterData (is_plain (byte ∷ bytes)) _ e
 
 draw_refusal_alike : (dpi : Dpi) (operation : Operation) (command : Said) (s : Situation) → IsStated s.settings
     → draw_refusal dpi operation command s ≡ None → draw_refusal dpi operation command (by_drivers s) ≡ None
 draw_refusal_alike dpi PrintText command s stated e = rw (font_alike s.settings) e
 draw_refusal_alike dpi DownloadFont command s stated e = header_alike dpi command.bytes (rw stated.0 at e)
+draw_refusal_alike dpi DownloadCharacter command s stated e =
+    character_alike command.bytes (font_after s.fonts s.settings.font_id) (rw stated.0 at e)
 draw_refusal_alike dpi other command s stated e = e
 
 drawn_on_alike : (dpi : Dpi) (operation : Operation) (command : Said) → LeadsAlike (drawn_on dpi operation command)

@@ -256,7 +256,8 @@ abbrev pub draw_refusal : Dpi → Operation → Said → Situation → Option Ki
 draw_refusal dpi ControlFonts command s = if is_some (control_of command.value) then None else Some UnsupportedValue
 draw_refusal dpi FillRectangle command s = if is_some (ink_of command.value) then None else Some UnsupportedValue
 draw_refusal dpi DownloadFont command s = header_refusal s.settings.profile dpi command.bytes
-draw_refusal dpi DownloadCharacter command s = character_refusal command.bytes (font_after s.fonts s.settings.font_id)
+draw_refusal dpi DownloadCharacter command s =
+    character_refusal s.settings.profile command.bytes (font_after s.fonts s.settings.font_id)
 draw_refusal dpi PrintText command s = text_refusal command.bytes (font_now s)
 draw_refusal dpi other command s = None
 

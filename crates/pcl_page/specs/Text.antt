@@ -54,10 +54,10 @@ header_refusal profile dpi [] = None
 header_refusal profile dpi (byte ∷ bytes) = if is_header profile dpi (byte ∷ bytes) then None else Some FontHeader
 
 -- the same of a character; without a font its data aren't looked at
-abbrev pub character_refusal : List ℕ → Option Font → Option Kind
-character_refusal [] font = None
-character_refusal (byte ∷ bytes) None = None
-character_refusal (byte ∷ bytes) (Some font) = if is_character (byte ∷ bytes) then None else Some CharacterData
+abbrev pub character_refusal : Profile → List ℕ → Option Font → Option Kind
+character_refusal profile [] font = None
+character_refusal profile (byte ∷ bytes) None = None
+character_refusal profile (byte ∷ bytes) (Some font) = if is_character profile (byte ∷ bytes) then None else Some CharacterData
 
 -- codes of spaces and below, which ask for no font
 abbrev pub are_spaces : List ℕ → Bool

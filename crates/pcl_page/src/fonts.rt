@@ -33,14 +33,16 @@ impl<'a> Performer<'a> {
     /// Takes a character for the ID and the code that are meant. Without data, or without a font of the ID, nothing happens.
     pub fn download_character(&mut self, bytes: &'a [u8]) -> Result<(), CallFault>
         ensures { (dpi : Dpi) (s : Situation) → IsIn dpi s self.old
-            → Draws dpi (character_refusal bytes.now (font_after s.fonts s.settings.font_id)) (with_character bytes.now s) result self.new }
+            → Draws dpi (character_refusal s.settings.profile bytes.now (font_after s.fonts s.settings.font_id))
+            (with_character bytes.now s) result self.new }
     {
         if bytes.is_empty() {
             return Ok(());
         }
+        let id = self.environment.font_id();
         let code = self.environment.character_code();
         self.fonts
-            .character(self.environment.font_id(), code, bytes)
+            .character(id, code, bytes, self.environment.profile())
     }
 
     /// Does what a font control says to the font and the character that are meant. A number that says nothing is refused.

@@ -123,18 +123,25 @@ impl<'a> Performer<'a> {
         if !is_inked {
             let size = self.environment.size();
             self.follow_size(size)?;
-            self.ink_glyph(glyph, here, font, dpi);
+            self.ink_glyph(glyph, here, font, dpi)?;
         }
         self.pass_glyph(glyph, font, dpi);
         Ok(())
     }
 
     /// Inks a character of the font at the dot where it is printed.
-    fn ink_glyph(&mut self, glyph: &Glyph<'a>, here: Printed, font: FontInfo, dpi: Dpi)
+    fn ink_glyph(
+        &mut self,
+        glyph: &Glyph<'a>,
+        here: Printed,
+        font: FontInfo,
+        dpi: Dpi,
+    ) -> Result<(), AllocError>
         requires { IsAtCursor dpi here self.old.environment }
-        ensures drawn { IsDrawn (character_at dpi font (character_in glyph.now) here.x here.y) self.old self.new }
-        ensures raster { self.new.raster ≡ self.old.raster }
+        ensures drawn { OnOk result (IsDrawn (character_at dpi font (character_in glyph.now) here.x here.y) self.old self.new) }
+        ensures raster { OnOk result (self.new.raster ≡ self.old.raster) }
     {
+        let rows = glyph.rows(self.alloc)?;
         self.doubts
             .note_ink(glyph, font, &self.environment, self.is_marked);
         let x = right_of(here.x, glyph.left, font, dpi);
@@ -142,8 +149,9 @@ impl<'a> Performer<'a> {
         let scale = dots_per_bit(font, dpi);
         self.page
             .bitmap
-            .blit(x, y, glyph.width, glyph.height, glyph.rows, scale);
+            .blit(x, y, glyph.width, glyph.height, rows.as_slice(), scale);
         self.is_marked = true;
+        Ok(())
     }
 
     /// Moves on after a character of the font.

@@ -126,8 +126,58 @@ fn characters(rt: HostRuntime) -> Result<(), AllocError> {
         let data = changed(rt.alloc(), &CHARACTER, *len, *place, *byte)?;
         let mut fonts = Fonts::new(rt.alloc());
         let _ = fonts.header(0, &HEADER, Profile::Stated, Dpi::Dpi300);
-        let taken = fonts.character(0, 65, &data);
+        let taken = fonts.character(0, 65, &data, Profile::Stated);
         assert_gives(&rt, &(*len, *place, *byte), &taken, wanted);
+    }
+    Ok(())
+}
+
+/// The same character, whose rows are given by runs: 8 black bits, and one black at each end.
+const COMPRESSED: [u8; 24] = [
+    4, 0, 14, 2, 0, 0, 0, 1, 0, 2, 0, 8, 0, 2, 0, 80, 0, 0, 8, 0, 0, 1, 6, 1,
+];
+
+const COMPRESSED_CHARACTERS: [(Profile, Changed); 13] = [
+    (Profile::Drivers, (24, 0, 4, Ok(()))),
+    (Profile::Stated, (24, 0, 4, BAD_CHARACTER)),
+    (Profile::Drivers, (24, 1, 1, BAD_CHARACTER)),
+    (Profile::Drivers, (24, 2, 15, BAD_CHARACTER)),
+    (Profile::Drivers, (24, 3, 3, BAD_CHARACTER)),
+    (Profile::Drivers, (24, 4, 1, BAD_CHARACTER)),
+    (Profile::Drivers, (23, 0, 4, BAD_CHARACTER)),
+    (Profile::Drivers, (24, 13, 3, BAD_CHARACTER)),
+    (Profile::Drivers, (24, 16, 1, Ok(()))),
+    (Profile::Drivers, (24, 16, 2, BAD_CHARACTER)),
+    (Profile::Drivers, (24, 18, 9, BAD_CHARACTER)),
+    (Profile::Drivers, (24, 22, 7, BAD_CHARACTER)),
+    (Profile::Drivers, (16, 13, 0, Ok(()))),
+];
+
+// Compressed characters, by the profile: each fixed byte off by one, data that are cut, and runs and repetitions that go too far.
+#[test]
+fn compressed_characters(rt: HostRuntime) -> Result<(), AllocError> {
+    for (profile, (len, place, byte, wanted)) in &COMPRESSED_CHARACTERS {
+        let data = changed(rt.alloc(), &COMPRESSED, *len, *place, *byte)?;
+        let mut fonts = Fonts::new(rt.alloc());
+        let _ = fonts.header(0, &HEADER, *profile, Dpi::Dpi300);
+        let taken = fonts.character(0, 65, &data, *profile);
+        assert_gives(&rt, &(*profile, *len, *place, *byte), &taken, wanted);
+    }
+    Ok(())
+}
+
+// The rows of the character, by both classes.
+#[test]
+fn rows(rt: HostRuntime) -> Result<(), AllocError> {
+    let mut fonts = Fonts::new(rt.alloc());
+    let _ = fonts.header(0, &HEADER, Profile::Drivers, Dpi::Dpi300);
+    let _ = fonts.character(0, 65, &CHARACTER, Profile::Drivers);
+    let _ = fonts.character(0, 66, &COMPRESSED, Profile::Drivers);
+    for code in [65, 66] {
+        if let Some(glyph) = fonts.glyph(0, code) {
+            let rows = glyph.rows(rt.alloc())?;
+            assert_gives(&rt, &code, &rows.as_slice(), &[0xFF, 0x81].as_slice());
+        }
     }
     Ok(())
 }
@@ -138,7 +188,7 @@ fn left_by(alloc: Global, what: FontControl, id: u16, and_delete: bool) -> [bool
     let mut fonts = Fonts::new(alloc);
     for id in [1, 2] {
         let _ = fonts.header(id, &HEADER, Profile::Stated, Dpi::Dpi300);
-        let _ = fonts.character(id, 65, &CHARACTER);
+        let _ = fonts.character(id, 65, &CHARACTER, Profile::Stated);
     }
     fonts.control(2, 0, FontControl::MakePermanent);
     fonts.control(id, 65, what);

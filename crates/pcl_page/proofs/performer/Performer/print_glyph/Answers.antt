@@ -3,7 +3,7 @@ use Rattle.pcl_page.proofs.Names.{IsTrue, character_in, character_at, Situation,
 use Rattle.pcl_page.proofs.Turns.{has_followed}
 use Rattle.pcl_page.proofs.Printed.{character_printed, drawn_again, inked_by, inked_still}
 use Rattle.pcl_page.proofs.performer.Performer.print_glyph.Goals as goal
-use Rattle.pcl_page.proofs.performer.Performer.print_glyph.Goals.{then-not-is_inked+in_ok-follow_size, else-not-is_inked}
+use Rattle.pcl_page.proofs.performer.Performer.print_glyph.Goals.{then-not-is_inked+in_ok-follow_size+in_ok-ink_glyph, else-not-is_inked}
 
 -- the character is drawn, now or before
 is_drawn : (c : goal.After-pass_glyph) (s : Situation) → IsIn c.args.dpi s c.args.self.now → (IsTrue c.args.is_inked
@@ -13,9 +13,9 @@ is_drawn : (c : goal.After-pass_glyph) (s : Situation) → IsIn c.args.dpi s c.a
     × (c.if-not-is_inked.self.raster ≡ begun.raster)
 is_drawn c s i inked =
     elim c.if-not-is_inked.branch [
-      | then-not-is_inked+in_ok-follow_size w ↦
+      | then-not-is_inked+in_ok-follow_size+in_ok-ink_glyph w ↦
           let followed = rw w.size-size.ensures.value at w.in_ok-follow_size.ensures in
-          rw w.self-is (w.follow_size.new.self, followed, w.ink_glyph.ensures.drawn, w.ink_glyph.ensures.raster)
+          rw w.self-is (w.follow_size.new.self, followed, w.in_ok-ink_glyph.ensures.drawn, w.in_ok-ink_glyph.ensures.raster)
       | else-not-is_inked w ↦
           let there = inked (search rules) in
           rw w.self-is (c.args.self.now, has_followed i there.marked, drawn_again refl there, refl)
@@ -27,7 +27,7 @@ is_inked : (c : goal.After-pass_glyph) → (IsTrue c.args.is_inked
     → IsInked (character_at c.args.dpi c.args.font (character_in c.args.glyph.now) c.args.here.x c.args.here.y) c.if-not-is_inked.self
 is_inked c inked =
     elim c.if-not-is_inked.branch [
-      | then-not-is_inked+in_ok-follow_size w ↦ rw w.self-is (inked_by refl w.ink_glyph.ensures.drawn)
+      | then-not-is_inked+in_ok-follow_size+in_ok-ink_glyph w ↦ rw w.self-is (inked_by refl w.in_ok-ink_glyph.ensures.drawn)
       | else-not-is_inked w ↦ rw w.self-is (inked (search rules))
     ]
 
