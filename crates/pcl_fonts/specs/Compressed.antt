@@ -4,13 +4,13 @@ use Rattle.std.specs.Prelude.{ℕ, zero, suc, ◌+◌, ◌-◌, ◌/◌, ◌^◌
 use Rattle.std.specs.List.{concat}
 use Rattle.std.specs.Option.{option_map, option_and_then}
 
--- the number that so many bits of a byte make, the first of them the highest; bits that aren't there are white
+-- the number that this many bits of a byte make, the first of them the highest; bits that aren't there are white
 unfoldable pub byte_of : ℕ → List Bool → ℕ
 byte_of zero bits = 0
 byte_of (suc more) [] = 0
 byte_of (suc more) (black ∷ bits) = (if black then 2 ^ more else 0) + byte_of more bits
 
--- so many bytes of bits, eight to a byte
+-- this many bytes of bits, eight to a byte
 unfoldable pub bytes_of : ℕ → List Bool → List ℕ
 bytes_of zero bits = []
 bytes_of (suc more) bits = byte_of 8 bits ∷ bytes_of more (drop 8 bits)

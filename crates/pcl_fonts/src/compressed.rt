@@ -59,7 +59,7 @@ fn put_groups(
     Ok(true)
 }
 
-/// Appends a row so many times.
+/// Appends this many copies of a row.
 fn put_copies(rows: &mut Vec<u8>, row: &[u8], copies: usize) -> Result<(), AllocError>
     ensures { OnOk result (rows.new.items ≡ rows.old.items ++ concat (replicate copies row.now)) }
 {
