@@ -137,7 +137,7 @@ const COMPRESSED: [u8; 24] = [
     4, 0, 14, 2, 0, 0, 0, 1, 0, 2, 0, 8, 0, 2, 0, 80, 0, 0, 8, 0, 0, 1, 6, 1,
 ];
 
-const COMPRESSED_CHARACTERS: [(Profile, Changed); 13] = [
+const COMPRESSED_CHARACTERS: [(Profile, Changed); 14] = [
     (Profile::Drivers, (24, 0, 4, Ok(()))),
     (Profile::Stated, (24, 0, 4, BAD_CHARACTER)),
     (Profile::Drivers, (24, 1, 1, BAD_CHARACTER)),
@@ -149,7 +149,8 @@ const COMPRESSED_CHARACTERS: [(Profile, Changed); 13] = [
     (Profile::Drivers, (24, 16, 1, Ok(()))),
     (Profile::Drivers, (24, 16, 2, BAD_CHARACTER)),
     (Profile::Drivers, (24, 18, 9, BAD_CHARACTER)),
-    (Profile::Drivers, (24, 22, 7, BAD_CHARACTER)),
+    (Profile::Drivers, (24, 22, 5, BAD_CHARACTER)),
+    (Profile::Drivers, (24, 22, 8, BAD_CHARACTER)),
     (Profile::Drivers, (16, 13, 0, Ok(()))),
 ];
 
