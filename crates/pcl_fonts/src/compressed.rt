@@ -14,14 +14,14 @@ pub fn expand(
     alloc: Global,
     width: u16,
     height: u16,
-    data: &[u8],
+    bytes: &[u8],
 ) -> Result<Option<Vec<u8>>, AllocError>
-    ensures { IfOk result (λ rows. option_map (λ r. r.items) rows ≡ expanded width height data.now) }
+    ensures { IfOk result (λ rows. option_map (λ r. r.items) rows ≡ expanded width height bytes.now) }
 {
     let width = usize::from(width);
     let mut row = vec![in alloc; 0; width.div_ceil(8)]?;
     let mut rows = Vec::new(alloc);
-    if put_groups(&mut rows, &mut row, width, usize::from(height), data)? {
+    if put_groups(&mut rows, &mut row, width, usize::from(height), bytes)? {
         Ok(Some(rows))
     } else {
         Ok(None)
@@ -34,12 +34,12 @@ fn put_groups(
     row: &mut [u8],
     width: usize,
     height: usize,
-    data: &[u8],
+    bytes: &[u8],
 ) -> Result<bool, AllocError>
     requires { length row.old ≡ (width + 7) / 8 }
-    ensures { IfOk result (λ are_whole. HasRows rows.old.items rows.new.items are_whole (expanded width height data.now)) }
+    ensures { IfOk result (λ are_whole. HasRows rows.old.items rows.new.items are_whole (expanded width height bytes.now)) }
 {
-    let mut rest = data;
+    let mut rest = bytes;
     let mut left = height;
     while left > 0 {
         let Some((repeats, runs)) = rest.split_first() else {
@@ -69,13 +69,13 @@ fn put_copies(rows: &mut Vec<u8>, row: &[u8], copies: usize) -> Result<(), Alloc
     Ok(())
 }
 
-/// Writes the row whose runs stand at the front of data, and answers the data after them.
-fn put_row<'a>(row: &mut [u8], width: usize, data: &'a [u8]) -> Option<&'a [u8]>
+/// Writes the row whose runs stand at the front of the bytes, and gives the bytes after them.
+fn put_row<'a>(row: &mut [u8], width: usize, bytes: &'a [u8]) -> Option<&'a [u8]>
     requires { length row.old ≡ (width + 7) / 8 }
-    ensures { HasRow width data.now row.new (option_map (λ rest. rest.now) result) }
+    ensures { HasRow width bytes.now row.new (option_map (λ rest. rest.now) result) }
 {
     row.fill(0);
-    let mut rest = data;
+    let mut rest = bytes;
     let mut column = 0;
     let mut is_black = false;
     while column < width {

@@ -5,7 +5,7 @@ use Rattle.pcl_fonts.proofs.Expanding.{groups_begun, groups_cut, group_past, gro
 use Rattle.pcl_fonts.proofs.compressed.put_groups.Goals as goal
 
 pub loop-left-init : goal.loop-left-init
-loop-left-init c = groups_begun c.args.width c.args.height c.args.data.now c.args.rows.now.items
+loop-left-init c = groups_begun c.args.width c.args.height c.args.bytes.now c.args.rows.now.items
 
 pub returns-in_default : goal.returns-in_default
 returns-in_default c =

@@ -6,7 +6,7 @@ use Rattle.pcl_fonts.proofs.compressed.put_row.Goals as goal
 use Rattle.pcl_fonts.proofs.compressed.put_row.Goals.{then-is_black, else-is_black}
 
 pub loop-column-init : goal.loop-column-init
-loop-column-init c = rw (c.fill.ensures.after (λ y e. e), c.requires) (begun c.args.width c.args.data.now)
+loop-column-init c = rw (c.fill.ensures.after (λ y e. e), c.requires) (begun c.args.width c.args.bytes.now)
 
 pub returns-in_err-run : goal.returns-in_err-run
 returns-in_err-run c =
