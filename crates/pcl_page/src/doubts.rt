@@ -24,7 +24,7 @@ pub enum Doubt {
     BetweenDots,
     /// A mark at the cursor after a raster with fewer rows than its height.
     ShortRaster,
-    /// A mark at the cursor after a command that may take it to the first line of an unmarked page.
+    /// A mark at the cursor after a command that may take it to the first line.
     FirstLine,
     /// A row by method 3 after an offset of 0 and a row with dots.
     SeedRow,
@@ -175,7 +175,7 @@ impl Doubts {
                 self.note_back(what, value, environment.asked(), is_marked);
                 self.note_asking(what, environment, is_marked, dpi);
             }
-            Operation::VerticalMotionIndex | Operation::LineSpacing if was_home && !is_marked => {
+            Operation::VerticalMotionIndex | Operation::LineSpacing if was_home => {
                 self.doubt_home(environment);
             }
             Operation::RasterWidth | Operation::RasterHeight if value.whole() == 0 => {
