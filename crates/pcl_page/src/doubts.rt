@@ -44,9 +44,10 @@ pub enum Doubt {
     PartOfUnit,
     /// Sides, a media type or a page length on a marked page, which may eject it.
     Ejection,
-    /// Ink past the left or the right edge of the page, half a dot past its lower one, or past the edge to which the page is moved.
+    /// Ink past the left or the right edge of the page, half a dot past its lower one, or past the edge to which the page is moved; a row
+    /// of a raster that began with the cursor at the right edge.
     Edge,
-    /// A quality of printing, or a text scale, that ends a raster, which may go on.
+    /// A quality of printing, a text scale or a space, which ends a raster that may go on; or a row of a raster that macros may have ended.
     OpenRaster,
     /// A row outside a raster, after one that started away from the left edge.
     RowStart,
@@ -80,6 +81,15 @@ pub struct Doubts {
     has_raster: bool,
     /// Whether that raster starts between two rows of dots, or the page is moved up on its sheet.
     is_low: bool,
+    /// Whether it starts between two rows of dots, or between two columns.
+    is_between_rows: bool,
+    is_between_columns: bool,
+    /// Whether the cursor may stand half a dot lower, since a raster left it there.
+    is_row_half: bool,
+    /// Whether a macro was run or named since that raster began.
+    is_run: bool,
+    /// Whether a text that has printed no code yet ended it.
+    is_text_next: bool,
     /// Whether the seed row may have dots that were cleared.
     is_seed_open: bool,
     /// Whether a row outside a raster may begin where the last raster did, away from the left edge.
@@ -109,6 +119,11 @@ impl Doubts {
             has_back: false,
             has_raster: false,
             is_low: false,
+            is_between_rows: false,
+            is_between_columns: false,
+            is_row_half: false,
+            is_run: false,
+            is_text_next: false,
             is_seed_open: false,
             is_left_open: false,
             is_width_open: false,
@@ -162,6 +177,7 @@ impl Doubts {
             Operation::PageSize => self.settle(),
             Operation::EndRasterResetMethod => self.is_left_open = false,
             Operation::CarriageReturn => self.column = None,
+            Operation::ControlMacros | Operation::MacroId => self.is_run = true,
             Operation::TopMargin if !is_marked => self.note_margin(was_home),
             Operation::Move(axis, unit) => self.note_move(axis, unit, value.sign, environment),
             Operation::HorizontalTab => {
@@ -173,7 +189,7 @@ impl Doubts {
                 let is_scaled = what == Asking::TextScale && value.whole() != 0;
                 self.note_if(is_scaled, Doubt::TextScale);
                 self.note_back(what, value, environment.asked(), is_marked);
-                self.note_asking(what, environment, is_marked, dpi);
+                self.note_asking(what, value, environment, is_marked, dpi);
             }
             Operation::VerticalMotionIndex | Operation::LineSpacing if was_home => {
                 self.doubt_home(environment);
@@ -188,7 +204,7 @@ impl Doubts {
     /// Looks at a top margin that was set on an unmarked page: a cursor that was moved may stay.
     fn note_margin(&mut self, was_home: bool) {
         self.row = if was_home {
-            self.spacing
+            self.row.or(self.spacing)
         } else {
             Some(Doubt::FirstLine)
         };
@@ -276,21 +292,25 @@ impl Doubts {
 
     /// The cursor's place is sure.
     fn settle(&mut self) {
-        self.column = None;
-        self.row = None;
+        self.settle_along(Axis::Horizontal);
+        self.settle_along(Axis::Vertical);
     }
 
     /// The cursor was taken to a place along an axis.
     fn settle_along(&mut self, axis: Axis) {
         match axis {
             Axis::Horizontal => self.column = None,
-            Axis::Vertical => self.row = None,
+            Axis::Vertical => {
+                self.row = None;
+                self.is_row_half = false;
+            }
         }
     }
 
     /// A page that was asked with this was ejected: the cursor is on the first line.
     pub fn note_ejection(&mut self, asked: Asked) {
         self.row = self.spacing;
+        self.is_row_half = false;
         self.has_back |= !self.is_reset && may_have_back(asked);
         self.has_raster = false;
     }
@@ -306,7 +326,14 @@ impl Doubts {
     }
 
     /// Looks at what is asked: on a marked page it may eject that, on an unmarked one it may take the cursor to the first line.
-    fn note_asking(&mut self, what: Asking, environment: &Env, is_marked: bool, dpi: Dpi) {
+    fn note_asking(
+        &mut self,
+        what: Asking,
+        value: Value,
+        environment: &Env,
+        is_marked: bool,
+        dpi: Dpi,
+    ) {
         match what {
             Asking::OutputBin
             | Asking::JobSeparation
@@ -319,6 +346,9 @@ impl Doubts {
             Asking::TopOffset => self.note_offset(environment.asked().top_offset, dpi),
             Asking::Sides | Asking::MediaType | Asking::PageLength if is_marked => {
                 self.note(Doubt::Ejection);
+            }
+            Asking::SheetSide if is_marked && !SHEET_SIDES.contains(&value.whole()) => {
+                self.row = Some(Doubt::FirstLine);
             }
             Asking::PaperSource | Asking::SheetSide if is_marked => self.doubt_column(environment),
             _ => self.doubt_home(environment),
@@ -364,11 +394,21 @@ impl Doubts {
     /// Looks at a raster that a command ends.
     pub fn note_end(&mut self, operation: Operation, raster: &Raster) {
         self.note_if(may_go_on(operation), Doubt::OpenRaster);
+        self.is_text_next = operation == Operation::PrintText;
         self.is_seed_open = false;
         self.rows = None;
+        self.is_row_half |= self.is_between_rows;
+        if self.is_between_columns {
+            self.column = Some(Doubt::BetweenDots);
+        }
         if raster.is_short() {
             self.row = Some(Doubt::ShortRaster);
         }
+    }
+
+    /// Looks at the end of a macro that was executed, which may end a raster that has begun.
+    pub fn note_run_end(&mut self) {
+        self.is_run = true;
     }
 
     /// Looks at a raster that starts in the cursor's row at a dot, which is in the cursor's column or not.
@@ -377,10 +417,15 @@ impl Doubts {
             return;
         }
         self.has_raster = true;
-        self.is_low = environment.y() % dpi.unit() != 0 || is_raised(environment);
+        self.is_between_rows = environment.y() % dpi.unit() != 0;
+        self.is_between_columns = is_at_cursor && environment.x() % dpi.unit() != 0;
+        self.is_low = self.is_between_rows || is_raised(environment);
+        self.is_run = false;
         self.rows = SheetRows::start(left, self.is_low, environment, dpi);
         self.is_seed_open = false;
+        let is_unseen = is_at_right_end(environment);
         self.raster = self.row.or(between_dots(environment.y(), dpi));
+        self.raster = self.raster.or(is_unseen.then_some(Doubt::Edge));
         self.is_left_open = left != 0;
         if is_at_cursor {
             let column = self.column.or(between_dots(environment.x(), dpi));
@@ -403,6 +448,7 @@ impl Doubts {
             self.note_start(0, environment, false, dpi);
         }
         self.note_any(self.raster);
+        self.note_if(self.is_run, Doubt::OpenRaster);
         let method = environment.method();
         self.note_if(self.is_seed_open && method == Method::Delta, Doubt::SeedRow);
         self.is_seed_open = false;
@@ -448,6 +494,7 @@ impl Doubts {
         if !self.is_wanted {
             return;
         }
+        self.is_text_next = false;
         self.note_if(font.proportional && glyph.delta < 0, Doubt::Advance);
         if !font.proportional {
             self.note_column(environment);
@@ -465,7 +512,7 @@ impl Doubts {
         self.note_cursor();
         let is_between = is_half_past_or_more(environment.x(), dpi)
             || is_half_past_or_more(environment.y(), dpi);
-        self.note_if(is_between, Doubt::BetweenDots);
+        self.note_if(is_between || self.is_row_half, Doubt::BetweenDots);
         self.note_if(is_cut(glyph, font, environment), Doubt::Edge);
     }
 
@@ -486,6 +533,8 @@ impl Doubts {
     /// Looks at a code that prints no character.
     pub fn note_blank(&mut self, is_space: bool, environment: &Env) {
         self.note_if(!is_space, Doubt::Code);
+        self.note_if(self.is_text_next, Doubt::OpenRaster);
+        self.is_text_next = false;
         self.note_column(environment);
     }
 
@@ -598,6 +647,9 @@ fn is_on_first_line(environment: &Env) -> bool {
     let first_line = u64::from(environment.top_margin()) + 3 * u64::from(environment.vmi()) / 4;
     u64::from(environment.y()) == first_line
 }
+
+/// The sides of a sheet that are asked for: the next one, a front, a back.
+const SHEET_SIDES: [i32; 3] = [0, 1, 2];
 
 /// The parts of a whole number, of which a value is counted.
 const WHOLE: u32 = 10_000;

@@ -157,6 +157,14 @@ impl<'a> Performer<'a> {
         self.note_moved(asked);
     }
 
+    /// Does what the end of a macro that was executed does: nothing, but printers may end a raster there.
+    pub fn end_execution(&mut self)
+        ensures situation { (dpi : Dpi) (s : Situation) → IsIn dpi s self.old → IsIn dpi s self.new }
+        ensures counts { self.new.performed ≡ self.old.performed }
+    {
+        self.doubts.note_run_end();
+    }
+
     /// Notes that a marked page was moved, where it was asked with this before.
     fn note_moved(&mut self, asked: Asked)
         ensures situation { (dpi : Dpi) (s : Situation) → IsIn dpi s self.old
