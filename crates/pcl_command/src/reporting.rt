@@ -94,7 +94,7 @@ fn doubt_name(doubt: Doubt) -> &'static [u8] {
     match doubt {
         Doubt::BetweenDots => b"what stands between dots",
         Doubt::ShortRaster => b"where the cursor is after fewer rows than a raster's height",
-        Doubt::FirstLine => b"where the cursor is after settings on a page without marks",
+        Doubt::FirstLine => b"where the cursor is after settings",
         Doubt::SeedRow => b"an offset of 0 before a row by method 3",
         Doubt::RasterSize => b"a width or a height of a raster of 0",
         Doubt::Advance => b"an advance below 0",
@@ -105,7 +105,7 @@ fn doubt_name(doubt: Doubt) -> &'static [u8] {
         Doubt::PartOfUnit => b"a part of a unit",
         Doubt::Ejection => b"sides, a media type or a page length on a page with marks",
         Doubt::Edge => b"ink past an edge of the page",
-        Doubt::OpenRaster => b"where a raster ends, at a quality of printing",
+        Doubt::OpenRaster => b"where a raster ends",
         Doubt::RowStart => b"where a row begins, after a raster away from the left edge",
         Doubt::TextScale => b"a text scale that isn't 0",
         Doubt::Back => b"the side of a sheet after a page that is moved",

@@ -47,7 +47,7 @@ pub enum Doubt {
     /// Ink past the left or the right edge of the page, half a dot past its lower one, or past the edge to which the page is moved; a row
     /// of a raster that began with the cursor at the right edge.
     Edge,
-    /// A quality of printing, a text scale or a space, which ends a raster that may go on; or a row of a raster that macros may have ended.
+    /// A quality of printing, a text scale or a space, which ends a raster that may go on; or a row of one that the end of a macro may end.
     OpenRaster,
     /// A row outside a raster, after one that started away from the left edge.
     RowStart,
@@ -86,8 +86,10 @@ pub struct Doubts {
     is_between_columns: bool,
     /// Whether the cursor may stand half a dot lower, since a raster left it there.
     is_row_half: bool,
-    /// Whether a macro was run or named since that raster began.
-    is_run: bool,
+    /// Whether a macro that began it has ended.
+    has_macro_ended: bool,
+    /// Whether the page that is ejected next leaves the cursor in its row.
+    is_row_kept: bool,
     /// Whether a text that has printed no code yet ended it.
     is_text_next: bool,
     /// Whether the seed row may have dots that were cleared.
@@ -122,7 +124,8 @@ impl Doubts {
             is_between_rows: false,
             is_between_columns: false,
             is_row_half: false,
-            is_run: false,
+            has_macro_ended: false,
+            is_row_kept: false,
             is_text_next: false,
             is_seed_open: false,
             is_left_open: false,
@@ -177,7 +180,6 @@ impl Doubts {
             Operation::PageSize => self.settle(),
             Operation::EndRasterResetMethod => self.is_left_open = false,
             Operation::CarriageReturn => self.column = None,
-            Operation::ControlMacros | Operation::MacroId => self.is_run = true,
             Operation::TopMargin if !is_marked => self.note_margin(was_home),
             Operation::Move(axis, unit) => self.note_move(axis, unit, value.sign, environment),
             Operation::HorizontalTab => {
@@ -309,7 +311,12 @@ impl Doubts {
 
     /// A page that was asked with this was ejected: the cursor is on the first line.
     pub fn note_ejection(&mut self, asked: Asked) {
-        self.row = self.spacing;
+        self.row = if self.is_row_kept {
+            Some(Doubt::FirstLine)
+        } else {
+            self.spacing
+        };
+        self.is_row_kept = false;
         self.is_row_half = false;
         self.has_back |= !self.is_reset && may_have_back(asked);
         self.has_raster = false;
@@ -348,7 +355,7 @@ impl Doubts {
                 self.note(Doubt::Ejection);
             }
             Asking::SheetSide if is_marked && !SHEET_SIDES.contains(&value.whole()) => {
-                self.row = Some(Doubt::FirstLine);
+                self.is_row_kept = true;
             }
             Asking::PaperSource | Asking::SheetSide if is_marked => self.doubt_column(environment),
             _ => self.doubt_home(environment),
@@ -408,7 +415,7 @@ impl Doubts {
 
     /// Looks at the end of a macro that was executed, which may end a raster that has begun.
     pub fn note_run_end(&mut self) {
-        self.is_run = true;
+        self.has_macro_ended = true;
     }
 
     /// Looks at a raster that starts in the cursor's row at a dot, which is in the cursor's column or not.
@@ -420,7 +427,7 @@ impl Doubts {
         self.is_between_rows = environment.y() % dpi.unit() != 0;
         self.is_between_columns = is_at_cursor && environment.x() % dpi.unit() != 0;
         self.is_low = self.is_between_rows || is_raised(environment);
-        self.is_run = false;
+        self.has_macro_ended = false;
         self.rows = SheetRows::start(left, self.is_low, environment, dpi);
         self.is_seed_open = false;
         let is_unseen = is_at_right_end(environment);
@@ -448,7 +455,7 @@ impl Doubts {
             self.note_start(0, environment, false, dpi);
         }
         self.note_any(self.raster);
-        self.note_if(self.is_run, Doubt::OpenRaster);
+        self.note_if(self.has_macro_ended, Doubt::OpenRaster);
         let method = environment.method();
         self.note_if(self.is_seed_open && method == Method::Delta, Doubt::SeedRow);
         self.is_seed_open = false;
