@@ -116,14 +116,17 @@ install:
 	install -D -m 644 share/pclmin.thumbnailer $(DESTDIR)$(PREFIX)/share/thumbnailers/pclmin.thumbnailer
 	install -D -m 644 share/pclmin.xml $(DESTDIR)$(PREFIX)/share/mime/packages/pclmin.xml
 
-# Proves the library, and makes build/libpclmin.a and build/pclmin.h of it (docs/LIBRARY.md). Needs Python 3, a C compiler and binutils.
+# Proves the library, and makes build/libpclmin.a, build/libpclmin.so and build/pclmin.h of it (docs/LIBRARY.md). Needs Python 3, a C
+# compiler and binutils.
 lib:
-	lib/build.sh
+	lib/build.sh shared
 
-# Copies the archive, the header and what pkg-config reads to $(PREFIX).
+# Copies the archive, the shared library, the header, what pkg-config reads, and the calls for Python to $(PREFIX).
 install-lib:
-	@test -f build/libpclmin.a || { echo "there is no build/libpclmin.a: run make lib first" >&2; exit 1; }
+	@test -f build/libpclmin.so || { echo "there is no build/libpclmin.so: run make lib first" >&2; exit 1; }
 	install -D -m 644 build/libpclmin.a $(DESTDIR)$(PREFIX)/lib/libpclmin.a
+	install -D -m 644 build/libpclmin.so $(DESTDIR)$(PREFIX)/lib/libpclmin.so
+	install -D -m 644 lib/pclmin.py $(DESTDIR)$(PREFIX)/share/pclmin/pclmin.py
 	install -D -m 644 build/pclmin.h $(DESTDIR)$(PREFIX)/include/pclmin.h
 	install -d $(DESTDIR)$(PREFIX)/lib/pkgconfig
 	sed 's|@PREFIX@|$(PREFIX)|' lib/pclmin.pc.in > $(DESTDIR)$(PREFIX)/lib/pkgconfig/pclmin.pc

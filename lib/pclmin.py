@@ -1,4 +1,5 @@
-"""The calls of pclmin for Python, by ctypes: build/libpclmin.so (lib/build.sh shared), or the library that PCLMIN_LIBRARY names.
+"""The calls of pclmin for Python, by ctypes: of the library that PCLMIN_LIBRARY names, else of build/libpclmin.so (`make lib`), else of
+libpclmin.so where the system has it (`make install-lib`).
 
     import pclmin
     answer = pclmin.shrink(open("job.pcl", "rb").read())
@@ -7,9 +8,11 @@
     else:
         print(answer.line, end="")
 
-A resolution is 300 or 600 dots per inch, or 0 for the first of these at which the job is accepted.
+A job is bytes, a bytearray or a memoryview. A resolution is 300 or 600 dots per inch, or 0 for the first of these at which the job is
+accepted. A number that isn't from 0 to 4,294,967,295 is a ValueError; other wrong ones have the fault WRONG_ARGUMENT.
 """
 import ctypes
+import operator
 import os
 from typing import NamedTuple
 
@@ -20,7 +23,8 @@ KINDS = (
 )
 
 _HERE = os.path.dirname(os.path.abspath(__file__))
-LIBRARY = os.environ.get("PCLMIN_LIBRARY", os.path.join(_HERE, "..", "build", "libpclmin.so"))
+_BUILT = os.path.abspath(os.path.join(_HERE, "..", "build", "libpclmin.so"))
+LIBRARY = os.environ.get("PCLMIN_LIBRARY") or (_BUILT if os.path.exists(_BUILT) else "libpclmin.so")
 
 
 class Answer(NamedTuple):
@@ -65,11 +69,21 @@ def _declared(name, jobs, numbers):
     return call
 
 
+def _number(value):
+    """A number as the calls take it, which ctypes would cut to 32 bits."""
+    number = operator.index(value)
+    if not 0 <= number < 1 << 32:
+        raise ValueError("%d isn't a number from 0 to 4294967295" % number)
+    return number
+
+
 def _asked(call, jobs, numbers):
     """What a call answers."""
     arguments = []
     for job in jobs:
+        job = job if isinstance(job, bytes) else bytes(memoryview(job))
         arguments += [job, len(job)]
+    numbers = [_number(number) for number in numbers]
     answer = _Answer()
     call(*arguments, *numbers, ctypes.byref(answer))
     try:
@@ -83,7 +97,7 @@ def _asked(call, jobs, numbers):
         _FREE(ctypes.byref(answer))
 
 
-_LIBRARY = ctypes.CDLL(os.path.abspath(LIBRARY))
+_LIBRARY = ctypes.CDLL(LIBRARY)
 _FREE = _LIBRARY.pclmin_free
 _FREE.argtypes, _FREE.restype = [ctypes.POINTER(_Answer)], None
 _PREVIEW = _declared("pclmin_preview", 1, 3)

@@ -218,8 +218,27 @@ def check_arguments(runner):
         runner.tell(answer == beside and answer.fault == pclmin.DONE, f"{words} are an empty job: {shown(answer)}")
 
 
+def check_python(runner):
+    """What only Python can hand over: jobs that aren't bytes, and numbers of more than 32 bits; and the calls where they are installed."""
+    job = JOBS["two.pcl"]
+    wanted = pclmin.page_count(job)
+    for other in (bytearray(job), memoryview(job), memoryview(bytes(job) + b"\x1b")[:-1]):
+        runner.tell(pclmin.page_count(other) == wanted, f"{type(other).__name__} is taken as bytes are")
+    for number in (-1, (1 << 32) + 300, 1 << 64):
+        try:
+            answer = shown(pclmin.page_count(job, number))
+        except ValueError:
+            answer = "refused"
+        runner.tell(answer == "refused", f"{number} is no resolution: {answer}")
+    root = os.path.join(BUILD, "root", "usr")
+    places = dict(os.environ, PYTHONPATH=os.path.join(root, "share/pclmin"), LD_LIBRARY_PATH=os.path.join(root, "lib"))
+    words = "import pclmin; print(pclmin.LIBRARY, pclmin.page_count(open('two.pcl', 'rb').read()).pages)"
+    done = subprocess.run([sys.executable, "-c", words], env=places, cwd=BUILD, capture_output=True)
+    runner.tell(done.stdout == b"libpclmin.so 2\n", f"installed calls: {done.stdout} {done.stderr.decode()[-300:]}")
+
+
 def install(runner):
-    """Installs the library below a folder; what a C compiler is told of it there, by pkg-config where that is there."""
+    """Installs the library below a folder; what a C compiler is told of the archive there, by pkg-config where that is there."""
     root = os.path.join(BUILD, "root")
     subprocess.run(["make", "--no-print-directory", "-C", TOP, "install-lib", "DESTDIR=" + root, "PREFIX=/usr"], check=True,
                    stdout=subprocess.DEVNULL)
@@ -229,9 +248,11 @@ def install(runner):
     if shutil.which("pkg-config"):
         places = dict(os.environ, PKG_CONFIG_LIBDIR=os.path.join(root, "usr/lib/pkgconfig"), PKG_CONFIG_SYSROOT_DIR=root,
                       PKG_CONFIG_ALLOW_SYSTEM_CFLAGS="1", PKG_CONFIG_ALLOW_SYSTEM_LIBS="1")
-        return subprocess.run(["pkg-config", "--cflags", "--libs", "pclmin"], env=places, check=True,
-                              capture_output=True).stdout.decode().split()
-    return ["-I" + root + "/usr/include", "-L" + root + "/usr/lib", "-lpclmin"]
+        flags = subprocess.run(["pkg-config", "--cflags", "--libs", "pclmin"], env=places, check=True,
+                               capture_output=True).stdout.decode().split()
+    else:
+        flags = ["-I" + root + "/usr/include", "-L" + root + "/usr/lib", "-lpclmin"]
+    return ["-l:libpclmin.a" if flag == "-lpclmin" else flag for flag in flags]
 
 
 def compile_clients(runner):
@@ -290,6 +311,7 @@ def main():
         for resolution in (300, 0):
             compare_verdict(runner, ["same"], ["same"], [first, second], resolution)
     check_arguments(runner)
+    check_python(runner)
     tests = subprocess.run([*runner.clients[0][1][:-1], os.path.join(BUILD, "tests")], capture_output=True, cwd=BUILD)
     print(tests.stdout.decode(), end="")
     runner.tell(tests.returncode == 0, f"the tests in C: {tests.returncode} {tests.stderr.decode()}")
