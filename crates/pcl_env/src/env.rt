@@ -164,7 +164,10 @@ impl Env {
         ensures { self.new ≡ restored saved self.old }
     {
         let asked = saved.setup.asked.with_size_of(self.setup.asked);
-        self.setup = Setup { asked, ..saved.setup };
+        self.setup = Setup {
+            asked,
+            ..saved.setup
+        };
     }
 
     /// The size of the page.

@@ -49,7 +49,7 @@ pub fn asks_difference(
 ) -> Option<AsksDifference>
     ensures { length first.now.pages.items ≡ length second.now.pages.items → first.now.next ≡ second.now.next
         → MatchOption result (as_counted last (asks_of first.now) ≡ as_counted last (asks_of second.now))
-            (AsksDifferBy (as_counted last (asks_of first.now)) (as_counted last (asks_of second.now))) }
+        (AsksDifferBy (as_counted last (asks_of first.now)) (as_counted last (asks_of second.now))) }
 {
     if let Some(difference) = page_difference(&first.pages, &second.pages) {
         return Some(difference);
