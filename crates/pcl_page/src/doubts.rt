@@ -100,6 +100,8 @@ pub struct Doubts {
     is_width_open: bool,
     /// Whether it is the pitch of a selected font.
     is_width_pitch: bool,
+    /// Whether a selected font was sent anew since a reset.
+    is_font_anew: bool,
     /// Why the line spacing may be another.
     spacing: Option<Doubt>,
     /// The rows of the raster that has begun, where they may go past the page's edge.
@@ -131,6 +133,7 @@ impl Doubts {
             is_left_open: false,
             is_width_open: false,
             is_width_pitch: false,
+            is_font_anew: false,
             spacing: None,
             rows: None,
         }
@@ -259,6 +262,7 @@ impl Doubts {
             Operation::Reset | Operation::UniversalExit => {
                 self.is_width_open = false;
                 self.is_width_pitch = false;
+                self.is_font_anew = false;
             }
             Operation::HorizontalMotionIndex => {
                 self.is_width_open = has_rest(value, HMI_UNIT);
@@ -269,7 +273,10 @@ impl Doubts {
                 self.is_width_open = side != environment.in_use();
                 self.is_width_pitch = true;
             }
-            Operation::DownloadFont if is_selected(environment) => self.is_width_open = true,
+            Operation::DownloadFont if is_selected(environment) => {
+                self.is_width_open = true;
+                self.is_font_anew = true;
+            }
             Operation::HorizontalTab
             | Operation::LeftMargin
             | Operation::Move(Axis::Horizontal, Unit::Column) => self.note_column(environment),
@@ -413,9 +420,11 @@ impl Doubts {
         }
     }
 
-    /// Looks at the end of a macro that was executed, which may end a raster that has begun.
+    /// Looks at the end of a macro: it may end a raster that has begun, and a call's return may leave the column width to a font that was
+    /// sent anew.
     pub fn note_run_end(&mut self) {
         self.has_macro_ended = true;
+        self.is_width_open |= self.is_font_anew;
     }
 
     /// Looks at a raster that starts in the cursor's row at a dot, which is in the cursor's column or not.

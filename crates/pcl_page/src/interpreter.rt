@@ -149,9 +149,9 @@ impl<'a> Interpreter<'a> {
         ensures situation { (s : Situation) → IsAt dpi s self.old → IsAt dpi (macro_ended dpi saved s) self.new }
         ensures rest { (self.new.running ≡ self.old.running) × (self.new.performer.performed ≡ self.old.performer.performed) }
     {
-        match saved {
-            Some(saved) => self.performer.end_call(saved, dpi),
-            None => self.performer.end_execution(),
+        self.performer.note_run_end();
+        if let Some(saved) = saved {
+            self.performer.end_call(saved, dpi);
         }
     }
 

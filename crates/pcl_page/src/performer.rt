@@ -157,8 +157,8 @@ impl<'a> Performer<'a> {
         self.note_moved(asked);
     }
 
-    /// Does what the end of a macro that was executed does: nothing, but printers may end a raster there.
-    pub fn end_execution(&mut self)
+    /// Looks at the end of a macro that ran: printers may do more there.
+    pub fn note_run_end(&mut self)
         ensures situation { (dpi : Dpi) (s : Situation) → IsIn dpi s self.old → IsIn dpi s self.new }
         ensures counts { self.new.performed ≡ self.old.performed }
     {
