@@ -32,7 +32,7 @@ NOBODY = 65534
 STEP, ENOUGH = 16, 50
 PLENTY = 4_000_000
 OUT_OF_MEMORY = "pclmin: out of memory"
-OTHER_OWNER = b"pclmin: cannot write: the file is another user's, and would become this one's\n"
+OTHER_OWNER = "pclmin: cannot write {}: the file is another user's, and would become this one's\n"
 # As many bytes a job may have.
 LENGTH_LIMIT = 2_147_483_647
 # A blank Letter page as `min` writes it, its image at 600 dots per inch, and the bytes of its certificate: four for the length of its
@@ -184,7 +184,7 @@ def check_owners(program):
     with tempfile.TemporaryDirectory() as folder:
         fill(folder, program)
         path = os.path.join(folder, "theirs.pcl")
-        for owner, mode, rights, status, said in ((NOBODY, 0o4755, None, 0, b""), (0, 0o666, without_rights, 3, OTHER_OWNER)):
+        for owner, mode, rights, status, said in ((NOBODY, 0o4755, None, 0, b""), (0, 0o666, without_rights, 3, OTHER_OWNER.format(path).encode())):
             with open(path, "wb") as file:
                 file.write(DOT)
             os.chown(path, owner, owner)
@@ -300,9 +300,28 @@ def check_terminal(program):
             with open(name, "wb") as out:
                 out.write(long)
         said, _ = run_on_terminal(program, ["batch", "--min", "-o", os.path.join(folder, "small"), *names], b"")
-    if said != "\rpclmin: jobs done: 1 of 2\rpclmin: jobs done: 2 of 2\r\x1b[K":
-        wrong.append(f"a batch says {said!r}")
-    return wrong, 4
+        quiet, _ = run_on_terminal(program, ["batch", "-q", "--min", "-o", os.path.join(folder, "quiet"), *names], b"")
+    if said != "\rpclmin: jobs done: 1 of 2\rpclmin: jobs done: 2 of 2\r\x1b[K" or quiet:
+        wrong.append(f"a batch says {said!r}, and a quiet one {quiet!r}")
+    return wrong, 5
+
+
+def check_hints(program):
+    """A terminal gets a second line where a job is refused, which says what helps."""
+    wrong = []
+    instead = "pclmin explain says what to set instead"
+    raster = b"\x1b*t600R\x1b*r1A"
+    cases = [(["min"], b"\x1b", "Truncated at 0 -", instead), (["min"], raster, "UnsupportedValue at 0 *tR", "try --dpi auto"),
+             (["pages", "--dpi=auto"], b"\x1b*t5R", "UnsupportedValue at 0 *tR", instead),
+             (["shrink"], b"%PDF-1.4", "NoFont at 0 -", "the job is PDF, not PCL 5: choose a PCL 5 driver, or send it through "
+              "ghostscript with -sDEVICE=ljet2p"),
+             (["min"], b"\x1f\x8b\x08", "NoFont at 0 -", "the job is packed by gzip: unpack it first")]
+    for words, job, refusal, hint in cases:
+        said, _ = run_on_terminal(program, words, job)
+        wanted = f"pclmin: refused: {refusal}\r\npclmin: {hint}\r\n"
+        if said != wanted:
+            wrong.append(f"{' '.join(words)} of {job!r}: {said!r}, and not {wanted!r}")
+    return wrong, len(cases)
 
 
 def on_terminals(program, words, typed):
@@ -320,10 +339,12 @@ def check_spared_terminal(program):
     """No job and no image is written to a terminal, and one that is read from gets a hint."""
     end, wrong = b"\x04", []
     spared = "pclmin: nothing is written to a terminal: send standard output to a file, or give -o FILE\n"
+    names = "pclmin: names of jobs are read from this terminal, one a line: end them with control D, or give files\n"
     hint = "pclmin: the job is read from this terminal: end it with control D, or give a file\n"
     wanted = [(["min"], spared, 2), (["shrink"], spared, 2), (["pbm"], spared, 2), (["pgm", "--scale", "2"], spared, 2),
               (["pages"], hint + "pclmin: no page\n", 0), (["explain"], hint + "pclmin: no page\n", 0),
-              (["min", "-q", "-o", "/dev/null"], hint, 0), (["--version"], "", 0)]
+              (["min", "-q", "-o", "/dev/null"], hint, 0), (["--version"], "", 0),
+              (["batch", "-o", os.path.join(tempfile.gettempdir(), "no-jobs")], names, 0)]
     for words, said, status in wanted:
         came = on_terminals(program, words, end)
         if came != (said, status):
@@ -341,7 +362,7 @@ def main():
         os.chmod(copy, 0o755)
         wrong, count = [], 0
         for check in (check_table, check_texts, check_owners, check_lengths, check_sizes, check_memory, check_terminal,
-                      check_spared_terminal):
+                      check_hints, check_spared_terminal):
             faults, cases_of_it = check(copy)
             wrong += faults
             count += cases_of_it

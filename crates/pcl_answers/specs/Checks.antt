@@ -68,9 +68,9 @@ IsCheckRefused acts files asked refusal =
 -- the line of an answer is written; nothing where a fault came before, and a prefix of the line where its write failed
 abbrev pub IsCheckRun : {F : Type 0} → (F → FileAct → F → Type 0) → F → CheckedFiles → (old new : Option (List ℕ))
     → Result CheckAnswer Fault → Type 0
-IsCheckRun acts files asked old new (Ok given) = IsAnswer acts files asked given × Appends old new (answer_line_of given)
+IsCheckRun acts files asked old new (Ok given) = IsAnswer acts files asked given × Appends old new (answer_line_of asked.layout given)
 IsCheckRun acts files asked old new (Err WriteFault) =
-    (given : CheckAnswer) × IsAnswer acts files asked given × AppendsFront old new (answer_line_of given)
+    (given : CheckAnswer) × IsAnswer acts files asked given × AppendsFront old new (answer_line_of asked.layout given)
 IsCheckRun acts files asked old new (Err (Refused refusal)) = IsCheckRefused acts files asked refusal × Keeps old new
 IsCheckRun acts files asked old new (Err ReadFault) = IsFileUnread acts files asked ReadFault × Keeps old new
 IsCheckRun acts files asked old new (Err TooLong) = IsFileUnread acts files asked TooLong × Keeps old new

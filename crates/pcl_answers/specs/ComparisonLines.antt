@@ -1,10 +1,12 @@
 -- What the program says of two compared jobs.
-use Rattle.std.specs.Prelude.{ℕ, ℤ, List, ◌++◌, Option, None, Some, codes, decimal}
+use Rattle.std.specs.Prelude.{ℕ, ℤ, Bool, true, false, List, ◌++◌, Option, None, Some, codes, decimal}
 use Rattle.std.specs.Fmt.{signed_decimal}
 use Rattle.pcl_base.specs.Refusal.{refusal_text}
 use Rattle.pcl_base.specs.declared.size.Size.{Size}
 use Rattle.pcl_base.specs.declared.size.Size.TheVariants.{Executive, Letter, Legal, A4}
 use Rattle.pcl_env.specs.Offset.{offset_text}
+use Rattle.pcl_request.specs.declared.request.Layout.{Layout}
+use Rattle.pcl_answers.specs.Layouts.{laid_out}
 use Rattle.pcl_same.specs.declared.comparison.AskedComparison.{AskedComparison}
 use Rattle.pcl_same.specs.declared.comparison.AskedComparison.TheVariants.{Same, Pages, Asks}
 use Rattle.pcl_same.specs.declared.comparison.PagesDifference.{PagesDifference}
@@ -104,6 +106,14 @@ comparison_text (Asks difference) = asks_text difference
 
 abbrev pub comparison_line_of : AskedComparison → List ℕ
 comparison_line_of comparison = comparison_text comparison ++ codes "\n"
+
+abbrev pub are_same : AskedComparison → Bool
+are_same Same = true
+are_same other = false
+
+-- the same in a layout
+abbrev pub comparison_in : Layout → AskedComparison → List ℕ
+comparison_in layout comparison = laid_out layout (codes "same") (are_same comparison) (comparison_text comparison)
 
 -- 0 where the jobs are the same, else 1
 abbrev pub comparison_status_for : AskedComparison → ℕ

@@ -4,3 +4,4 @@ pub mod ComparisonLines
 pub mod DifferenceImages
 pub mod Comparisons
 pub mod Endings
+pub mod Layouts

@@ -6,6 +6,8 @@ use Rattle.pcl_cert.specs.declared.check.Verdict.{Verdict}
 use Rattle.pcl_cert.specs.declared.check.Verdict.TheVariants.{NotGrammar, OtherPage, Rows, Place, Edge, Length, Proved}
 use Rattle.pcl_cert.specs.declared.fault.CertFault.{CertFault}
 use Rattle.pcl_cert.specs.declared.fault.CertFault.TheVariants as faults
+use Rattle.pcl_request.specs.declared.request.Layout.{Layout}
+use Rattle.pcl_answers.specs.Layouts.{laid_out}
 use Rattle.pcl_tool.specs.declared.job_verdict.JobVerdict.{JobVerdict}
 use Rattle.pcl_tool.specs.declared.job_verdict.JobVerdict.TheVariants as job
 use Rattle.pcl_tool.specs.declared.job_verdict.CheckAnswer.{CheckAnswer}
@@ -52,6 +54,13 @@ job_text job.Proved = codes "proved"
 abbrev pub verdict_line_of : JobVerdict → List ℕ
 verdict_line_of verdict = job_text verdict ++ codes "\n"
 
-abbrev pub answer_line_of : CheckAnswer → List ℕ
-answer_line_of answer.OtherImages = codes "not proved: images\n"
-answer_line_of (answer.Job verdict) = verdict_line_of verdict
+abbrev pub answer_text : CheckAnswer → List ℕ
+answer_text answer.OtherImages = codes "not proved: images"
+answer_text (answer.Job verdict) = job_text verdict
+
+abbrev pub is_proved : CheckAnswer → Bool
+is_proved (answer.Job job.Proved) = true
+is_proved other = false
+
+abbrev pub answer_line_of : Layout → CheckAnswer → List ℕ
+answer_line_of layout given = laid_out layout (codes "proved") (is_proved given) (answer_text given)

@@ -41,7 +41,7 @@ pub fn check<F: JobFiles, W: Write, P: Watcher>(
         dpi,
         watcher,
     )?;
-    let line = answer_line(alloc, &answer)?;
+    let line = answer_line(alloc, asked.layout, &answer)?;
     write_all(out, &line)?;
     Ok(answer)
 }

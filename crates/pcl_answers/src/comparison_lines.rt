@@ -1,16 +1,18 @@
 //! What the program says of two compared jobs.
 
 ghost use Rattle.std.specs.Prelude.{◌≡◌, ◌++◌, IfOk, OnOk};
-ghost use Rattle.pcl_answers.specs.ComparisonLines.{size_text, pair_text, difference_text, pages_text, comparison_text, comparison_line_of};
+ghost use Rattle.pcl_answers.specs.ComparisonLines.{size_text, pair_text, difference_text, pages_text, comparison_text, comparison_line_of, comparison_in, are_same};
 ghost use Rattle.pcl_answers.specs.ComparisonLines.{setting_label, setting_text, asked_text, number_text, value_text, exit_text, asks_text};
 ghost use Rattle.pcl_answers.specs.ComparisonLines.{comparison_status_for, refused_job_text, compare_line_of, compare_status_for};
 
 use crate::comparisons::CompareFault;
+use crate::layouts::laid_out;
 use crate::verdicts::append_page;
 use itoa::Buffer;
 use pcl_base::Size;
 use pcl_env::append_offset;
 use pcl_files::{fault_line, status_of};
+use pcl_request::Layout;
 use pcl_same::{
     AskedComparison, AskedDifference, AsksDifference, Difference, ExitDifference, Job,
     PagesDifference, Setting, SettingDifference,
@@ -25,6 +27,26 @@ pub fn comparison_line(alloc: Global, comparison: &AskedComparison) -> Result<Ve
     append_comparison(*comparison, &mut line)?;
     line.extend_from_slice(b"\n")?;
     Ok(line)
+}
+
+/// What is said of how two jobs compare, in a layout.
+pub fn comparison_in(
+    alloc: Global,
+    layout: Layout,
+    comparison: &AskedComparison,
+) -> Result<Vec<u8>, AllocError>
+    ensures { IfOk result (λ said. said.items ≡ comparison_in layout comparison.now) }
+{
+    let mut text = Vec::new(alloc);
+    append_comparison(*comparison, &mut text)?;
+    laid_out(alloc, layout, b"same", are_same(comparison), &text)
+}
+
+/// Whether two jobs compare as the same.
+fn are_same(comparison: &AskedComparison) -> bool
+    ensures { result ≡ are_same comparison.now }
+{
+    matches!(comparison, AskedComparison::Same)
 }
 
 /// Appends how two jobs compare.

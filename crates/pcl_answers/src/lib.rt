@@ -6,10 +6,11 @@ mod comparison_lines;
 mod comparisons;
 mod difference_images;
 mod endings;
+mod layouts;
 mod verdicts;
 
 pub use checks::check;
-pub use comparison_lines::{compare_fault_line, comparison_line};
+pub use comparison_lines::{compare_fault_line, comparison_in, comparison_line};
 pub use comparisons::{CompareFault, compare, compare_jobs};
 pub use endings::{Ending, not_compared};
 pub use verdicts::{answer_line, answer_status, verdict_line, verdict_status};

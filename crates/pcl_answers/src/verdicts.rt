@@ -2,22 +2,44 @@
 
 ghost use Rattle.std.specs.Prelude.{◌≡◌, ◌++◌, IfOk, OnOk};
 ghost use Rattle.pcl_answers.specs.Checks.{answer_status_for, verdict_status_for};
-ghost use Rattle.pcl_answers.specs.Verdicts.{fault_text, numbers_text, verdict_text, page_text, job_text, verdict_line_of, answer_line_of};
+ghost use Rattle.pcl_answers.specs.Verdicts.{fault_text, numbers_text, verdict_text, page_text, job_text, verdict_line_of, answer_text, answer_line_of, is_proved};
 
+use crate::layouts::laid_out;
 use itoa::Buffer;
 use pcl_base::Method;
 use pcl_cert::{CertFault, Verdict};
+use pcl_request::Layout;
 use pcl_tool::{CheckAnswer, JobVerdict};
 use std::alloc::{AllocError, Global};
 
-/// The line for what a check answers, with its line feed.
-pub fn answer_line(alloc: Global, answer: &CheckAnswer) -> Result<Vec<u8>, AllocError>
-    ensures { IfOk result (λ line. line.items ≡ answer_line_of answer.now) }
+/// What is said of what a check answers, in a layout.
+pub fn answer_line(
+    alloc: Global,
+    layout: Layout,
+    answer: &CheckAnswer,
+) -> Result<Vec<u8>, AllocError>
+    ensures { IfOk result (λ line. line.items ≡ answer_line_of layout answer.now) }
+{
+    let mut text = Vec::new(alloc);
+    append_answer(*answer, &mut text)?;
+    laid_out(alloc, layout, b"proved", is_proved(answer), &text)
+}
+
+/// Appends what a check answers.
+fn append_answer(answer: CheckAnswer, line: &mut Vec<u8>) -> Result<(), AllocError>
+    ensures { OnOk result (line.new.items ≡ line.old.items ++ answer_text answer) }
 {
     match answer {
-        CheckAnswer::OtherImages => Vec::from_slice(alloc, b"not proved: images\n"),
-        CheckAnswer::Job(verdict) => verdict_line(alloc, verdict),
+        CheckAnswer::OtherImages => line.extend_from_slice(b"not proved: images"),
+        CheckAnswer::Job(verdict) => append_job(verdict, line),
     }
+}
+
+/// Whether a check answers that the job is proved.
+fn is_proved(answer: &CheckAnswer) -> bool
+    ensures { result ≡ is_proved answer.now }
+{
+    matches!(answer, CheckAnswer::Job(JobVerdict::Proved))
 }
 
 /// The line for what the checker of a job answers, with its line feed.

@@ -41,6 +41,10 @@ enum Argument {
     Scale,
     /// JSON where lines of columns could be asked for.
     Json,
+    /// What `shrink` tells of its bytes.
+    Report,
+    /// That this is told as JSON.
+    ReportJson,
     Quiet,
     /// The resolution.
     Dpi,
@@ -113,7 +117,12 @@ const SUBCOMMANDS: [Subcommand; 9] = [
                 "Where the first difference is a dot, write a PBM image (P4) of all dots of its page that differ to \
                  this file; else it isn't made",
             ),
+            Argument::Flag(
+                "json",
+                "Write an object of JSON: whether they are the same, and the line",
+            ),
             Argument::Flag(STATED, READ_BOTH_AS_STATED),
+            Argument::Quiet,
             Argument::Dpi,
         ],
     },
@@ -124,7 +133,9 @@ const SUBCOMMANDS: [Subcommand; 9] = [
         takes: &[
             Argument::Job,
             Argument::Output,
+            Argument::Flag("json", "Write one object of JSON"),
             Argument::Flag(STATED, READ_AS_STATED),
+            Argument::Quiet,
             Argument::Dpi,
         ],
     },
@@ -141,6 +152,7 @@ const SUBCOMMANDS: [Subcommand; 9] = [
                 "Write lines of columns that tabs part, which is what comes where nothing is asked for",
             ),
             Argument::Flag(STATED, READ_AS_STATED),
+            Argument::Quiet,
             Argument::Dpi,
         ],
     },
@@ -150,12 +162,11 @@ const SUBCOMMANDS: [Subcommand; 9] = [
         takes: &[
             Argument::Job,
             Argument::Output,
-            Argument::Flag(
-                "report",
-                "Tell on standard error the bytes of both jobs, the pages, and how they are written",
-            ),
+            Argument::Report,
+            Argument::ReportJson,
             Argument::Flag(PROFILE_ONLY, READ_OTHERWISE),
             Argument::Flag(STATED, READ_AS_STATED),
+            Argument::Quiet,
             Argument::Dpi,
         ],
     },
@@ -177,6 +188,7 @@ const SUBCOMMANDS: [Subcommand; 9] = [
             Argument::ProfileOnly,
             Argument::Stated,
             Argument::Flag("json", "Report in JSON, an object on each line"),
+            Argument::Quiet,
             Argument::Dpi,
             Argument::Jobs,
         ],
@@ -195,6 +207,10 @@ const SUBCOMMANDS: [Subcommand; 9] = [
                 "page",
                 "IN has PBM images (P4) of the pages, one after the other, as pbm writes them",
             ),
+            Argument::Flag(
+                "json",
+                "Write an object of JSON: whether it is proved, and the line",
+            ),
             Argument::Quiet,
             Argument::Dpi,
         ],
@@ -207,6 +223,7 @@ const SUBCOMMANDS: [Subcommand; 9] = [
             Argument::Output,
             Argument::Pages,
             Argument::Flag(DRIVERS, READ_AS_SENT),
+            Argument::Quiet,
             Argument::Dpi,
         ],
     },
@@ -219,6 +236,7 @@ const SUBCOMMANDS: [Subcommand; 9] = [
             Argument::Scale,
             Argument::Pages,
             Argument::Flag(DRIVERS, READ_AS_SENT),
+            Argument::Quiet,
             Argument::Dpi,
         ],
     },
@@ -292,6 +310,8 @@ fn arg<'a>(alloc: Global, argument: Argument) -> Result<Arg<'a>, AllocError> {
         Argument::Pages => Ok(pages(alloc)),
         Argument::Scale => Ok(scale(alloc)),
         Argument::Json => json(alloc),
+        Argument::Report => report(alloc),
+        Argument::ReportJson => report_json(alloc),
         Argument::Quiet => Ok(quiet(alloc)),
         Argument::Dpi => Ok(dpi(alloc)),
     }
@@ -419,12 +439,27 @@ fn json<'a>(alloc: Global) -> Result<Arg<'a>, AllocError> {
     flag(alloc, "json", "Write one object of JSON").conflicts_with("tsv")
 }
 
-/// Silence, where a run would tell how far it has come.
+/// What `shrink` tells of its bytes.
+fn report<'a>(alloc: Global) -> Result<Arg<'a>, AllocError> {
+    flag(
+        alloc,
+        "report",
+        "Tell on standard error the bytes of both jobs, the pages, and how they are written",
+    )
+    .conflicts_with("quiet")
+}
+
+/// That this is told as JSON.
+fn report_json<'a>(alloc: Global) -> Result<Arg<'a>, AllocError> {
+    flag(alloc, "json", "Tell it as an object of JSON").requires_arg("report")
+}
+
+/// Silence, where a run would tell how far it has come, and what there is to say besides.
 fn quiet<'a>(alloc: Global) -> Arg<'a> {
     flag(
         alloc,
         "quiet",
-        "Don't tell on a terminal how many pages are done",
+        "Say nothing on standard error but why a run fails",
     )
     .short('q')
 }

@@ -8,8 +8,8 @@ use pcl_cert::Format;
 use pcl_explain::kind_named;
 use pcl_page::Readers;
 use pcl_request::{
-    Batch, Beside, Certificate, CheckedFiles, ComparedFiles, Destination, Layout, ReportForm,
-    Request, Resolution, Rewriting, Run, Source, Target, Task, Work, resolution_named,
+    Batch, Beside, Certificate, CheckedFiles, ComparedFiles, Destination, Layout, Request,
+    Resolution, Rewriting, Run, Source, Target, Task, Work, resolution_named,
 };
 use pcl_streams::{ImageForm, PageChoice, Scale};
 use std::alloc::{AllocError, Global};
@@ -82,11 +82,8 @@ fn batch_with<'w>(batch: &ArgMatches<'w>) -> Result<Batch<'w>, WrongWord<'w>> {
         place: place_of(batch)?,
         rewriting: rewriting_of(batch, resolution),
         resolution,
-        form: if batch.get_flag("json") {
-            ReportForm::Json
-        } else {
-            ReportForm::Table
-        },
+        layout: layout_of(batch),
+        quiet: batch.get_flag("quiet"),
     })
 }
 
@@ -98,6 +95,15 @@ fn rewriting_of(batch: &ArgMatches<'_>, resolution: Resolution) -> Rewriting {
         _ if batch.get_flag("min") => Rewriting::Certify,
         Resolution::FirstAccepted => Rewriting::ShrinkEverywhere { profile, readers },
         Resolution::Given(_) => Rewriting::Shrink { profile, readers },
+    }
+}
+
+/// How what is said is laid out.
+fn layout_of(command: &ArgMatches<'_>) -> Layout {
+    if command.get_flag("json") {
+        Layout::Json
+    } else {
+        Layout::Text
     }
 }
 
@@ -166,7 +172,7 @@ fn run_of<'w>(name: &str, command: &ArgMatches<'w>) -> Result<Run<'w>, WrongWord
         "explain" => Work::Task(explain_task(command)),
         "pages" => Work::Task(pages_task(command)),
         "shrink" => Work::Task(Task::Shrink {
-            report: command.get_flag("report"),
+            report: command.get_flag("report").then_some(layout_of(command)),
             profile: profile_of(command),
             readers: readers_of(command),
         }),
@@ -185,7 +191,7 @@ fn run_of<'w>(name: &str, command: &ArgMatches<'w>) -> Result<Run<'w>, WrongWord
         source: source_of(work, command),
         target: target_of(command),
         resolution: seen_at(work, resolution),
-        quiet: name == "min" && command.get_flag("quiet"),
+        quiet: command.get_flag("quiet"),
     })
 }
 
@@ -249,6 +255,7 @@ fn checked_files<'w>(check: &ArgMatches<'w>) -> Result<CheckedFiles<'w>, WrongWo
         input: file_of(check, "IN")?,
         output: file_of(check, "OUT")?,
         certificate: file_of(check, "CERT")?,
+        layout: layout_of(check),
         resolution: resolution_of(check)?,
         quiet: check.get_flag("quiet"),
     })
@@ -262,6 +269,7 @@ fn compared_files<'w>(same: &ArgMatches<'w>) -> Result<ComparedFiles<'w>, WrongW
         asks: same.get_flag("asked"),
         image: same.get_str("image"),
         profile: profile_of(same),
+        layout: layout_of(same),
         resolution: resolution_of(same)?,
     })
 }
@@ -285,26 +293,19 @@ fn min_work<'w>(min: &ArgMatches<'w>) -> Work<'w> {
 
 /// What the words after `pages` ask for.
 fn pages_task(pages: &ArgMatches<'_>) -> Task {
-    let layout = if pages.get_flag("json") {
-        Layout::Json
-    } else {
-        Layout::Table
-    };
     Task::DescribePages {
-        layout,
+        layout: layout_of(pages),
         profile: profile_of(pages),
     }
 }
 
 /// What the words after `explain` ask for: a kind of refusal, where its name stands in place of a file.
 fn explain_task(explain: &ArgMatches<'_>) -> Task {
+    let layout = layout_of(explain);
     let profile = profile_of(explain);
-    let Some(word) = explain.get_str("JOB") else {
-        return Task::Explain { profile };
-    };
-    match kind_named(word) {
-        Some(kind) => Task::ExplainKind { kind },
-        None => Task::Explain { profile },
+    match explain.get_str("JOB").and_then(|word| kind_named(word)) {
+        Some(kind) => Task::ExplainKind { layout, kind },
+        None => Task::Explain { layout, profile },
     }
 }
 

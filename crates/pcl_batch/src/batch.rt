@@ -86,15 +86,15 @@ fn write_jobs<F: JobFiles, W: Write, R: Rewriter, P: Reporter>(
 {
     let mut names = IndexSet::new(alloc);
     let mut tally = Tally::NOTHING;
-    write_all(out, header(batch.form).as_bytes())?;
+    write_all(out, header(batch.layout).as_bytes())?;
     for path in paths {
         let entry = entry_of(files, alloc, batch, path, &mut names, rewriter)?;
-        write_all(out, &entry.line(alloc, batch.form)?)?;
+        write_all(out, &entry.line(alloc, batch.layout)?)?;
         tally = tally.with(&entry);
         reporter.jobs_done(tally.totals.jobs, paths.len());
     }
     reporter.ended();
-    write_all(out, &tally.totals.line(alloc, batch.form)?)?;
+    write_all(out, &tally.totals.line(alloc, batch.layout)?)?;
     Ok(tally)
 }
 

@@ -6,6 +6,5 @@ pub use Rattle.pcl_tool.proofs.Names.{IsPagesPreview, IsRead, IsWritten, fault_o
 pub use Rattle.pcl_streams.specs.declared.{fault.Fault.Fault, fault.Fault.TheVariants.Memory, fault.Fault.TheVariants.ReadFault, fault.Fault.TheVariants.Refused, fault.Fault.TheVariants.TooLong, fault.Fault.TheVariants.WriteFault, form.ImageForm.ImageForm, page_images.PageChoice.PageChoice}
 pub use Rattle.pcl_shrink.proofs.Names.{IsRefusedEverywhere, IsShrunk, IsShrunkEverywhere, IsWrittenEverywhere, IsWrittenFor, Readers}
 pub use Rattle.pcl_shrink.specs.declared.{candidate.Shrunk.Shrunk}
-pub use Rattle.pcl_explain.specs.{Findings.Explains}
 pub use Rattle.pcl_pages.specs.{Describing.IsDescribed}
-pub use Rattle.pcl_command.specs.{Runs.IsPreviewRun, Runs.IsTextRun, Runs.NeverRefuses, Runs.TellsOfPages}
+pub use Rattle.pcl_command.specs.{Runs.ExplainsIn, Runs.IsPreviewRun, Runs.IsTextRun, Runs.NeverRefuses, Runs.TellsOfPages}

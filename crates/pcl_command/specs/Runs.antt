@@ -14,7 +14,7 @@ use Rattle.pcl_streams.specs.declared.page_images.PageChoice.{PageChoice}
 use Rattle.pcl_streams.specs.PageImages.{IsPagesPreview}
 use Rattle.pcl_streams.specs.Transfer.{AppendsFront, IsWritten}
 use Rattle.pcl_tool.specs.Minimizing.{IsFiltered, IsRead}
-use Rattle.pcl_explain.specs.Findings.{Explains, ExplainsKind}
+use Rattle.pcl_explain.specs.Findings.{Explains, ExplainsAsObject, ExplainsKind, ExplainsKindAsObject}
 use Rattle.pcl_shrink.specs.Shrinking.{IsWrittenFor, IsWrittenEverywhere, IsRefusedEverywhere}
 use Rattle.pcl_files.specs.Failures.{HasFailed, HasFailedFile, IsOutcome}
 use Rattle.pcl_files.specs.Files.{FileAct, Opened, Unopened, Begun, Unbegun}
@@ -29,6 +29,8 @@ use Rattle.pcl_answers.specs.declared.comparisons.CompareFault.{CompareFault}
 use Rattle.pcl_answers.specs.declared.endings.Ending.{Ending}
 use Rattle.pcl_answers.specs.declared.endings.Ending.TheVariants.{Done, Checked, Compared, Failed}
 use Rattle.pcl_request.specs.Requests.{task_page, task_profile}
+use Rattle.pcl_request.specs.declared.request.Layout.{Layout}
+use Rattle.pcl_request.specs.declared.request.Layout.TheVariants.{Text, Json}
 use Rattle.pcl_request.specs.declared.request.Task.{Task}
 use Rattle.pcl_request.specs.declared.request.Task.TheVariants.{Minimize, Preview, Explain, ExplainKind, DescribePages, Shrink}
 use Rattle.pcl_request.specs.declared.request.Work.{Work}
@@ -77,17 +79,27 @@ NeverRefuses job refusal = ⊥
 abbrev pub TellsOfPages : Profile → Dpi → List ℕ → List ℕ → Type 0
 TellsOfPages profile dpi job text = IsAccepted profile dpi job
 
+-- what is said of a job, and of a kind of refusal, in a layout
+abbrev pub ExplainsIn : Layout → Profile → Dpi → List ℕ → List ℕ → Type 0
+ExplainsIn Text profile dpi job text = Explains profile dpi job text
+ExplainsIn Json profile dpi job text = ExplainsAsObject profile dpi job text
+
+abbrev pub ExplainsKindIn : Layout → Kind → List ℕ → Type 0
+ExplainsKindIn Text kind text = ExplainsKind kind text
+ExplainsKindIn Json kind text = ExplainsKindAsObject kind text
+
 -- a writer holds what is to be said of a kind of refusal, or a prefix of it where its write failed
-abbrev pub IsKindExplained : Kind → (old new : Option (List ℕ)) → Result (Unit {0}) Fault → Type 0
-IsKindExplained kind old new (Err Memory) = Keeps old new
-IsKindExplained kind old new done = (text : List ℕ) × ExplainsKind kind text × IsWritten old new text done
+abbrev pub IsKindExplained : Layout → Kind → (old new : Option (List ℕ)) → Result (Unit {0}) Fault → Type 0
+IsKindExplained layout kind old new (Err Memory) = Keeps old new
+IsKindExplained layout kind old new done = (text : List ℕ) × ExplainsKindIn layout kind text × IsWritten old new text done
 
 -- what was asked for is done, or failed so
 abbrev pub HasDoneTask : Task → Dpi → (given left old new : Option (List ℕ)) → Result (Unit {0}) Fault → Type 0
 HasDoneTask Minimize dpi given left old new done = IsFiltered dpi given left old new done
 HasDoneTask (Preview choice form profile) dpi given left old new done = IsPreviewRun form profile dpi choice given left old new done
-HasDoneTask (Explain profile) dpi given left old new done = IsTextRun (Explains profile dpi) NeverRefuses given left old new done
-HasDoneTask (ExplainKind kind) dpi given left old new done = (left ≡ given) × IsKindExplained kind old new done
+HasDoneTask (Explain layout profile) dpi given left old new done =
+    IsTextRun (ExplainsIn layout profile dpi) NeverRefuses given left old new done
+HasDoneTask (ExplainKind layout kind) dpi given left old new done = (left ≡ given) × IsKindExplained layout kind old new done
 HasDoneTask (DescribePages layout profile) dpi given left old new done =
     IsTextRun (TellsOfPages profile dpi) (IsRefusalBy profile dpi) given left old new done
 HasDoneTask (Shrink report profile readers) dpi given left old new done =

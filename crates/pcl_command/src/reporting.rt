@@ -4,6 +4,7 @@ use itoa::Buffer;
 use pcl_base::{Dpi, JobFault, Profile};
 use pcl_files::Reporter;
 use pcl_page::page_count;
+use pcl_request::Layout;
 use pcl_shrink::{Candidate, Doubt, Shrunk};
 use std::alloc::{AllocError, Global};
 
@@ -24,20 +25,22 @@ pub fn report_no_page<P: Reporter>(
     Ok(())
 }
 
-/// Reports that a job has no page, if that is so, and where it is asked for, the bytes of the job and of the one that it was
-/// shrunk to, its pages, and how they are written.
+/// Reports that a job has no page, if that is so, and where it is asked for, in a layout, the bytes of the job and of the one that it
+/// was shrunk to, its pages, and how they are written.
 pub fn report_shrunk<P: Reporter>(
     alloc: Global,
     len: usize,
     shrunk: &Shrunk,
-    is_asked_for: bool,
+    asked_for: Option<Layout>,
     reporter: P,
 ) -> Result<(), AllocError> {
-    if shrunk.pages == 0 {
+    if shrunk.pages == 0 && asked_for != Some(Layout::Json) {
         reporter.report(NO_PAGE);
     }
-    if is_asked_for {
-        reporter.report(&shrunk_line(alloc, len, shrunk)?);
+    match asked_for {
+        Some(Layout::Text) => reporter.report(&shrunk_line(alloc, len, shrunk)?),
+        Some(Layout::Json) => reporter.report(&shrunk_object(alloc, len, shrunk)?),
+        None => {}
     }
     Ok(())
 }
@@ -54,6 +57,24 @@ fn shrunk_line(alloc: Global, len: usize, shrunk: &Shrunk) -> Result<Vec<u8>, Al
         line.extend_from_slice(doubt_name(doubt))?;
     }
     line.extend_from_slice(b"\n")?;
+    Ok(line)
+}
+
+/// The same as an object of JSON.
+fn shrunk_object(alloc: Global, len: usize, shrunk: &Shrunk) -> Result<Vec<u8>, AllocError> {
+    let mut line = Vec::from_slice(alloc, b"{\"bytes_in\":")?;
+    append_number(len, b",\"bytes_out\":", &mut line)?;
+    append_number(shrunk.job.len(), b",\"pages\":", &mut line)?;
+    append_number(shrunk.pages, b",\"written\":\"", &mut line)?;
+    line.extend_from_slice(candidate_name(shrunk.by))?;
+    match shrunk.doubt {
+        None => line.extend_from_slice(b"\",\"doubt\":null}\n")?,
+        Some(doubt) => {
+            line.extend_from_slice(b"\",\"doubt\":\"")?;
+            line.extend_from_slice(doubt_name(doubt))?;
+            line.extend_from_slice(b"\"}\n")?;
+        }
+    }
     Ok(line)
 }
 

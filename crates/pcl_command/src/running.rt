@@ -1,10 +1,9 @@
 //! A run: what is asked for is done, over any reader and writer.
 
-ghost use Rattle.std.specs.Prelude.{◌≡◌, if◌then◌else◌, None, Some};
+ghost use Rattle.std.specs.Prelude.{◌≡◌, if◌then◌else◌, None, Some, IfOk};
 ghost use Rattle.pcl_page.specs.Delivering.{IsRefusalBy};
-ghost use Rattle.pcl_explain.specs.Findings.{Explains};
 ghost use Rattle.pcl_shrink.specs.Shrinking.{IsWrittenFor, IsWrittenEverywhere, IsRefusedEverywhere};
-ghost use Rattle.pcl_command.specs.Runs.{HasCarriedOut, HasDone, HasDoneAccepted, HasDoneFirst, HasDoneSeen, HasDoneTask, HasEnded, HasWritten, HasWrittenTo, IsKindExplained, IsPreviewRun, IsTextRun, NeverRefuses, TellsOfPages};
+ghost use Rattle.pcl_command.specs.Runs.{ExplainsIn, ExplainsKindIn, HasCarriedOut, HasDone, HasDoneAccepted, HasDoneFirst, HasDoneSeen, HasDoneTask, HasEnded, HasWritten, HasWrittenTo, IsKindExplained, IsPreviewRun, IsTextRun, NeverRefuses, TellsOfPages};
 ghost use Rattle.pcl_command.specs.World.{world};
 
 use crate::certifying::certify;
@@ -12,7 +11,7 @@ use crate::clashes::{clashes, refuse_clash};
 use crate::reporting::{report_no_page, report_shrunk};
 use pcl_answers::{Ending, check, compare, not_compared};
 use pcl_base::{Dpi, Kind, Profile};
-use pcl_explain::{explanation, kind_explanation};
+use pcl_explain::{explanation, explanation_object, kind_explanation, kind_object};
 use pcl_files::{Failure, JobFiles, Reporter, outcome, settle};
 use pcl_page::first_accepted;
 use pcl_pages::describe_pages;
@@ -20,7 +19,7 @@ use pcl_request::{Layout, Request, Resolution, Run, Source, Target, Task, Work};
 use pcl_shrink::{Readers, shrink, shrink_everywhere};
 use pcl_streams::{Fault, ImageForm, PageChoice, preview_pages, read_all, write_all};
 use pcl_tool::{INPUT_LIMIT, filter_watched};
-use std::alloc::Global;
+use std::alloc::{AllocError, Global};
 use std::io::{Read, Write};
 
 /// Does what is asked for, a run with the job that a reader gives. The watcher is called for each page that is done, unless the
@@ -244,8 +243,10 @@ fn do_task<R: Read, W: Write, P: Reporter>(
             form,
             profile,
         } => show(alloc, choice, form, profile, dpi, reader, out),
-        Task::Explain { profile } => explain(alloc, profile, dpi, reader, out, watcher),
-        Task::ExplainKind { kind } => explain_kind(alloc, kind, out),
+        Task::Explain { layout, profile } => {
+            explain(alloc, layout, profile, dpi, reader, out, watcher)
+        }
+        Task::ExplainKind { layout, kind } => explain_kind(alloc, layout, kind, out),
         Task::DescribePages { layout, profile } => {
             describe(alloc, layout, profile, dpi, reader, out, watcher)
         }
@@ -277,27 +278,59 @@ fn show<R: Read, W: Write>(
 /// Writes what the rules refuse in the job that a reader gives, and what can be done. A job without pages is reported.
 fn explain<R: Read, W: Write, P: Reporter>(
     alloc: Global,
+    layout: Layout,
     profile: Profile,
     dpi: Dpi,
     reader: &mut R,
     out: &mut W,
     reporter: P,
 ) -> Result<(), Fault>
-    ensures { IsTextRun (Explains profile dpi) NeverRefuses (R.remaining reader.old) (R.remaining reader.new)
+    ensures { IsTextRun (ExplainsIn layout profile dpi) NeverRefuses (R.remaining reader.old) (R.remaining reader.new)
         (W.contents out.old) (W.contents out.new) result }
 {
     let job = read_all(alloc, reader, INPUT_LIMIT)?;
-    let text = explanation(alloc, &job, profile, dpi)?;
+    let text = explained(alloc, layout, &job, profile, dpi)?;
     report_no_page(alloc, &job, profile, dpi, reporter)?;
     write_all(out, &text)
 }
 
-/// Writes what a kind of refusal means, and what can be done.
-fn explain_kind<W: Write>(alloc: Global, kind: Kind, out: &mut W) -> Result<(), Fault>
-    ensures { IsKindExplained kind (W.contents out.old) (W.contents out.new) result }
+/// What the rules refuse in a job, and what can be done, in a layout.
+fn explained(
+    alloc: Global,
+    layout: Layout,
+    job: &[u8],
+    profile: Profile,
+    dpi: Dpi,
+) -> Result<Vec<u8>, AllocError>
+    ensures { IfOk result (λ text. ExplainsIn layout profile dpi job.now text.items) }
 {
-    let text = kind_explanation(alloc, kind)?;
+    match layout {
+        Layout::Text => explanation(alloc, job, profile, dpi),
+        Layout::Json => explanation_object(alloc, job, profile, dpi),
+    }
+}
+
+/// Writes what a kind of refusal means, and what can be done.
+fn explain_kind<W: Write>(
+    alloc: Global,
+    layout: Layout,
+    kind: Kind,
+    out: &mut W,
+) -> Result<(), Fault>
+    ensures { IsKindExplained layout kind (W.contents out.old) (W.contents out.new) result }
+{
+    let text = explained_kind(alloc, layout, kind)?;
     write_all(out, &text)
+}
+
+/// What a kind of refusal means, and what can be done, in a layout.
+fn explained_kind(alloc: Global, layout: Layout, kind: Kind) -> Result<Vec<u8>, AllocError>
+    ensures { IfOk result (λ text. ExplainsKindIn layout kind text.items) }
+{
+    match layout {
+        Layout::Text => kind_explanation(alloc, kind),
+        Layout::Json => kind_object(alloc, kind),
+    }
 }
 
 /// Writes what the pages of the job are that a reader gives. A job without pages is reported.
@@ -324,7 +357,7 @@ fn describe<R: Read, W: Write, P: Reporter>(
 /// shrinking it did if that is asked for.
 fn write_smaller<R: Read, W: Write, P: Reporter>(
     alloc: Global,
-    report: bool,
+    report: Option<Layout>,
     widest: Profile,
     readers: Readers,
     dpi: Dpi,
@@ -344,7 +377,7 @@ fn write_smaller<R: Read, W: Write, P: Reporter>(
 /// The same at each resolution at which the job is accepted.
 fn write_smallest<R: Read, W: Write, P: Reporter>(
     alloc: Global,
-    report: bool,
+    report: Option<Layout>,
     widest: Profile,
     readers: Readers,
     reader: &mut R,

@@ -1,5 +1,6 @@
 -- What is found in a job.
-use Rattle.std.specs.Prelude.{◌≡◌, ℕ, List, length, take, codes, Option, Some, None}
+use Rattle.std.specs.Prelude.{◌≡◌, ◌++◌, ℕ, List, length, map, take, codes, Option, Some, None}
+use Rattle.std.specs.Char.{to_ascii_lowercase}
 use Rattle.pcl_base.specs.declared.dpi.Dpi.{Dpi}
 use Rattle.pcl_base.specs.declared.kind.Kind.{Kind}
 use Rattle.pcl_base.specs.declared.profile.Profile.{Profile}
@@ -36,3 +37,19 @@ Explains profile dpi job text = (findings : Option Findings) × AreFindings prof
 -- what is said of a kind of refusal starts with its name
 abbrev pub ExplainsKind : Kind → List ℕ → Type 0
 ExplainsKind kind text = StartsWith (kind_name kind) text
+
+-- the same as an object of JSON: first comes whether the job is accepted
+abbrev pub IsObjectOn : Option Findings → List ℕ → Type 0
+IsObjectOn None text = StartsWith (codes "{\"accepted\":true") text
+IsObjectOn (Some findings) text = StartsWith (codes "{\"accepted\":false") text
+
+abbrev pub ExplainsAsObject : Profile → Dpi → List ℕ → List ℕ → Type 0
+ExplainsAsObject profile dpi job text = (findings : Option Findings) × AreFindings profile dpi job findings × IsObjectOn findings text
+
+-- and of a kind its name
+abbrev pub ExplainsKindAsObject : Kind → List ℕ → Type 0
+ExplainsKindAsObject kind text = StartsWith (codes "{\"kind\":\"" ++ kind_name kind) text
+
+-- a name is that of a kind, in capitals or not
+abbrev pub IsKindName : List ℕ → Kind → Type 0
+IsKindName name kind = map to_ascii_lowercase (kind_name kind) ≡ map to_ascii_lowercase name

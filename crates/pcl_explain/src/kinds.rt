@@ -1,12 +1,18 @@
 //! What kinds of refusal mean.
 
-ghost use Rattle.std.specs.Prelude.{◌≡◌, ◌≢◌, IfOk, MatchOption};
-ghost use Rattle.pcl_base.specs.Kind.{kind_name};
-ghost use Rattle.pcl_explain.specs.Findings.{ExplainsKind};
+ghost use Rattle.std.specs.Prelude.{IfOk, MatchOption};
+ghost use Rattle.pcl_explain.specs.Findings.{ExplainsKind, IsKindName};
 
 use crate::advice::advice_on_kind;
 use pcl_base::Kind;
 use std::alloc::{AllocError, Global};
+use strsim::levenshtein;
+
+/// As many letters may be wrong, missing or too many in a name for which the nearest kind is looked for.
+const MOST_EDITS: usize = 4;
+
+/// A longer name is none of a kind's.
+const NAME_LENGTH: usize = 24;
 
 /// All kinds, in the order of their numbers.
 const KINDS: [Kind; 14] = [
@@ -26,16 +32,35 @@ const KINDS: [Kind; 14] = [
     Kind::NotPcl,
 ];
 
-/// The kind of a name, as messages print it.
+/// The kind of a name, as messages print it, in capitals or not.
 pub fn kind_named(name: &str) -> Option<Kind>
-    ensures { MatchOption result ((kind : Kind) → kind_name kind ≢ name.now) (λ kind. kind_name kind ≡ name.now) }
+    ensures { MatchOption result ((kind : Kind) → IsKindName name.now kind → ⊥) (IsKindName name.now) }
 {
     for kind in KINDS {
-        if kind.name() == name {
+        if kind.name().eq_ignore_ascii_case(name) {
             return Some(kind);
         }
     }
     None
+}
+
+/// The kind that a word of letters may have been meant for: the one whose name has the fewest letters that differ.
+pub fn nearest_kind(alloc: Global, word: &str) -> Result<Option<Kind>, AllocError> {
+    if word.len() > NAME_LENGTH || !word.chars().all(|letter| letter.is_ascii_alphabetic()) {
+        return Ok(None);
+    }
+    let word = word.to_ascii_lowercase(alloc)?;
+    let mut nearest = None;
+    let mut fewest = MOST_EDITS;
+    for kind in KINDS {
+        let name = kind.name().to_ascii_lowercase(alloc)?;
+        let edits = levenshtein(alloc, name.as_str(), word.as_str())?;
+        if edits < fewest {
+            fewest = edits;
+            nearest = Some(kind);
+        }
+    }
+    Ok(nearest)
 }
 
 /// A line on a kind of refusal: its name, what it means and what can be done.

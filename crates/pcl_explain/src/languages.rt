@@ -6,12 +6,17 @@ pub enum Language {
     PostScript,
     Pdf,
     PclXl,
+    /// Any, packed.
+    Gzip,
 }
 
 /// The language of a job, by its first bytes: none where it may be PCL 5.
 pub fn language_of(job: &[u8]) -> Option<Language> {
     if job.starts_with(b"%!") || job.starts_with(b"\x04%!") {
         return Some(Language::PostScript);
+    }
+    if job.starts_with(b"\x1f\x8b") {
+        return Some(Language::Gzip);
     }
     if job.starts_with(b"%PDF") {
         return Some(Language::Pdf);
@@ -32,6 +37,7 @@ impl Language {
                 "the job is PDF, not PCL 5: choose a PCL 5 driver, or send it through ghostscript with -sDEVICE=ljet2p",
             Language::PclXl =>
                 "the job is PCL XL (PCL 6), not PCL 5: choose a driver for PCL 5 or PCL 5e",
+            Language::Gzip => "the job is packed by gzip: unpack it first",
         }
     }
 }

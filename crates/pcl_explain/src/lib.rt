@@ -9,11 +9,14 @@ mod finding;
 mod kinds;
 mod languages;
 mod lines;
+mod objects;
 mod refusals;
 mod sequences;
 mod values;
 
 pub use finding::{Finding, Findings};
-pub use kinds::{kind_explanation, kind_named};
+pub use kinds::{kind_explanation, kind_named, nearest_kind};
+pub use languages::{Language, language_of};
 pub use lines::explanation;
+pub use objects::{explanation_object, kind_object};
 pub use refusals::find_refusals;

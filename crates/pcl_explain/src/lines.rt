@@ -66,7 +66,7 @@ fn append_rest(finding: &Finding, out: &mut Vec<u8>) -> Result<(), AllocError> {
 }
 
 /// What can be done about a finding.
-fn advice_on(finding: &Finding) -> &'static str {
+pub(crate) fn advice_on(finding: &Finding) -> &'static str {
     match advice_on_name(finding.refusal.name) {
         Some(advice) if is_of_name(finding.refusal.kind) => advice,
         _ => advice_on_kind(finding.refusal.kind),

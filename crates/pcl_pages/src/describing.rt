@@ -33,7 +33,7 @@ pub fn describe_pages(
 /// The text of facts.
 fn laid_out(alloc: Global, facts: &JobFacts, layout: Layout) -> Result<Vec<u8>, AllocError> {
     match layout {
-        Layout::Table => table(alloc, facts),
+        Layout::Text => table(alloc, facts),
         Layout::Json => {
             let mut text = match serde_json::to_vec(alloc, facts) {
                 Ok(text) => text,

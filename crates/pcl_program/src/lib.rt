@@ -1,6 +1,7 @@
 //! The program `pclmin`: a run by the words of a command line, over any files, reader and writer, and its status; and the process.
 #![tactic(auto)]
 
+mod faults;
 mod process;
 mod rewriting;
 mod running;

@@ -1,10 +1,11 @@
 //! The process of `pclmin`: its words, its standard streams, the files of the system, its line and its status.
 
+use crate::faults::print_fault;
 use crate::running::{exit_status, run};
 use clap::Error;
 use pcl_answers::Ending;
 use pcl_files::{FILE_STATUS, Failure, USAGE_STATUS};
-use pcl_system::{Input, SystemFiles, Voice};
+use pcl_system::{Input, OutputStream, SystemFiles, Troubles, Typed, Voice};
 use std::alloc::AllocError;
 use std::env;
 use std::io::{self, ErrorKind, IsTerminal};
@@ -13,23 +14,43 @@ use std::process::ExitCode;
 /// Does what the words of the command line ask for, and gives the status. It has the files of the system, standard input and
 /// standard output, and prints on standard error what is to be said.
 pub fn run_process(rt: &HostRuntime) -> ExitCode {
-    let ended = match arguments(rt) {
-        Ok(Some(words)) => run(
-            &mut SystemFiles::new(rt),
-            rt.alloc(),
-            &words,
-            &mut Input::new(rt, rt.reader()),
-            &mut io::writer(rt),
-            rt.stdout().is_terminal(),
-            Voice::new(rt),
-        ),
+    let status = match arguments(rt) {
+        Ok(Some(words)) => run_words(rt, &words),
         Ok(None) => {
             let _ = rt.eprint("pclmin: the arguments aren't text\n");
-            return ExitCode::from(USAGE_STATUS);
+            USAGE_STATUS
         }
-        Err(AllocError) => Ok(Ending::Failed(Failure::NoMemory)),
+        Err(AllocError) => end(
+            rt,
+            &Ok(Ending::Failed(Failure::NoMemory)),
+            &[],
+            &Troubles::new(),
+        ),
     };
-    ExitCode::from(end(rt, &ended))
+    ExitCode::from(status)
+}
+
+/// Does what words ask for, prints what is left to be printed, and gives the status.
+fn run_words(rt: &HostRuntime, words: &[String]) -> u8 {
+    let troubles = Troubles::new();
+    let ended = run(
+        &mut SystemFiles::new(rt, &troubles),
+        rt.alloc(),
+        words,
+        &mut Input::new(rt, rt.reader(), typed(words), &troubles),
+        &mut OutputStream::new(io::writer(rt), &troubles),
+        rt.stdout().is_terminal(),
+        Voice::new(rt),
+    );
+    end(rt, &ended, words, &troubles)
+}
+
+/// What is typed where standard input is a terminal.
+fn typed(words: &[String]) -> Typed {
+    match words {
+        [_, command, ..] if command.as_str() == "batch" => Typed::Names,
+        _ => Typed::Job,
+    }
 }
 
 /// The words of the command line, the program's name first; none where one of them isn't text.
@@ -42,12 +63,17 @@ fn arguments(rt: &HostRuntime) -> Result<Option<Vec<String>>, AllocError> {
 }
 
 /// Prints what is left to be printed, and gives the status. What standard error doesn't take is lost.
-fn end(rt: &(impl Print + Eprint), ended: &Result<Ending, Error>) -> u8 {
+fn end(
+    rt: &HostRuntime,
+    ended: &Result<Ending, Error>,
+    words: &[String],
+    troubles: &Troubles,
+) -> u8 {
     match ended {
         Ok(Ending::Done | Ending::Checked(_) | Ending::Compared(_)) => {}
         Ok(Ending::Failed(Failure::Said { line, .. })) => {
             if let Ok(text) = std::str::from_utf8(line) {
-                let _ = rt.eprint(text);
+                print_fault(rt, text, words, troubles);
             }
         }
         Ok(Ending::Failed(Failure::NoMemory)) => {

@@ -57,13 +57,14 @@ fn run_batch_words<F: JobFiles, S: AsStr, R: Read, W: Write, P: Reporter>(
     words: &[S],
     reader: &mut R,
     out: &mut W,
-    reporter: P,
+    reporter: Option<P>,
 ) -> Result<Ending, Error> {
     let asked = match parse_batch(alloc, words) {
         Ok(asked) => asked,
         Err(error) => return shown(error),
     };
     let paths = &asked.paths;
+    let reporter = if asked.batch.quiet { None } else { reporter };
     match run_named(
         files,
         alloc,

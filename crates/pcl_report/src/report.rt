@@ -5,7 +5,7 @@ ghost use Rattle.pcl_report.specs.Reports.{HasNoFailure};
 ghost use Rattle.pcl_report.specs.declared.report.Outcome.TheVariants.{Failed};
 
 use crate::sums::FileSum;
-use pcl_request::ReportForm;
+use pcl_request::Layout;
 use serde::Serialize;
 use std::alloc::{AllocError, Global};
 use std::fmt::Display;
@@ -70,13 +70,13 @@ impl<'w> Entry<'w> {
     }
 
     /// The line of a report, with its line feed.
-    pub fn line(&self, alloc: Global, form: ReportForm) -> Result<Vec<u8>, AllocError> {
-        match form {
-            ReportForm::Table => {
+    pub fn line(&self, alloc: Global, layout: Layout) -> Result<Vec<u8>, AllocError> {
+        match layout {
+            Layout::Text => {
                 let row = self.row(alloc)?;
                 Vec::from_slice(alloc, row.as_bytes())
             }
-            ReportForm::Json => json_line(alloc, self),
+            Layout::Json => json_line(alloc, self),
         }
     }
 
@@ -119,11 +119,11 @@ impl<'w> Entry<'w> {
 }
 
 /// What stands above all lines: the names of the columns, and nothing in JSON.
-pub fn header(form: ReportForm) -> &'static str {
-    match form {
-        ReportForm::Table =>
+pub fn header(layout: Layout) -> &'static str {
+    match layout {
+        Layout::Text =>
             "file\toutcome\tstatus\tdpi\tpages\tbytes_in\tsha256_in\tbytes_out\tsha256_out\tsaid\n",
-        ReportForm::Json => "",
+        Layout::Json => "",
     }
 }
 
@@ -181,13 +181,13 @@ impl Totals {
     }
 
     /// The last line of a report, with its line feed.
-    pub fn line(&self, alloc: Global, form: ReportForm) -> Result<Vec<u8>, AllocError> {
-        match form {
-            ReportForm::Table => {
+    pub fn line(&self, alloc: Global, layout: Layout) -> Result<Vec<u8>, AllocError> {
+        match layout {
+            Layout::Text => {
                 let text = self.text(alloc)?;
                 Vec::from_slice(alloc, text.as_bytes())
             }
-            ReportForm::Json => json_line(alloc, self),
+            Layout::Json => json_line(alloc, self),
         }
     }
 

@@ -30,7 +30,7 @@ task_page other = 0
 -- by which profile the job is read, the widest where several are tried
 abbrev pub task_profile : Task → Profile
 task_profile (Preview choice form profile) = profile
-task_profile (Explain profile) = profile
+task_profile (Explain layout profile) = profile
 task_profile (DescribePages layout profile) = profile
 task_profile (Shrink report profile readers) = profile
 task_profile other = Stated
@@ -47,8 +47,8 @@ rewriting_profile rewriting.Certify = Stated
 
 -- a job or an image is made, and not a text
 abbrev pub makes_raw : Task → Bool
-makes_raw (Explain profile) = false
-makes_raw (ExplainKind kind) = false
+makes_raw (Explain layout profile) = false
+makes_raw (ExplainKind layout kind) = false
 makes_raw (DescribePages layout profile) = false
 makes_raw other = true
 

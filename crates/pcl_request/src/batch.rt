@@ -3,7 +3,7 @@
 ghost use Rattle.std.specs.Prelude.{◌≡◌};
 ghost use Rattle.pcl_request.specs.Requests.{rewriting_profile};
 
-use crate::request::Resolution;
+use crate::request::{Layout, Resolution};
 use pcl_base::Profile;
 use pcl_page::Readers;
 
@@ -53,14 +53,7 @@ pub struct Batch<'w> {
     pub rewriting: Rewriting,
     pub resolution: Resolution,
     /// How the report is laid out.
-    pub form: ReportForm,
-}
-
-/// How a report is laid out: a line for each job.
-#[derive(Clone, Copy, Debug, PartialEq, Eq)]
-pub enum ReportForm {
-    /// Columns that tabs part, below a line of their names.
-    Table,
-    /// An object of JSON on each line.
-    Json,
+    pub layout: Layout,
+    /// Whether nothing is reported but in its report.
+    pub quiet: bool,
 }

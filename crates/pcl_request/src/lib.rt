@@ -4,7 +4,7 @@
 mod batch;
 mod request;
 
-pub use batch::{Batch, Destination, ReportForm, Rewriting};
+pub use batch::{Batch, Destination, Rewriting};
 pub use request::{
     Beside, Certificate, CheckedFiles, ComparedFiles, Layout, Request, Resolution, Run, Source,
     Target, Task, Work, resolution_named,

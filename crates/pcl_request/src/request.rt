@@ -20,12 +20,14 @@ pub enum Task {
         form: ImageForm,
         profile: Profile,
     },
-    /// What the rules of a profile refuse in it, and what can be done.
+    /// What the rules of a profile refuse in it, and what can be done, in a layout.
     Explain {
+        layout: Layout,
         profile: Profile,
     },
     /// What a kind of refusal means, and what can be done. No job is read.
     ExplainKind {
+        layout: Layout,
         kind: Kind,
     },
     /// What its pages are by a profile, in a layout.
@@ -33,10 +35,10 @@ pub enum Task {
         layout: Layout,
         profile: Profile,
     },
-    /// The smallest job that is found with its pages, which asks for the same, for these readers; and a report of its bytes if that is
-    /// asked for. This profile is the widest by which it is read.
+    /// The smallest job that is found with its pages, which asks for the same, for these readers; and a report of its bytes in a layout, if
+    /// that is asked for. This profile is the widest by which it is read.
     Shrink {
-        report: bool,
+        report: Option<Layout>,
         profile: Profile,
         readers: Readers,
     },
@@ -59,12 +61,12 @@ pub enum Work<'w> {
     Certify(Certificate<'w>),
 }
 
-/// How the description of pages is laid out.
+/// How what is said is laid out.
 #[derive(Clone, Copy, Debug, PartialEq, Eq)]
 pub enum Layout {
-    /// Lines of columns that tabs part.
-    Table,
-    /// One object of JSON, on one line.
+    /// Lines for people; of pages and of batches they have columns that tabs part.
+    Text,
+    /// An object of JSON on a line of its own: one, but of a batch one for each job.
     Json,
 }
 
@@ -130,7 +132,7 @@ impl Task {
         match self {
             Task::Minimize | Task::ExplainKind { .. } => Profile::Stated,
             Task::Preview { profile, .. }
-            | Task::Explain { profile }
+            | Task::Explain { profile, .. }
             | Task::DescribePages { profile, .. }
             | Task::Shrink { profile, .. } => profile,
         }
@@ -253,6 +255,8 @@ pub struct CheckedFiles<'w> {
     pub output: &'w str,
     /// The file of the certificate.
     pub certificate: &'w str,
+    /// How the verdict is laid out.
+    pub layout: Layout,
     /// The resolution.
     pub resolution: Resolution,
     /// Whether it isn't reported how far the check has come.
@@ -272,6 +276,8 @@ pub struct ComparedFiles<'w> {
     pub image: Option<&'w str>,
     /// The widest profile by which they are read.
     pub profile: Profile,
+    /// How the comparison is laid out.
+    pub layout: Layout,
     /// The resolution.
     pub resolution: Resolution,
 }

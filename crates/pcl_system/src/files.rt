@@ -1,21 +1,25 @@
 //! The files of the system.
 
+use crate::named_file::NamedFile;
 use crate::parts::{NewFile, place_both};
-use crate::places::{are_one, is_special, is_standard, place_of};
+use crate::places::{are_one, is_special, is_standard};
+use crate::troubles::{Access, Cause, Troubles};
 use pcl_files::{FileFault, FileKind, JobFiles};
-use std::fs::{self, File};
-use std::io;
+use std::fs;
+use std::io::{self, ErrorKind};
 use std::os::fd::AsFd;
 
 /// The files of the system, by their paths.
 #[derive(Clone, Copy)]
 pub struct SystemFiles<'a> {
     rt: &'a HostRuntime,
+    troubles: &'a Troubles,
 }
 
 impl<'a> SystemFiles<'a> {
-    pub fn new(rt: &'a HostRuntime) -> SystemFiles<'a> {
-        SystemFiles { rt }
+    /// What goes wrong with a file is kept among these troubles.
+    pub fn new(rt: &'a HostRuntime, troubles: &'a Troubles) -> SystemFiles<'a> {
+        SystemFiles { rt, troubles }
     }
 
     /// An error where standard input, output or error is closed: the next file that is opened would take its place.
@@ -29,16 +33,23 @@ impl<'a> SystemFiles<'a> {
     }
 }
 
-impl JobFiles for SystemFiles<'_> {
-    type Reader = File;
+impl<'a> JobFiles for SystemFiles<'a> {
+    type Reader = NamedFile<'a>;
 
-    type Writer = NewFile;
+    type Writer = NewFile<'a>;
 
     ghost acts = { λ _ _ _. Unit {0} };
 
-    fn open(&self, name: &str) -> io::Result<File> {
+    fn open(&self, name: &str) -> io::Result<NamedFile<'a>> {
         self.require_standard_streams()?;
-        fs::open(self.rt, name)
+        match fs::open(self.rt, name) {
+            Ok(file) => Ok(NamedFile::new(self.rt, self.troubles, name, file)),
+            Err(error) => {
+                self.troubles
+                    .note_error(self.rt, Access::Reading, name, &error);
+                Err(error)
+            }
+        }
     }
 
     fn are_one(&self, name: &str, other: &str) -> bool {
@@ -57,40 +68,53 @@ impl JobFiles for SystemFiles<'_> {
     }
 
     fn make_folder(&mut self, name: &str) -> Result<(), FileFault> {
-        Ok(fs::create_dir_all(self.rt, name)?)
+        match fs::create_dir_all(self.rt, name) {
+            Ok(()) => Ok(()),
+            Err(error) => {
+                let cause = match error.kind() {
+                    ErrorKind::AlreadyExists => Cause::NoFolder,
+                    kind => Cause::Error(kind),
+                };
+                self.troubles.note(self.rt, Access::Writing, name, cause);
+                Err(FileFault::from(error))
+            }
+        }
     }
 
-    fn begin(&mut self, name: &str) -> Result<NewFile, FileFault> {
+    fn begin(&mut self, name: &str) -> Result<NewFile<'a>, FileFault> {
         self.require_standard_streams()?;
         if is_special(self.rt, name) {
-            return Ok(NewFile::in_place(fs::create(self.rt, name)?));
+            NewFile::in_place(self.rt, self.troubles, name)
+        } else {
+            NewFile::beside(self.rt, self.troubles, name)
         }
-        NewFile::beside(self.rt, place_of(self.rt, name)?)
     }
 
-    fn begin_aside(&mut self, name: &str) -> Result<NewFile, FileFault> {
+    fn begin_aside(&mut self, name: &str) -> Result<NewFile<'a>, FileFault> {
         self.require_standard_streams()?;
         if is_standard(self.rt, name) {
+            self.troubles
+                .note(self.rt, Access::Writing, name, Cause::Standard);
             return Err(FileFault::System);
         }
         self.begin(name)
     }
 
-    fn place(&mut self, _name: &str, file: NewFile) -> Result<(), FileFault> {
+    fn place(&mut self, _name: &str, file: NewFile<'a>) -> Result<(), FileFault> {
         Ok(file.place(self.rt)?)
     }
 
     fn place_both(
         &mut self,
         _name: &str,
-        file: NewFile,
+        file: NewFile<'a>,
         _other: &str,
-        other_file: NewFile,
+        other_file: NewFile<'a>,
     ) -> Result<(), FileFault> {
         Ok(place_both(self.rt, file, other_file)?)
     }
 
-    fn discard(&mut self, _name: &str, file: NewFile) {
+    fn discard(&mut self, _name: &str, file: NewFile<'a>) {
         file.discard(self.rt);
     }
 }

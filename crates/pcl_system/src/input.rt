@@ -1,36 +1,69 @@
 //! Standard input, with a hint where a person is to type it.
 
+use crate::troubles::Troubles;
 use std::io::{self, IsTerminal, Read};
 
-/// What is said before the first read of a terminal.
-const HINT: &str =
-    "pclmin: the job is read from this terminal: end it with control D, or give a file\n";
+/// What is typed on a terminal.
+#[derive(Clone, Copy)]
+pub enum Typed {
+    /// A job.
+    Job,
+    /// The names of the jobs of a batch.
+    Names,
+}
+
+impl Typed {
+    /// What is said before the first read of a terminal.
+    fn hint(self) -> &'static str {
+        match self {
+            Typed::Job =>
+                "pclmin: the job is read from this terminal: end it with control D, or give a file\n",
+            Typed::Names =>
+                "pclmin: names of jobs are read from this terminal, one a line: end them with control D, or give files\n",
+        }
+    }
+}
 
 /// Standard input. Where it is a terminal, a hint comes on standard error before the first read.
 #[derive(Drop)]
 pub struct Input<'a, R> {
     rt: &'a HostRuntime,
     reader: R,
-    /// Whether a hint is to come.
-    is_typed: bool,
+    typed: Typed,
+    troubles: &'a Troubles,
+    has_begun: bool,
 }
 
 impl<'a, R: Read> Input<'a, R> {
-    pub fn new(rt: &'a HostRuntime, reader: R) -> Input<'a, R> {
+    pub fn new(
+        rt: &'a HostRuntime,
+        reader: R,
+        typed: Typed,
+        troubles: &'a Troubles,
+    ) -> Input<'a, R> {
         Input {
             rt,
             reader,
-            is_typed: rt.stdin().is_terminal(),
+            typed,
+            troubles,
+            has_begun: false,
         }
     }
 }
 
 impl<R: Read> Read for Input<'_, R> {
     fn read(&mut self, buf: &mut [u8]) -> io::Result<usize> {
-        if self.is_typed {
-            self.is_typed = false;
-            let _ = self.rt.eprint(HINT);
+        let is_first = !self.has_begun;
+        self.has_begun = true;
+        if is_first && self.rt.stdin().is_terminal() {
+            let _ = self.rt.eprint(self.typed.hint());
         }
-        self.reader.read(buf)
+        let read = self.reader.read(buf);
+        match &read {
+            Ok(count) if is_first => self.troubles.begin(buf.get(..*count).unwrap_or(&[])),
+            Ok(_) => {}
+            Err(_) => self.troubles.forget(),
+        }
+        read
     }
 }

@@ -1,5 +1,7 @@
 //! Files that are begun beside the ones whose places they take.
 
+use crate::places::place_of;
+use crate::troubles::{Access, Cause, Troubles};
 use pcl_files::FileFault;
 use std::fs::{self, File, Metadata, OpenOptions, Permissions, TryLockError};
 use std::io::{self, ErrorKind, Write};
@@ -19,10 +21,40 @@ const NEW: u32 = 0o666;
 
 /// A file that was begun. Where it is to take the place of another one it has a lock, by which others see that somebody holds it.
 #[derive(Drop)]
-pub struct NewFile {
+pub struct NewFile<'a> {
     file: File,
     /// None where it is written in place.
     part: Option<Part>,
+    called: Called<'a>,
+}
+
+/// What a file is called, and where its troubles are kept.
+#[derive(Drop)]
+struct Called<'a> {
+    rt: &'a HostRuntime,
+    troubles: &'a Troubles,
+    /// None where memory ran out for it.
+    name: Option<String>,
+}
+
+impl<'a> Called<'a> {
+    ghost use Rattle.std.specs.Prelude.{◌≡◌};
+
+    fn new(rt: &'a HostRuntime, troubles: &'a Troubles, name: &str) -> Called<'a> {
+        let name = String::from_str(rt.alloc(), name).ok();
+        Called { rt, troubles, name }
+    }
+
+    /// What came of writing the file. An error is kept among the troubles.
+    fn came<T>(&self, done: io::Result<T>) -> io::Result<T>
+        ensures { result ≡ done }
+    {
+        if let (Err(error), Some(name)) = (&done, &self.name) {
+            self.troubles
+                .note_error(self.rt, Access::Writing, name.as_str(), error);
+        }
+        done
+    }
 }
 
 /// Where a file is that was begun, and where it goes.
@@ -34,62 +66,71 @@ struct Part {
     rights: Option<Permissions>,
 }
 
-impl Write for NewFile {
-    fn write(&mut self, buf: &[u8]) -> io::Result<usize> {
-        self.file.write(buf)
-    }
+/// A file that was made beside its place.
+#[derive(Drop)]
+struct Made {
+    file: File,
+    part: Part,
+}
 
-    fn flush(&mut self) -> io::Result<()> {
-        self.file.flush()
+/// Why no file was made beside a place.
+#[derive(Clone, Copy)]
+struct Unmade {
+    cause: Cause,
+    fault: FileFault,
+}
+
+impl From<io::Error> for Unmade {
+    fn from(error: io::Error) -> Unmade {
+        Unmade {
+            cause: Cause::Error(error.kind()),
+            fault: FileFault::from(error),
+        }
     }
 }
 
-impl NewFile {
+impl Write for NewFile<'_> {
+    fn write(&mut self, buf: &[u8]) -> io::Result<usize> {
+        let written = self.file.write(buf);
+        self.called.came(written)
+    }
+
+    fn flush(&mut self) -> io::Result<()> {
+        let flushed = self.file.flush();
+        self.called.came(flushed)
+    }
+}
+
+impl<'a> NewFile<'a> {
     /// A file that is written in place, as a device.
-    pub(crate) fn in_place(file: File) -> NewFile {
-        NewFile { file, part: None }
+    pub(crate) fn in_place(
+        rt: &'a HostRuntime,
+        troubles: &'a Troubles,
+        name: &str,
+    ) -> Result<NewFile<'a>, FileFault> {
+        let called = Called::new(rt, troubles, name);
+        let file = called.came(fs::create(rt, name))?;
+        let part = None;
+        Ok(NewFile { file, part, called })
     }
 
-    /// Begins a file beside the one of a place, or beside where it would be.
-    pub(crate) fn beside(rt: &HostRuntime, place: String) -> Result<NewFile, FileFault> {
-        match fs::metadata(rt, &place) {
-            Ok(there) => NewFile::beside_file(rt, place, &there),
-            Err(error) if error.kind() == ErrorKind::NotFound => {
-                let (file, path) = create(rt, place.as_str(), NEW)?;
-                let rights = None;
-                let part = Some(Part {
-                    path,
-                    place,
-                    rights,
-                });
-                Ok(NewFile { file, part })
+    /// Begins a file beside the one that a name leads to, or beside where it would be.
+    pub(crate) fn beside(
+        rt: &'a HostRuntime,
+        troubles: &'a Troubles,
+        name: &str,
+    ) -> Result<NewFile<'a>, FileFault> {
+        match made_beside(rt, name) {
+            Ok(Made { file, part }) => {
+                let called = Called::new(rt, troubles, name);
+                let part = Some(part);
+                Ok(NewFile { file, part, called })
             }
-            Err(error) => Err(FileFault::from(error)),
+            Err(unmade) => {
+                troubles.note(rt, Access::Writing, name, unmade.cause);
+                Err(unmade.fault)
+            }
         }
-    }
-
-    /// Begins a file beside one that is there and may be written. It gets its owner, and at the end its rights.
-    fn beside_file(
-        rt: &HostRuntime,
-        place: String,
-        there: &Metadata,
-    ) -> Result<NewFile, FileFault> {
-        require_writable(rt, place.as_str())?;
-        let (file, path) = match create(rt, place.as_str(), UNFINISHED) {
-            Ok(made) => made,
-            Err(error) => return Err(denied(&error, FileFault::Folder)),
-        };
-        if let Err(error) = give_to_owner(&file, there) {
-            let _ = fs::remove_file(rt, &path);
-            return Err(denied(&error, FileFault::Owner));
-        }
-        let rights = Some(there.permissions());
-        let part = Some(Part {
-            path,
-            place,
-            rights,
-        });
-        Ok(NewFile { file, part })
     }
 
     /// Puts the file in its place, once all of it is on the disk. After an error it is removed, and what was there stays.
@@ -112,13 +153,10 @@ impl NewFile {
 
     /// Gives the file its rights, and waits until all of it is on the disk.
     fn finish(&self) -> io::Result<()> {
-        let Some(part) = &self.part else {
-            return Ok(());
-        };
-        if let Some(rights) = &part.rights {
-            self.file.set_permissions(Permissions::clone(rights)?)?;
+        match &self.part {
+            Some(part) => self.called.came(part.finish(&self.file)),
+            None => Ok(()),
         }
-        self.file.sync_all()
     }
 
     /// Puts a finished file in its place. After an error it is removed.
@@ -126,7 +164,7 @@ impl NewFile {
         let Some(part) = &self.part else {
             return Ok(());
         };
-        let done = part.put(rt);
+        let done = self.called.came(part.put(rt));
         if done.is_err() {
             let _ = fs::remove_file(rt, &part.path);
         }
@@ -142,7 +180,54 @@ impl NewFile {
     }
 }
 
+/// Makes a file beside the one that a name leads to, or beside where it would be.
+fn made_beside(rt: &HostRuntime, name: &str) -> Result<Made, Unmade> {
+    let place = place_of(rt, name)?;
+    match fs::metadata(rt, &place) {
+        Ok(there) => made_beside_file(rt, place, &there),
+        Err(error) if error.kind() == ErrorKind::NotFound => {
+            let (file, path) = create(rt, place.as_str(), NEW)?;
+            let rights = None;
+            let part = Part {
+                path,
+                place,
+                rights,
+            };
+            Ok(Made { file, part })
+        }
+        Err(error) => Err(Unmade::from(error)),
+    }
+}
+
+/// Makes a file beside one that is there and may be written. It gets its owner, and at the end its rights.
+fn made_beside_file(rt: &HostRuntime, place: String, there: &Metadata) -> Result<Made, Unmade> {
+    require_writable(rt, place.as_str())?;
+    let (file, path) = match create(rt, place.as_str(), UNFINISHED) {
+        Ok(made) => made,
+        Err(error) => return Err(denied(error, FileFault::Folder)),
+    };
+    if let Err(error) = give_to_owner(&file, there) {
+        let _ = fs::remove_file(rt, &path);
+        return Err(denied(error, FileFault::Owner));
+    }
+    let rights = Some(there.permissions());
+    let part = Part {
+        path,
+        place,
+        rights,
+    };
+    Ok(Made { file, part })
+}
+
 impl Part {
+    /// Gives the file its rights, and waits until all of it is on the disk.
+    fn finish(&self, file: &File) -> io::Result<()> {
+        if let Some(rights) = &self.rights {
+            file.set_permissions(Permissions::clone(rights)?)?;
+        }
+        file.sync_all()
+    }
+
     /// Puts the file in its place. Where nothing was there, something that another run has put there meanwhile stays, and that is
     /// an error.
     fn put(&self, rt: &HostRuntime) -> io::Result<()> {
@@ -209,7 +294,11 @@ impl Kept {
 }
 
 /// Puts two files in their places. After an error both are removed, and what was there stays.
-pub(crate) fn place_both(rt: &HostRuntime, first: NewFile, second: NewFile) -> io::Result<()> {
+pub(crate) fn place_both(
+    rt: &HostRuntime,
+    first: NewFile<'_>,
+    second: NewFile<'_>,
+) -> io::Result<()> {
     match finish_both(rt, &first, &second) {
         Ok(kept) => put_both(rt, first, second, kept),
         Err(error) => {
@@ -221,14 +310,19 @@ pub(crate) fn place_both(rt: &HostRuntime, first: NewFile, second: NewFile) -> i
 }
 
 /// Finishes two files, and keeps what the place of the first has.
-fn finish_both(rt: &HostRuntime, first: &NewFile, second: &NewFile) -> io::Result<Kept> {
+fn finish_both(rt: &HostRuntime, first: &NewFile<'_>, second: &NewFile<'_>) -> io::Result<Kept> {
     first.finish()?;
     second.finish()?;
     first.keep(rt)
 }
 
 /// Puts two finished files in their places; where the second can't be, the first is taken back.
-fn put_both(rt: &HostRuntime, first: NewFile, second: NewFile, kept: Kept) -> io::Result<()> {
+fn put_both(
+    rt: &HostRuntime,
+    first: NewFile<'_>,
+    second: NewFile<'_>,
+    kept: Kept,
+) -> io::Result<()> {
     if let Err(error) = first.put(rt) {
         second.discard(rt);
         kept.forget(rt);
@@ -326,11 +420,13 @@ fn give_to_owner(file: &File, other: &Metadata) -> io::Result<()> {
 }
 
 /// This fault where an error says that a user has no right to something, and else the error's own.
-fn denied(error: &io::Error, fault: FileFault) -> FileFault {
+fn denied(error: io::Error, fault: FileFault) -> Unmade {
     match error.kind() {
-        ErrorKind::PermissionDenied | ErrorKind::ReadOnlyFilesystem => fault,
-        ErrorKind::OutOfMemory => FileFault::Memory,
-        _ => FileFault::System,
+        ErrorKind::PermissionDenied | ErrorKind::ReadOnlyFilesystem => {
+            let cause = Cause::Stated;
+            Unmade { cause, fault }
+        }
+        _ => Unmade::from(error),
     }
 }
 

@@ -7,7 +7,7 @@ use Rattle.pcl_answers.proofs.checks.check.Goals as goal
 -- a write of the line that fails
 stops : {F : Type 0} {acts : F → FileAct → F → Type 0} {files : F} {asked : CheckedFiles} (old new : Option (List ℕ))
     (verdict : CheckAnswer) (line : List ℕ) (fault : Fault) → IsAnswer acts files asked verdict
-    → line ≡ answer_line_of verdict → IsWritten old new line (Err fault) → IsCheckRun acts files asked old new (Err fault)
+    → line ≡ answer_line_of asked.layout verdict → IsWritten old new line (Err fault) → IsCheckRun acts files asked old new (Err fault)
 stops old new verdict line WriteFault a e w = (verdict, a, subst (AppendsFront old new) e w)
 stops old new verdict line other a e w = absurd w
 

@@ -9,8 +9,8 @@ returns-in-Minimize g c =
       | inr others ↦ elim others [
         | inl preview ↦ rw preview.3 (rw preview.3 at first)
         | inr later ↦ elim later [
-          | inl explain ↦ rw explain.1 (rw explain.1 at first)
-          | inr rest ↦ elim rest [ inl kind ↦ rw kind.1 (rw kind.1 at first) | inr pages ↦ rw pages.2 (rw pages.2 at first) ]
+          | inl explain ↦ rw explain.2 (rw explain.2 at first)
+          | inr rest ↦ elim rest [ inl kind ↦ rw kind.2 (rw kind.2 at first) | inr pages ↦ rw pages.2 (rw pages.2 at first) ]
         ]
       ]
     ]
