@@ -156,6 +156,11 @@ int pclmin_explain(const unsigned char *job, size_t length, unsigned resolution,
     return tell(&told, answer);
 }
 
+/* lib/build.sh defines it as what the program has for one. */
+const char *pclmin_version(void) {
+    return PCLMIN_VERSION;
+}
+
 void pclmin_free(pclmin_answer *answer) {
     const char *line;
     if (answer == NULL) return;

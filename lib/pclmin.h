@@ -88,6 +88,9 @@ int pclmin_pages(const unsigned char *job, size_t length, unsigned resolution, p
 /* All that is refused in the job, and what can be done, as text. */
 int pclmin_explain(const unsigned char *job, size_t length, unsigned resolution, pclmin_answer *answer);
 
+/* The version, as the program says it: a text that nobody frees. */
+const char *pclmin_version(void);
+
 /* Frees what an answer has, and empties it. An answer that is emptied may be freed again. */
 void pclmin_free(pclmin_answer *answer);
 

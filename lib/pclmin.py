@@ -100,6 +100,8 @@ def _asked(call, jobs, numbers):
 _LIBRARY = ctypes.CDLL(LIBRARY)
 _FREE = _LIBRARY.pclmin_free
 _FREE.argtypes, _FREE.restype = [ctypes.POINTER(_Answer)], None
+_VERSION = _LIBRARY.pclmin_version
+_VERSION.argtypes, _VERSION.restype = [], ctypes.c_char_p
 _PREVIEW = _declared("pclmin_preview", 1, 3)
 _GREY = _declared("pclmin_grey", 1, 4)
 _MIN = _declared("pclmin_min", 1, 2)
@@ -155,3 +157,8 @@ def pages(job, resolution=300):
 def explain(job, resolution=300):
     """All that is refused in the job, and what can be done, as text."""
     return _asked(_EXPLAIN, [job], [resolution])
+
+
+def version():
+    """The version, as the program says it."""
+    return _VERSION().decode()

@@ -4,9 +4,10 @@
    client min RESOLUTION FORMAT JOB              client shrink RESOLUTION JOB
    client same RESOLUTION FIRST SECOND           client check RESOLUTION INPUT OUTPUT CERTIFICATE
    client page_count | pages | explain RESOLUTION JOB
+   client version
 
    A JOB is a file, or - for a null pointer and the length 0. What is written: a line of fault, kind, place, job, resolution, holds,
-   pages, and the lengths of the line, the bytes and the certificate; and then these three. */
+   pages, and the lengths of the line, the bytes and the certificate; and then these three. The version is a line alone. */
 #include "pclmin.h"
 
 #include <stdio.h>
@@ -71,6 +72,7 @@ int main(int count, char **words) {
     pclmin_answer answer;
     size_t line_length;
     int index;
+    if (count == 2 && strcmp(words[1], "version") == 0) return puts(pclmin_version()) < 0;
     if (count < 4) return 9;
     /* What the answer had before is of no account. */
     memset(&answer, 0x5a, sizeof answer);

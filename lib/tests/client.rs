@@ -39,6 +39,7 @@ extern "C" {
     fn pclmin_page_count(job: Bytes, len: usize, dpi: c_uint, answer: *mut Answer) -> c_int;
     fn pclmin_pages(job: Bytes, len: usize, dpi: c_uint, answer: *mut Answer) -> c_int;
     fn pclmin_explain(job: Bytes, len: usize, dpi: c_uint, answer: *mut Answer) -> c_int;
+    fn pclmin_version() -> *const c_char;
     fn pclmin_free(answer: *mut Answer);
 }
 
@@ -69,6 +70,12 @@ unsafe fn owned<'a>(at: *const u8, length: usize) -> &'a [u8] {
 
 fn main() {
     let words: Vec<String> = env::args().skip(1).collect();
+    if words == ["version"] {
+        // SAFETY: the version is a text that is always there.
+        let version = unsafe { CStr::from_ptr(pclmin_version()) };
+        println!("{}", version.to_str().expect("the version is ASCII"));
+        return;
+    }
     let dpi = number(&words[1]);
     let mut answer = Answer {
         bytes: ptr::null_mut(), length: 0, certificate: ptr::null_mut(), certificate_length: 0, line: ptr::null(), place: 0,

@@ -218,6 +218,14 @@ def check_arguments(runner):
         runner.tell(answer == beside and answer.fault == pclmin.DONE, f"{words} are an empty job: {shown(answer)}")
 
 
+def check_version(runner):
+    """The version that each client gets is the program's."""
+    wanted = runner.said("--version")[0]
+    told = [(name, subprocess.run([*command, "version"], capture_output=True).stdout) for name, command in runner.clients]
+    for name, version in (*told, ("Python", pclmin.version().encode() + b"\n")):
+        runner.tell(b"pclmin " + version == wanted, f"{name} gets the program's version: {version}")
+
+
 def check_python(runner):
     """What only Python can hand over: jobs that aren't bytes, and numbers of more than 32 bits; and the calls where they are installed."""
     job = JOBS["two.pcl"]
@@ -311,6 +319,7 @@ def main():
         for resolution in (300, 0):
             compare_verdict(runner, ["same"], ["same"], [first, second], resolution)
     check_arguments(runner)
+    check_version(runner)
     check_python(runner)
     tests = subprocess.run([*runner.clients[0][1][:-1], os.path.join(BUILD, "tests")], capture_output=True, cwd=BUILD)
     print(tests.stdout.decode(), end="")
