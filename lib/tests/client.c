@@ -2,7 +2,8 @@
 
    client preview RESOLUTION FIRST LAST JOB      client grey RESOLUTION FIRST LAST SCALE JOB
    client min RESOLUTION FORMAT JOB              client shrink RESOLUTION JOB
-   client same RESOLUTION FIRST SECOND           client check RESOLUTION INPUT OUTPUT CERTIFICATE
+   client same | same_asked RESOLUTION FIRST SECOND
+   client check | check_pages RESOLUTION INPUT OUTPUT CERTIFICATE
    client page_count | pages | explain RESOLUTION JOB
    client version
 
@@ -61,9 +62,14 @@ static int call(char **words, struct job *jobs, pclmin_answer *answer) {
     jobs[1] = read_job(words[3]);
     if (strcmp(name, "same") == 0)
         return pclmin_same(jobs[0].at, jobs[0].length, jobs[1].at, jobs[1].length, resolution, answer);
+    if (strcmp(name, "same_asked") == 0)
+        return pclmin_same_asked(jobs[0].at, jobs[0].length, jobs[1].at, jobs[1].length, resolution, answer);
     jobs[2] = read_job(words[4]);
     if (strcmp(name, "check") == 0)
         return pclmin_check(jobs[0].at, jobs[0].length, jobs[1].at, jobs[1].length, jobs[2].at, jobs[2].length, resolution, answer);
+    if (strcmp(name, "check_pages") == 0)
+        return pclmin_check_pages(jobs[0].at, jobs[0].length, jobs[1].at, jobs[1].length, jobs[2].at, jobs[2].length, resolution,
+                                  answer);
     exit(9);
 }
 

@@ -32,8 +32,13 @@ extern "C" {
     fn pclmin_min(job: Bytes, len: usize, dpi: c_uint, format: c_uint, answer: *mut Answer) -> c_int;
     fn pclmin_shrink(job: Bytes, len: usize, dpi: c_uint, answer: *mut Answer) -> c_int;
     fn pclmin_same(a: Bytes, a_len: usize, b: Bytes, b_len: usize, dpi: c_uint, answer: *mut Answer) -> c_int;
+    fn pclmin_same_asked(a: Bytes, a_len: usize, b: Bytes, b_len: usize, dpi: c_uint, answer: *mut Answer) -> c_int;
     fn pclmin_check(
         input: Bytes, input_len: usize, output: Bytes, output_len: usize, cert: Bytes, cert_len: usize, dpi: c_uint,
+        answer: *mut Answer,
+    ) -> c_int;
+    fn pclmin_check_pages(
+        images: Bytes, images_len: usize, output: Bytes, output_len: usize, cert: Bytes, cert_len: usize, dpi: c_uint,
         answer: *mut Answer,
     ) -> c_int;
     fn pclmin_page_count(job: Bytes, len: usize, dpi: c_uint, answer: *mut Answer) -> c_int;
@@ -98,6 +103,10 @@ fn main() {
             "min" => pclmin_min(first, first_len, dpi, number(&words[2]), &mut answer),
             "shrink" => pclmin_shrink(first, first_len, dpi, &mut answer),
             "same" => pclmin_same(first, first_len, at(&jobs[1]), len(&jobs[1]), dpi, &mut answer),
+            "same_asked" => pclmin_same_asked(first, first_len, at(&jobs[1]), len(&jobs[1]), dpi, &mut answer),
+            "check_pages" => pclmin_check_pages(
+                first, first_len, at(&jobs[1]), len(&jobs[1]), at(&jobs[2]), len(&jobs[2]), dpi, &mut answer,
+            ),
             "check" => pclmin_check(
                 first, first_len, at(&jobs[1]), len(&jobs[1]), at(&jobs[2]), len(&jobs[2]), dpi, &mut answer,
             ),
