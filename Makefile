@@ -129,7 +129,7 @@ install-lib:
 	install -D -m 644 lib/pclmin.py $(DESTDIR)$(PREFIX)/share/pclmin/pclmin.py
 	install -D -m 644 build/pclmin.h $(DESTDIR)$(PREFIX)/include/pclmin.h
 	install -d $(DESTDIR)$(PREFIX)/lib/pkgconfig
-	sed 's|@PREFIX@|$(PREFIX)|' lib/pclmin.pc.in > $(DESTDIR)$(PREFIX)/lib/pkgconfig/pclmin.pc
+	sed 's|@PREFIX@|$(PREFIX)|' build/pclmin.pc.in > $(DESTDIR)$(PREFIX)/lib/pkgconfig/pclmin.pc
 	chmod 644 $(DESTDIR)$(PREFIX)/lib/pkgconfig/pclmin.pc
 
 # Calls the library from C, Rust and Python, and compares what they get with what the program writes (lib/tests/run.py). It takes

@@ -23,8 +23,11 @@ void pcl_library_grey(const unsigned char *, size_t, uint32_t, uint32_t, uint32_
 void pcl_library_min(const unsigned char *, size_t, uint32_t, uint32_t, struct told *);
 void pcl_library_shrink(const unsigned char *, size_t, uint32_t, struct told *);
 void pcl_library_same(const unsigned char *, size_t, const unsigned char *, size_t, uint32_t, struct told *);
+void pcl_library_same_asked(const unsigned char *, size_t, const unsigned char *, size_t, uint32_t, struct told *);
 void pcl_library_check(const unsigned char *, size_t, const unsigned char *, size_t, const unsigned char *, size_t, uint32_t,
                        struct told *);
+void pcl_library_check_pages(const unsigned char *, size_t, const unsigned char *, size_t, const unsigned char *, size_t, uint32_t,
+                             struct told *);
 void pcl_library_page_count(const unsigned char *, size_t, uint32_t, struct told *);
 void pcl_library_pages(const unsigned char *, size_t, uint32_t, struct told *);
 void pcl_library_explain(const unsigned char *, size_t, uint32_t, struct told *);
@@ -124,6 +127,14 @@ int pclmin_same(const unsigned char *first, size_t first_length, const unsigned 
     return tell(&told, answer);
 }
 
+int pclmin_same_asked(const unsigned char *first, size_t first_length, const unsigned char *second, size_t second_length,
+                      unsigned resolution, pclmin_answer *answer) {
+    struct told told = untold;
+    if (answer == NULL || !is_memory(first, first_length) || !is_memory(second, second_length)) return refuse_pointer(answer);
+    pcl_library_same_asked(or_nothing(first), first_length, or_nothing(second), second_length, resolution, &told);
+    return tell(&told, answer);
+}
+
 int pclmin_check(const unsigned char *input, size_t input_length, const unsigned char *output, size_t output_length,
                  const unsigned char *certificate, size_t certificate_length, unsigned resolution, pclmin_answer *answer) {
     struct told told = untold;
@@ -132,6 +143,17 @@ int pclmin_check(const unsigned char *input, size_t input_length, const unsigned
         return refuse_pointer(answer);
     pcl_library_check(or_nothing(input), input_length, or_nothing(output), output_length, or_nothing(certificate),
                       certificate_length, resolution, &told);
+    return tell(&told, answer);
+}
+
+int pclmin_check_pages(const unsigned char *images, size_t images_length, const unsigned char *output, size_t output_length,
+                       const unsigned char *certificate, size_t certificate_length, unsigned resolution, pclmin_answer *answer) {
+    struct told told = untold;
+    if (answer == NULL || !is_memory(images, images_length) || !is_memory(output, output_length)
+        || !is_memory(certificate, certificate_length))
+        return refuse_pointer(answer);
+    pcl_library_check_pages(or_nothing(images), images_length, or_nothing(output), output_length, or_nothing(certificate),
+                            certificate_length, resolution, &told);
     return tell(&told, answer);
 }
 
@@ -154,6 +176,11 @@ int pclmin_explain(const unsigned char *job, size_t length, unsigned resolution,
     if (answer == NULL || !is_memory(job, length)) return refuse_pointer(answer);
     pcl_library_explain(or_nothing(job), length, resolution, &told);
     return tell(&told, answer);
+}
+
+/* lib/build.sh defines it as what the program has for one. */
+const char *pclmin_version(void) {
+    return PCLMIN_VERSION;
 }
 
 void pclmin_free(pclmin_answer *answer) {

@@ -49,7 +49,7 @@ typedef struct pclmin_answer {
     int kind;                   /* of a refusal: an enum pclmin_kind, else 0 */
     int job;                    /* of a refusal: 1, or 2 for the second of two jobs, else 0 */
     int resolution;             /* of a call that is done: 300 or 600 */
-    int holds;                  /* of pclmin_same and pclmin_check: 1 for yes, else 0 */
+    int holds;                  /* of two jobs that are compared, and of a check: 1 for yes, else 0 */
 } pclmin_answer;
 
 /* Jobs and certificates are bytes and how many; a pointer may be NULL where there are none. A resolution is 300 or 600 dots per
@@ -68,16 +68,25 @@ int pclmin_grey(const unsigned char *job, size_t length, unsigned resolution, un
 /* The job as a least raster job, with a certificate of format 1 or 2, or with none by 0. */
 int pclmin_min(const unsigned char *job, size_t length, unsigned resolution, unsigned format, pclmin_answer *answer);
 
-/* The smallest job that is found with the same pages, which asks the printer for the same. */
+/* The smallest job that is found with the same pages, which asks the printer for the same; by the resolution 0 at 300 and at 600
+   where the job is accepted at both. */
 int pclmin_shrink(const unsigned char *job, size_t length, unsigned resolution, pclmin_answer *answer);
 
 /* Whether two jobs have the same pages; the line says what differs first. */
 int pclmin_same(const unsigned char *first, size_t first_length, const unsigned char *second, size_t second_length,
                 unsigned resolution, pclmin_answer *answer);
 
+/* Whether two jobs have the same pages and ask the printer for the same; the line says what differs first. */
+int pclmin_same_asked(const unsigned char *first, size_t first_length, const unsigned char *second, size_t second_length,
+                      unsigned resolution, pclmin_answer *answer);
+
 /* Whether an output has an input's pages and is the shortest such job text, by a certificate; the line says which test fails. */
 int pclmin_check(const unsigned char *input, size_t input_length, const unsigned char *output, size_t output_length,
                  const unsigned char *certificate, size_t certificate_length, unsigned resolution, pclmin_answer *answer);
+
+/* The same with PBM images of the pages, one after the other, in place of the input. The resolution is the output's, and a refusal too. */
+int pclmin_check_pages(const unsigned char *images, size_t images_length, const unsigned char *output, size_t output_length,
+                       const unsigned char *certificate, size_t certificate_length, unsigned resolution, pclmin_answer *answer);
 
 /* How many pages the job has. */
 int pclmin_page_count(const unsigned char *job, size_t length, unsigned resolution, pclmin_answer *answer);
@@ -87,6 +96,9 @@ int pclmin_pages(const unsigned char *job, size_t length, unsigned resolution, p
 
 /* All that is refused in the job, and what can be done, as text. */
 int pclmin_explain(const unsigned char *job, size_t length, unsigned resolution, pclmin_answer *answer);
+
+/* The version, as the program says it: a text that nobody frees. */
+const char *pclmin_version(void);
 
 /* Frees what an answer has, and empties it. An answer that is emptied may be freed again. */
 void pclmin_free(pclmin_answer *answer);

@@ -100,12 +100,16 @@ def _asked(call, jobs, numbers):
 _LIBRARY = ctypes.CDLL(LIBRARY)
 _FREE = _LIBRARY.pclmin_free
 _FREE.argtypes, _FREE.restype = [ctypes.POINTER(_Answer)], None
+_VERSION = _LIBRARY.pclmin_version
+_VERSION.argtypes, _VERSION.restype = [], ctypes.c_char_p
 _PREVIEW = _declared("pclmin_preview", 1, 3)
 _GREY = _declared("pclmin_grey", 1, 4)
 _MIN = _declared("pclmin_min", 1, 2)
 _SHRINK = _declared("pclmin_shrink", 1, 1)
 _SAME = _declared("pclmin_same", 2, 1)
+_SAME_ASKED = _declared("pclmin_same_asked", 2, 1)
 _CHECK = _declared("pclmin_check", 3, 1)
+_CHECK_PAGES = _declared("pclmin_check_pages", 3, 1)
 _PAGE_COUNT = _declared("pclmin_page_count", 1, 1)
 _PAGES = _declared("pclmin_pages", 1, 1)
 _EXPLAIN = _declared("pclmin_explain", 1, 1)
@@ -128,7 +132,8 @@ def minimize(job, resolution=300, certificate_format=0):
 
 
 def shrink(job, resolution=300):
-    """The smallest job that is found with the same pages, which asks the printer for the same."""
+    """The smallest job that is found with the same pages, which asks the printer for the same; by the resolution 0 at 300 and at 600
+    where the job is accepted at both."""
     return _asked(_SHRINK, [job], [resolution])
 
 
@@ -137,9 +142,19 @@ def same(first, second, resolution=300):
     return _asked(_SAME, [first, second], [resolution])
 
 
+def same_asked(first, second, resolution=300):
+    """Whether two jobs have the same pages and ask the printer for the same."""
+    return _asked(_SAME_ASKED, [first, second], [resolution])
+
+
 def check(job, output, certificate, resolution=300):
     """Whether an output has a job's pages and is the shortest such job text, by a certificate."""
     return _asked(_CHECK, [job, output, certificate], [resolution])
+
+
+def check_pages(images, output, certificate, resolution=300):
+    """Whether an output prints PBM images, one after the other, and is the shortest such job text, by a certificate."""
+    return _asked(_CHECK_PAGES, [images, output, certificate], [resolution])
 
 
 def page_count(job, resolution=300):
@@ -155,3 +170,8 @@ def pages(job, resolution=300):
 def explain(job, resolution=300):
     """All that is refused in the job, and what can be done, as text."""
     return _asked(_EXPLAIN, [job], [resolution])
+
+
+def version():
+    """The version, as the program says it."""
+    return _VERSION().decode()

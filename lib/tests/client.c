@@ -2,11 +2,13 @@
 
    client preview RESOLUTION FIRST LAST JOB      client grey RESOLUTION FIRST LAST SCALE JOB
    client min RESOLUTION FORMAT JOB              client shrink RESOLUTION JOB
-   client same RESOLUTION FIRST SECOND           client check RESOLUTION INPUT OUTPUT CERTIFICATE
+   client same | same_asked RESOLUTION FIRST SECOND
+   client check | check_pages RESOLUTION INPUT OUTPUT CERTIFICATE
    client page_count | pages | explain RESOLUTION JOB
+   client version
 
    A JOB is a file, or - for a null pointer and the length 0. What is written: a line of fault, kind, place, job, resolution, holds,
-   pages, and the lengths of the line, the bytes and the certificate; and then these three. */
+   pages, and the lengths of the line, the bytes and the certificate; and then these three. The version is a line alone. */
 #include "pclmin.h"
 
 #include <stdio.h>
@@ -60,9 +62,14 @@ static int call(char **words, struct job *jobs, pclmin_answer *answer) {
     jobs[1] = read_job(words[3]);
     if (strcmp(name, "same") == 0)
         return pclmin_same(jobs[0].at, jobs[0].length, jobs[1].at, jobs[1].length, resolution, answer);
+    if (strcmp(name, "same_asked") == 0)
+        return pclmin_same_asked(jobs[0].at, jobs[0].length, jobs[1].at, jobs[1].length, resolution, answer);
     jobs[2] = read_job(words[4]);
     if (strcmp(name, "check") == 0)
         return pclmin_check(jobs[0].at, jobs[0].length, jobs[1].at, jobs[1].length, jobs[2].at, jobs[2].length, resolution, answer);
+    if (strcmp(name, "check_pages") == 0)
+        return pclmin_check_pages(jobs[0].at, jobs[0].length, jobs[1].at, jobs[1].length, jobs[2].at, jobs[2].length, resolution,
+                                  answer);
     exit(9);
 }
 
@@ -71,6 +78,7 @@ int main(int count, char **words) {
     pclmin_answer answer;
     size_t line_length;
     int index;
+    if (count == 2 && strcmp(words[1], "version") == 0) return puts(pclmin_version()) < 0;
     if (count < 4) return 9;
     /* What the answer had before is of no account. */
     memset(&answer, 0x5a, sizeof answer);

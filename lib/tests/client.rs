@@ -32,13 +32,19 @@ extern "C" {
     fn pclmin_min(job: Bytes, len: usize, dpi: c_uint, format: c_uint, answer: *mut Answer) -> c_int;
     fn pclmin_shrink(job: Bytes, len: usize, dpi: c_uint, answer: *mut Answer) -> c_int;
     fn pclmin_same(a: Bytes, a_len: usize, b: Bytes, b_len: usize, dpi: c_uint, answer: *mut Answer) -> c_int;
+    fn pclmin_same_asked(a: Bytes, a_len: usize, b: Bytes, b_len: usize, dpi: c_uint, answer: *mut Answer) -> c_int;
     fn pclmin_check(
         input: Bytes, input_len: usize, output: Bytes, output_len: usize, cert: Bytes, cert_len: usize, dpi: c_uint,
+        answer: *mut Answer,
+    ) -> c_int;
+    fn pclmin_check_pages(
+        images: Bytes, images_len: usize, output: Bytes, output_len: usize, cert: Bytes, cert_len: usize, dpi: c_uint,
         answer: *mut Answer,
     ) -> c_int;
     fn pclmin_page_count(job: Bytes, len: usize, dpi: c_uint, answer: *mut Answer) -> c_int;
     fn pclmin_pages(job: Bytes, len: usize, dpi: c_uint, answer: *mut Answer) -> c_int;
     fn pclmin_explain(job: Bytes, len: usize, dpi: c_uint, answer: *mut Answer) -> c_int;
+    fn pclmin_version() -> *const c_char;
     fn pclmin_free(answer: *mut Answer);
 }
 
@@ -69,6 +75,12 @@ unsafe fn owned<'a>(at: *const u8, length: usize) -> &'a [u8] {
 
 fn main() {
     let words: Vec<String> = env::args().skip(1).collect();
+    if words == ["version"] {
+        // SAFETY: the version is a text that is always there.
+        let version = unsafe { CStr::from_ptr(pclmin_version()) };
+        println!("{}", version.to_str().expect("the version is ASCII"));
+        return;
+    }
     let dpi = number(&words[1]);
     let mut answer = Answer {
         bytes: ptr::null_mut(), length: 0, certificate: ptr::null_mut(), certificate_length: 0, line: ptr::null(), place: 0,
@@ -91,6 +103,10 @@ fn main() {
             "min" => pclmin_min(first, first_len, dpi, number(&words[2]), &mut answer),
             "shrink" => pclmin_shrink(first, first_len, dpi, &mut answer),
             "same" => pclmin_same(first, first_len, at(&jobs[1]), len(&jobs[1]), dpi, &mut answer),
+            "same_asked" => pclmin_same_asked(first, first_len, at(&jobs[1]), len(&jobs[1]), dpi, &mut answer),
+            "check_pages" => pclmin_check_pages(
+                first, first_len, at(&jobs[1]), len(&jobs[1]), at(&jobs[2]), len(&jobs[2]), dpi, &mut answer,
+            ),
             "check" => pclmin_check(
                 first, first_len, at(&jobs[1]), len(&jobs[1]), at(&jobs[2]), len(&jobs[2]), dpi, &mut answer,
             ),

@@ -40,6 +40,10 @@ JOBS = {
     "xl.pcl": b") HP-PCL XL;2;0\n",
     "empty.pcl": b"",
 }
+# The page of duplex.pcl, on one side.
+SIMPLEX = b"\x1bE\x1b*p100x100Y\x1b*c300a200b0P\x0c\x1bE"
+# Squares of three tenths of a point, which at 600 dots per inch aren't those of 300 with dots of twice the side.
+POINTS = b"\x1bE" + b"".join(b"\x1b*p%dx100Y\x1b*c3h3v0P" % (100 + 9 * place) for place in range(40)) + b"\x0c\x1bE"
 # A page that drivers move by an offset.
 MOVED = b"\x1bE\x1b&l36U\x0c\x1b&l0U\x1b*p30x40Y\x1b*c90a90b0P\x0c\x1bE"
 
@@ -114,16 +118,9 @@ def kind_and_place(line):
     return pclmin.KINDS.index(words[0]), int(words[2])
 
 
-def first_accepted(runner, job):
-    """The first resolution at which a job is accepted, and 300 where there is none."""
-    return next((dpi for dpi in ("300", "600") if runner.said("pages", "--dpi", dpi, job)[2] == 0), "300")
-
-
 def compare_made(runner, call, words, job, resolution):
     """A call that makes bytes beside the program's command: the same bytes, or the same refusal."""
-    # `shrink` keeps the dots at one resolution, where the program goes on to the other
-    dpi = str(resolution) if resolution != 0 else first_accepted(runner, job) if words == ["shrink"] else "auto"
-    made, said, status = runner.said(*words, "--dpi", dpi, job)
+    made, said, status = runner.said(*words, "--dpi", "auto" if resolution == 0 else str(resolution), job)
     answer = runner.answers(*call, job)
     what = " ".join((*call, job))
     if status == 0:
@@ -196,6 +193,33 @@ def compare_certificates(runner, resolution, certificate_format, job):
         no = compare_verdict(runner, ["check"], ["check"], [job, output_name, certificate_name], resolution)
         runner.tell(not no.holds and no.line.startswith("not proved: "), f"{job} isn't proved by {output_name} and {certificate_name}")
     compare_verdict(runner, ["check"], ["check"], ["text.pcl", "job.min", "job.cert"], resolution)
+    compare_images(runner, resolution, job)
+
+
+def compare_images(runner, resolution, job):
+    """Checks beside images of pages: the job's own, others, those of an output that isn't the shortest, and an output that is refused."""
+    write("job.pbm", runner.said("pbm", "--dpi", str(resolution), job)[0])
+    call, words = ["check_pages"], ["check", "--page"]
+    for at in (resolution, 0):
+        yes = compare_verdict(runner, call, words, ["job.pbm", "job.min", "job.cert"], at)
+        yes = compare_verdict(runner, call, words, ["job.pbm", "job.min", "job.cert"], at)
+        runner.tell(yes.line == "proved\n", f"{job} is proved by its images")
+    for files in (["copies.pcl", "job.min", "job.cert"], ["job.pbm", "longer.min", "job.cert"], ["job.pbm", job, "job.cert"],
+                  ["job.pbm", "job.min", "other.cert"]):
+        no = compare_verdict(runner, call, words, files, resolution)
+        runner.tell(not no.holds, f"{job} isn't proved by {files}")
+    compare_verdict(runner, call, words, ["job.pbm", "text.pcl", "job.cert"], resolution)
+
+
+def check_points(runner):
+    """A job that is smaller for one resolution than for both."""
+    write("points.pcl", POINTS)
+    for resolution in (300, 600, 0):
+        compare_made(runner, ["shrink", str(resolution)], ["shrink"], "points.pcl", resolution)
+    both = pclmin.shrink(POINTS, 0)
+    runner.tell(pclmin.same(POINTS, both.bytes, 600).holds, "what is shrunk for both resolutions is the same at 600 dots per inch")
+    runner.tell(not pclmin.same(POINTS, pclmin.shrink(POINTS, 300).bytes, 600).holds, "what is shrunk for 300 dots per inch isn't")
+    runner.tell(both.resolution == 300, "the resolution is the first at which the job is accepted")
 
 
 def check_arguments(runner):
@@ -205,17 +229,26 @@ def check_arguments(runner):
                          (PAGES, "grey", "300", "0", "1", "8", "dot.pcl"), (RESOLUTION, "grey", "301", "0", "0", "8", "dot.pcl"),
                          *((SCALE, "grey", "300", "1", "1", scale, "dot.pcl") for scale in ("0", "33", "4294967295")),
                          (SCALE, "grey", "300", "1", "1", "0", "text.pcl"), (FORMAT, "min", "300", "3", "dot.pcl"),
-                         (RESOLUTION, "same", "72", "dot.pcl", "dot.pcl"),
+                         (RESOLUTION, "same", "72", "dot.pcl", "dot.pcl"), (RESOLUTION, "same_asked", "301", "dot.pcl", "text.pcl"),
+                         (RESOLUTION, "check_pages", "599", "dot.pcl", "dot.pcl", "dot.pcl"),
                          (RESOLUTION, "check", "1", "dot.pcl", "dot.pcl", "dot.pcl"), (RESOLUTION, "explain", "4294967295", "dot.pcl")):
         answer = runner.answers(*words)
         runner.tell(answer.fault == pclmin.WRONG_ARGUMENT and answer.line == line, f"{words} are wrong: {shown(answer)}")
         runner.tell(answer.bytes == b"" and answer.kind == 0 and answer.job == 0, f"{words} make nothing")
     for words in (("preview", "300", "0", "0", "-"), ("grey", "300", "0", "0", "8", "-"), ("min", "300", "1", "-"), ("shrink", "0", "-"),
-                  ("same", "600", "-", "-"),
+                  ("same", "600", "-", "-"), ("same_asked", "0", "-", "-"), ("check_pages", "300", "-", "-", "-"),
                   ("page_count", "300", "-"), ("pages", "300", "-"), ("explain", "300", "-"), ("check", "300", "-", "-", "-")):
         answer = runner.answers(*words)
         beside = runner.answers(*(word if word != "-" else "empty.pcl" for word in words))
         runner.tell(answer == beside and answer.fault == pclmin.DONE, f"{words} are an empty job: {shown(answer)}")
+
+
+def check_version(runner):
+    """The version that each client gets is the program's."""
+    wanted = runner.said("--version")[0]
+    told = [(name, subprocess.run([*command, "version"], capture_output=True).stdout) for name, command in runner.clients]
+    for name, version in (*told, ("Python", pclmin.version().encode() + b"\n")):
+        runner.tell(b"pclmin " + version == wanted, f"{name} gets the program's version: {version}")
 
 
 def check_python(runner):
@@ -295,6 +328,7 @@ def main():
         for resolution in (300, 600, 0):
             compare_jobs(runner, resolution, job)
     compare_made(runner, ["preview", "300", "1", "1"], ["pbm", "--page", "1"], "picture.pcl", 300)
+    write("simplex.pcl", SIMPLEX)
     write("moved.pcl", MOVED)
     compare_made(runner, ["preview", "300", "0", "0"], ["pbm", "--drivers"], "moved.pcl", 300)
     compare_made(runner, ["grey", "300", "0", "0", "8"], ["pgm", "--drivers", "--scale", "8"], "moved.pcl", 300)
@@ -302,15 +336,18 @@ def main():
         compare_made(runner, ["grey", "300", "0", "0", scale], ["pgm", "--drivers", "--scale", scale], "picture.pcl", 300)
     compare_made(runner, ["min", "300", "0"], ["min", "--quiet"], "picture.pcl", 300)
     compare_made(runner, ["shrink", "0"], ["shrink"], "picture.pcl", 0)
+    check_points(runner)
     for certificate_format in (1, 2):
         for resolution, job in ((300, "dot.pcl"), (300, "two.pcl"), (600, "fine.pcl"), (300, "empty.pcl")):
             compare_certificates(runner, resolution, certificate_format, job)
     for first, second in (("dot.pcl", "dot.pcl"), ("dot.pcl", "two.pcl"), ("two.pcl", "copies.pcl"), ("dot.pcl", "fine.pcl"),
-                          ("dot.pcl", "copies.pcl"), ("text.pcl", "dot.pcl"), ("dot.pcl", "range.pcl"), ("empty.pcl", "empty.pcl"),
-                          ("empty.pcl", "dot.pcl")):
+                          ("dot.pcl", "copies.pcl"), ("duplex.pcl", "simplex.pcl"), ("text.pcl", "dot.pcl"), ("dot.pcl", "range.pcl"),
+                          ("empty.pcl", "empty.pcl"), ("empty.pcl", "dot.pcl")):
         for resolution in (300, 0):
             compare_verdict(runner, ["same"], ["same"], [first, second], resolution)
+            compare_verdict(runner, ["same_asked"], ["same", "--asked"], [first, second], resolution)
     check_arguments(runner)
+    check_version(runner)
     check_python(runner)
     tests = subprocess.run([*runner.clients[0][1][:-1], os.path.join(BUILD, "tests")], capture_output=True, cwd=BUILD)
     print(tests.stdout.decode(), end="")

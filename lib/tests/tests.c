@@ -59,8 +59,21 @@ static int do_shrink(pclmin_answer *answer) {
     return pclmin_shrink(JOB, LENGTH, 300, answer);
 }
 
+static int do_shrink_at_each(pclmin_answer *answer) {
+    return pclmin_shrink(JOB, LENGTH, 0, answer);
+}
+
 static int do_same(pclmin_answer *answer) {
     return pclmin_same(JOB, LENGTH, JOB, LENGTH, 0, answer);
+}
+
+static int do_same_asked(pclmin_answer *answer) {
+    return pclmin_same_asked(JOB, LENGTH, JOB, LENGTH, 300, answer);
+}
+
+/* Images that the job doesn't print. */
+static int do_check_pages(pclmin_answer *answer) {
+    return pclmin_check_pages(JOB, 1, JOB, LENGTH, NULL, 0, 300, answer);
 }
 
 static int do_pages(pclmin_answer *answer) {
@@ -157,7 +170,25 @@ static void try_pointers(void) {
     pclmin_free(&answer);
     TEST(pclmin_check(JOB, LENGTH, JOB, LENGTH, JOB, (size_t)INT_MAX + 1, 0, &answer) == PCLMIN_TOO_LONG);
     pclmin_free(&answer);
+    TEST(pclmin_same_asked(NULL, 5, JOB, LENGTH, 300, &answer) == PCLMIN_WRONG_ARGUMENT && answer.line[0] != 0);
+    pclmin_free(&answer);
+    TEST(pclmin_same_asked(JOB, LENGTH, JOB, (size_t)INT_MAX + 1, 300, &answer) == PCLMIN_TOO_LONG);
+    pclmin_free(&answer);
+    TEST(pclmin_same_asked(JOB, LENGTH, JOB, LENGTH, 300, NULL) == PCLMIN_WRONG_ARGUMENT);
+    TEST(pclmin_check_pages(NULL, 5, JOB, LENGTH, JOB, LENGTH, 300, &answer) == PCLMIN_WRONG_ARGUMENT && answer.line[0] != 0);
+    pclmin_free(&answer);
+    TEST(pclmin_check_pages(JOB, LENGTH, JOB, LENGTH, NULL, 5, 300, &answer) == PCLMIN_WRONG_ARGUMENT);
+    pclmin_free(&answer);
+    TEST(pclmin_check_pages(JOB, (size_t)INT_MAX + 1, JOB, LENGTH, JOB, LENGTH, 300, &answer) == PCLMIN_TOO_LONG);
+    pclmin_free(&answer);
+    TEST(pclmin_check_pages(JOB, LENGTH, JOB, (size_t)INT_MAX + 1, JOB, LENGTH, 0, &answer) == PCLMIN_TOO_LONG);
+    pclmin_free(&answer);
+    TEST(pclmin_check_pages(JOB, LENGTH, JOB, LENGTH, JOB, LENGTH, 300, NULL) == PCLMIN_WRONG_ARGUMENT);
     /* A wrong number is answered whatever the job is. */
+    TEST(pclmin_check_pages(JOB, (size_t)INT_MAX + 1, JOB, LENGTH, JOB, LENGTH, 301, &answer) == PCLMIN_WRONG_ARGUMENT);
+    pclmin_free(&answer);
+    TEST(pclmin_same_asked(JOB, (size_t)INT_MAX + 1, JOB, LENGTH, 301, &answer) == PCLMIN_WRONG_ARGUMENT);
+    pclmin_free(&answer);
     TEST(pclmin_page_count(JOB, (size_t)INT_MAX + 1, 301, &answer) == PCLMIN_WRONG_ARGUMENT);
     pclmin_free(&answer);
     TEST(pclmin_min(JOB, (size_t)INT_MAX + 1, 300, 3, &answer) == PCLMIN_WRONG_ARGUMENT);
@@ -180,7 +211,10 @@ int main(void) {
     run_out("grey", do_grey);
     run_out("min", do_min);
     run_out("shrink", do_shrink);
+    run_out("shrink at each resolution", do_shrink_at_each);
     run_out("same", do_same);
+    run_out("same_asked", do_same_asked);
+    run_out("check_pages", do_check_pages);
     run_out("pages", do_pages);
     run_out("explain", do_explain);
     run_out("a refusal", do_refused);

@@ -1,5 +1,5 @@
 -- What an answer tells.
-use Rattle.std.specs.Prelude.{◌≡◌, ◌≢◌, ◌⊎◌, ◌↔◌, ℕ, ◌≤◌, false, List, [], ◌∷◌, ◌++◌, length, IsTrue}
+use Rattle.std.specs.Prelude.{◌≡◌, ◌≢◌, ◌⊎◌, ◌↔◌, ℕ, ◌≤◌, Bool, List, [], ◌∷◌, ◌++◌, length, IsTrue}
 use Rattle.std.specs.Prelude.{Option, Some, None, Result, Ok, Err}
 use Rattle.std.specs.declared.alloc.AllocError.{AllocError}
 use Rattle.std.specs.Global.{Vec}
@@ -11,12 +11,13 @@ use Rattle.pcl_base.specs.Dpi.{dots_per_inch}
 use Rattle.pcl_base.specs.Kind.{kind_number}
 use Rattle.pcl_page.specs.Situation.{Sheet}
 use Rattle.pcl_page.specs.Jobs.{HasPagesBy}
-use Rattle.pcl_page.specs.Accepting.{IsAccepted}
+use Rattle.pcl_page.specs.Accepting.{IsAccepted, IsFirstAccepted}
 use Rattle.pcl_page.specs.Delivering.{IsRefusalBy}
 use Rattle.pcl_cert.specs.declared.format.Format.{Format}
 use Rattle.pcl_streams.specs.declared.fault.Fault.TheVariants as run
-use Rattle.pcl_tool.specs.declared.job_verdict.JobVerdict.{JobVerdict}
-use Rattle.pcl_tool.specs.declared.job_verdict.JobVerdict.TheVariants as verdicts
+use Rattle.pcl_tool.specs.declared.job_verdict.JobVerdict.TheVariants.{Proved}
+use Rattle.pcl_tool.specs.declared.job_verdict.CheckAnswer.{CheckAnswer}
+use Rattle.pcl_tool.specs.declared.job_verdict.CheckAnswer.TheVariants as checked
 use Rattle.pcl_streams.specs.declared.form.ImageForm.{ImageForm}
 use Rattle.pcl_streams.specs.declared.form.ImageForm.TheVariants.{Greymap}
 use Rattle.pcl_streams.specs.declared.form.Scale.{Scale}
@@ -24,18 +25,19 @@ use Rattle.pcl_streams.specs.declared.page_images.PageChoice.{PageChoice}
 use Rattle.pcl_streams.specs.PageImages.{AreImagesIn, LacksPage}
 use Rattle.pcl_tool.specs.Minimizing.{IsCertifiedJobOf, input_limit}
 use Rattle.pcl_tool.specs.Writing.{IsWrittenJob}
-use Rattle.pcl_tool.specs.JobVerdicts.{IsJobVerdict}
 use Rattle.pcl_same.specs.declared.comparison.AskedComparison.{AskedComparison}
 use Rattle.pcl_same.specs.declared.comparison.AskedComparison.TheVariants as comparisons
+use Rattle.pcl_request.specs.declared.request.Beside.{Beside}
+use Rattle.pcl_answers.specs.Checks.{IsAnswerBeside}
 use Rattle.pcl_answers.specs.Comparisons.{IsComparisonFor}
 use Rattle.pcl_page.specs.declared.doubts.Readers.TheVariants.{Printers}
-use Rattle.pcl_shrink.specs.Shrinking.{IsWrittenFor}
+use Rattle.pcl_shrink.specs.Shrinking.{IsWrittenFor, IsWrittenEverywhere, IsRefusedEverywhere}
 use Rattle.pcl_explain.specs.Findings.{Explains}
 use Rattle.pcl_same.specs.declared.fault.Job.{Job}
 use Rattle.pcl_same.specs.declared.fault.Job.TheVariants.{First, Second}
 use Rattle.pcl_answers.specs.declared.comparisons.CompareFault.TheVariants as compare
 use Rattle.pcl_files.specs.Messages.{line_of}
-use Rattle.pcl_answers.specs.Verdicts.{verdict_line_of}
+use Rattle.pcl_answers.specs.Verdicts.{answer_line_of}
 use Rattle.pcl_answers.specs.ComparisonLines.{comparison_line_of, compare_line_of}
 use Rattle.pcl_library.specs.Arguments.{IsSeen, AreSeen, IsChoiceFor, IsScaleFor, IsFormatFor, IsPerformed}
 use Rattle.pcl_library.specs.Failures.{argument_line, outcome_of, job_number}
@@ -162,19 +164,36 @@ IsOfAccepted job dpi answer = IsAccepted Drivers dpi job
 abbrev pub HasExplanation : List ℕ → Dpi → Answer → Type 0
 HasExplanation job dpi answer = Explains Drivers dpi job answer.made.now
 
--- the right verdict on a job, its output and a certificate; it holds where that is Proved
-pub record HasVerdict (input output certificate : List ℕ) (dpi : Dpi) (answer : Answer) : Type 0 where
-  pub verdict : JobVerdict
-  pub right : IsJobVerdict dpi input output certificate verdict
-  pub line : IsLine (verdict_line_of verdict) answer.line.now
-  pub holds : IsTrue answer.holds ↔ (verdict ≡ verdicts.Proved)
+-- the right answer of a check of an output by a certificate, beside its input or images of its pages; it holds where that is Proved
+pub record HasVerdict (beside : Beside) (input output certificate : List ℕ) (dpi : Dpi) (answer : Answer) : Type 0 where
+  pub given : CheckAnswer
+  pub right : IsAnswerBeside beside dpi input output certificate given
+  pub line : IsLine (answer_line_of given) answer.line.now
+  pub holds : IsTrue answer.holds ↔ (given ≡ checked.Job Proved)
+
+-- ---- a job shrunk at each resolution at which it is accepted
+
+-- what an answer tells of this, where the resolution is the first of these
+pub record ShrinksAt (dpi : Dpi) (job : List ℕ) (answer : Answer) : Type 0 where
+  pub performed : IsPerformed answer.outcome
+  pub no_page : answer.outcome ≢ 2
+  pub done : answer.outcome ≡ 0 → (answer.resolution ≡ dots_per_inch dpi) × IsWrittenEverywhere Printers Drivers job answer.made.now
+  pub refused : answer.outcome ≡ 1 → (refusal : Refusal) × IsRefusedEverywhere Drivers job refusal × TellsRefusal refusal answer
+
+-- the same at the first, whichever that is
+pub record Shrinks (job : List ℕ) (answer : Answer) : Type 0 where
+  pub no_page : answer.outcome ≢ 2
+  pub done : answer.outcome ≡ 0
+      → (dpi : Dpi) × IsFirstAccepted Drivers job dpi × (answer.resolution ≡ dots_per_inch dpi)
+      × IsWrittenEverywhere Printers Drivers job answer.made.now
+  pub refused : answer.outcome ≡ 1 → (refusal : Refusal) × IsRefusedEverywhere Drivers job refusal × TellsRefusal refusal answer
 
 -- ---- two jobs
 
--- the right comparison of two jobs; it holds where they are the same
-pub record HasComparison (first second : List ℕ) (dpi : Dpi) (answer : Answer) : Type 0 where
+-- the right comparison of two jobs, with what they ask of the printer where that is wanted; it holds where they are the same
+pub record HasComparison (asks : Bool) (first second : List ℕ) (dpi : Dpi) (answer : Answer) : Type 0 where
   pub comparison : AskedComparison
-  pub right : IsComparisonFor false Drivers dpi first second comparison
+  pub right : IsComparisonFor asks Drivers dpi first second comparison
   pub line : IsLine (comparison_line_of comparison) answer.line.now
   pub holds : IsTrue answer.holds ↔ (comparison ≡ comparisons.Same)
 
@@ -185,15 +204,15 @@ TellsOneRefused dpi first second answer =
     ⊎ ((refusal : Refusal) × IsRefusalBy Drivers dpi second refusal × TellsRefusalOf Second refusal answer)
 
 -- what an answer tells at a resolution
-pub record ComparesAt (dpi : Dpi) (first second : List ℕ) (answer : Answer) : Type 0 where
+pub record ComparesAt (asks : Bool) (dpi : Dpi) (first second : List ℕ) (answer : Answer) : Type 0 where
   pub performed : IsPerformed answer.outcome
   pub no_page : answer.outcome ≢ 2
-  pub done : answer.outcome ≡ 0 → (answer.resolution ≡ dots_per_inch dpi) × HasComparison first second dpi answer
+  pub done : answer.outcome ≡ 0 → (answer.resolution ≡ dots_per_inch dpi) × HasComparison asks first second dpi answer
   pub refused : answer.outcome ≡ 1 → TellsOneRefused dpi first second answer
 
 -- the same at the resolution at which the jobs are seen by a number
-pub record Compares (number : ℕ) (first second : List ℕ) (answer : Answer) : Type 0 where
+pub record Compares (asks : Bool) (number : ℕ) (first second : List ℕ) (answer : Answer) : Type 0 where
   pub no_page : answer.outcome ≢ 2
   pub done : answer.outcome ≡ 0
-      → (dpi : Dpi) × AreSeen number first second dpi × (answer.resolution ≡ dots_per_inch dpi) × HasComparison first second dpi answer
+      → (dpi : Dpi) × AreSeen number first second dpi × (answer.resolution ≡ dots_per_inch dpi) × HasComparison asks first second dpi answer
   pub refused : answer.outcome ≡ 1 → (dpi : Dpi) × AreSeen number first second dpi × TellsOneRefused dpi first second answer

@@ -14,8 +14,11 @@ use pcl_streams::Scale;
 use pcl_tool::{Fault, INPUT_LIMIT, PageChoice};
 use std::alloc::Global;
 
-/// The resolution at which a job that is read by a profile is seen by the number of one: 300 or 600 dots per inch, or 0 for the first of these at which the
-/// job is accepted.
+/// The number that leaves the resolution to the jobs.
+pub const FIRST_ACCEPTED: u32 = 0;
+
+/// The resolution at which a job that is read by a profile is seen by the number of one: 300 or 600 dots per inch, or 0 for the first
+/// of these at which the job is accepted.
 pub fn seen_at(alloc: Global, job: &[u8], profile: Profile, resolution: u32) -> Result<Dpi, Failure>
     ensures seen { IfOk result (IsSeen profile resolution job.now) }
     ensures unperformed { IfErr result IsUnperformed }
@@ -59,7 +62,7 @@ pub fn resolution_numbered(number: u32) -> Result<Resolution, Failure>
     ensures { IsResolutionOf number result }
 {
     match number {
-        0 => Ok(Resolution::FirstAccepted),
+        FIRST_ACCEPTED => Ok(Resolution::FirstAccepted),
         300 => Ok(Resolution::Given(Dpi::Dpi300)),
         600 => Ok(Resolution::Given(Dpi::Dpi600)),
         _ => Err(Failure::Wrong(Argument::Resolution)),

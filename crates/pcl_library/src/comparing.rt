@@ -1,6 +1,6 @@
 //! Two jobs compared.
 
-ghost use Rattle.std.specs.Prelude.{◌⊎◌};
+ghost use Rattle.std.specs.Prelude.{◌⊎◌, false, true};
 ghost use Rattle.pcl_library.specs.Arguments.{IsNoResolution, IsTooLong, FailsBy};
 ghost use Rattle.pcl_library.specs.Answers.{Compares, ComparesAt};
 
@@ -20,20 +20,43 @@ pub extern "C" fn pcl_library_same(
     resolution: u32,
     answer: &mut Answer,
 )
-    ensures told { Compares resolution first.now second.now answer.new }
+    ensures told { Compares false resolution first.now second.now answer.new }
     ensures arguments { FailsBy (IsNoResolution resolution) (IsTooLong first.now ⊎ IsTooLong second.now) answer.new.outcome }
 {
-    *answer = match both_seen_at(alloc, first, second, resolution) {
-        Ok(dpi) => same_answer(alloc, first, second, dpi),
-        Err(failure) => Answer::of_failure(alloc, &failure, 0),
-    };
+    *answer = seen_answer(alloc, false, first, second, resolution);
 }
 
-/// Whether two jobs have the same pages.
-fn same_answer(alloc: Global, first: &[u8], second: &[u8], dpi: Dpi) -> Answer
-    ensures { ComparesAt dpi first.now second.now result }
+/// `pclmin_same_asked`: whether two jobs have the same pages and ask the printer for the same. The line says what differs first.
+#[unsafe(no_mangle)]
+pub extern "C" fn pcl_library_same_asked(
+    alloc: Global,
+    first: &[u8],
+    second: &[u8],
+    resolution: u32,
+    answer: &mut Answer,
+)
+    ensures told { Compares true resolution first.now second.now answer.new }
+    ensures arguments { FailsBy (IsNoResolution resolution) (IsTooLong first.now ⊎ IsTooLong second.now) answer.new.outcome }
 {
-    match compare_jobs(alloc, false, first, second, Profile::Drivers, dpi) {
+    *answer = seen_answer(alloc, true, first, second, resolution);
+}
+
+/// Whether two jobs are the same at the resolution at which they are seen by a number; what they ask counts where that is wanted.
+fn seen_answer(alloc: Global, asks: bool, first: &[u8], second: &[u8], resolution: u32) -> Answer
+    ensures told { Compares asks resolution first.now second.now result }
+    ensures arguments { FailsBy (IsNoResolution resolution) (IsTooLong first.now ⊎ IsTooLong second.now) result.outcome }
+{
+    match both_seen_at(alloc, first, second, resolution) {
+        Ok(dpi) => same_answer(alloc, asks, first, second, dpi),
+        Err(failure) => Answer::of_failure(alloc, &failure, 0),
+    }
+}
+
+/// The same at a resolution.
+fn same_answer(alloc: Global, asks: bool, first: &[u8], second: &[u8], dpi: Dpi) -> Answer
+    ensures { ComparesAt asks dpi first.now second.now result }
+{
+    match compare_jobs(alloc, asks, first, second, Profile::Drivers, dpi) {
         Ok(comparison) => {
             let line = comparison_line(alloc, &comparison);
             Answer::of_line(line, comparison.is_same(), dpi)

@@ -1,16 +1,16 @@
 //! Jobs written again.
 
-ghost use Rattle.std.specs.Prelude.{◌⊎◌, Some, None};
+ghost use Rattle.std.specs.Prelude.{◌≡◌, ◌≢◌, ◌⊎◌, Some, None};
 ghost use Rattle.pcl_base.specs.declared.profile.Profile.TheVariants.{Stated, Drivers};
 ghost use Rattle.pcl_library.specs.Arguments.{IsNoResolution, IsNoFormat, IsTooLong, FailsBy};
-ghost use Rattle.pcl_library.specs.Answers.{Answers, AnswersAt, HasLeastJob, HasWrittenJob, HasSmallerJob};
+ghost use Rattle.pcl_library.specs.Answers.{Answers, AnswersAt, HasLeastJob, HasWrittenJob, HasSmallerJob, Shrinks, ShrinksAt};
 
 use crate::answer::Answer;
-use crate::arguments::{format_numbered, seen_at};
+use crate::arguments::{FIRST_ACCEPTED, format_numbered, seen_at};
 use crate::failure::Failure;
 use pcl_base::{Dpi, Profile};
 use pcl_cert::Format;
-use pcl_shrink::{Readers, shrink};
+use pcl_shrink::{Readers, shrink, shrink_everywhere};
 use pcl_tool::{Fault, INPUT_LIMIT, Unwatched, least_job, minimize};
 use std::alloc::Global;
 
@@ -79,7 +79,7 @@ fn certified_answer(alloc: Global, job: &[u8], format: Format, dpi: Dpi) -> Answ
 }
 
 /// `pclmin_shrink`: the smallest job that is found with the same pages, which asks the printer for the same; the job as it came where
-/// printers may read that otherwise.
+/// printers may read that otherwise. Where the resolution is left to the job, that is so at each at which it is accepted.
 #[unsafe(no_mangle)]
 pub extern "C" fn pcl_library_shrink(
     alloc: Global,
@@ -87,20 +87,32 @@ pub extern "C" fn pcl_library_shrink(
     resolution: u32,
     answer: &mut Answer,
 )
-    ensures told { Answers Drivers resolution job.now (HasSmallerJob job.now) answer.new }
+    ensures at_one { resolution ≢ 0 → Answers Drivers resolution job.now (HasSmallerJob job.now) answer.new }
+    ensures at_each { resolution ≡ 0 → Shrinks job.now answer.new }
     ensures arguments { FailsBy (IsNoResolution resolution) (IsTooLong job.now) answer.new.outcome }
 {
     *answer = match seen_at(alloc, job, Profile::Drivers, resolution) {
+        Ok(dpi) if resolution == FIRST_ACCEPTED => everywhere_answer(alloc, job, dpi),
         Ok(dpi) => shrink_answer(alloc, job, dpi),
         Err(failure) => Answer::of_failure(alloc, &failure, 0),
     };
 }
 
-/// The smallest job that is found, for printers.
+/// The smallest job that is found, for printers, at a resolution.
 fn shrink_answer(alloc: Global, job: &[u8], dpi: Dpi) -> Answer
     ensures { AnswersAt Drivers dpi job.now (HasSmallerJob job.now dpi) result }
 {
     match shrink(alloc, job, Profile::Drivers, dpi, Readers::Printers) {
+        Ok(shrunk) => Answer::of_bytes(shrunk.job, dpi),
+        Err(fault) => Answer::of_failure(alloc, &Failure::from(fault), 0),
+    }
+}
+
+/// The same at each resolution at which the job is accepted, of which this is the first.
+fn everywhere_answer(alloc: Global, job: &[u8], dpi: Dpi) -> Answer
+    ensures { ShrinksAt dpi job.now result }
+{
+    match shrink_everywhere(alloc, job, Profile::Drivers, Readers::Printers) {
         Ok(shrunk) => Answer::of_bytes(shrunk.job, dpi),
         Err(fault) => Answer::of_failure(alloc, &Failure::from(fault), 0),
     }
