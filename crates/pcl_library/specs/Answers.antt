@@ -28,6 +28,7 @@ use Rattle.pcl_tool.specs.Writing.{IsWrittenJob}
 use Rattle.pcl_same.specs.declared.comparison.AskedComparison.{AskedComparison}
 use Rattle.pcl_same.specs.declared.comparison.AskedComparison.TheVariants as comparisons
 use Rattle.pcl_request.specs.declared.request.Beside.{Beside}
+use Rattle.pcl_request.specs.declared.request.Layout.TheVariants.{Text}
 use Rattle.pcl_answers.specs.Checks.{IsAnswerBeside}
 use Rattle.pcl_answers.specs.Comparisons.{IsComparisonFor}
 use Rattle.pcl_page.specs.declared.doubts.Readers.TheVariants.{Printers}
@@ -168,7 +169,7 @@ HasExplanation job dpi answer = Explains Drivers dpi job answer.made.now
 pub record HasVerdict (beside : Beside) (input output certificate : List ℕ) (dpi : Dpi) (answer : Answer) : Type 0 where
   pub given : CheckAnswer
   pub right : IsAnswerBeside beside dpi input output certificate given
-  pub line : IsLine (answer_line_of given) answer.line.now
+  pub line : IsLine (answer_line_of Text given) answer.line.now
   pub holds : IsTrue answer.holds ↔ (given ≡ checked.Job Proved)
 
 -- ---- a job shrunk at each resolution at which it is accepted

@@ -6,6 +6,7 @@ ghost use Rattle.pcl_base.specs.declared.profile.Profile.TheVariants.{Stated};
 ghost use Rattle.pcl_tool.specs.declared.job_verdict.JobVerdict.TheVariants.{Proved};
 ghost use Rattle.pcl_tool.specs.declared.job_verdict.CheckAnswer.TheVariants.{Job};
 ghost use Rattle.pcl_request.specs.declared.request.Beside.TheVariants.{Input, Images};
+ghost use Rattle.pcl_request.specs.declared.request.Layout.TheVariants.{Text};
 ghost use Rattle.pcl_answers.specs.Verdicts.{answer_line_of};
 ghost use Rattle.pcl_library.specs.Arguments.{IsSeen, IsNoResolution, IsTooLong, FailsBy, outcome_in};
 ghost use Rattle.pcl_library.specs.Failures.{IsUnperformed};
@@ -17,6 +18,7 @@ use crate::failure::Failure;
 use pcl_answers::answer_line;
 use pcl_base::{Dpi, Profile};
 use pcl_files::resolve;
+use pcl_request::Layout;
 use pcl_tool::{CheckAnswer, JobVerdict, Unwatched, check_images, check_job};
 use std::alloc::Global;
 
@@ -118,9 +120,9 @@ fn images_answer(
 fn verdict_answer(alloc: Global, given: CheckAnswer, dpi: Dpi) -> Answer
     ensures outcome { result.outcome ≡ 0 }
     ensures resolution { result.resolution ≡ dots_per_inch dpi }
-    ensures line { IsLine (answer_line_of given) result.line.now }
+    ensures line { IsLine (answer_line_of Text given) result.line.now }
     ensures holds { IsTrue result.holds ↔ (given ≡ Job Proved) }
 {
     let holds = matches!(given, CheckAnswer::Job(JobVerdict::Proved));
-    Answer::of_line(answer_line(alloc, &given), holds, dpi)
+    Answer::of_line(answer_line(alloc, Layout::Text, &given), holds, dpi)
 }
