@@ -124,18 +124,23 @@ def call_in_process(call, numbers, job, is_awaited):
     return answer
 
 
+def feed(pipe, job):
+    """Gives a process its job, which it may end without."""
+    with contextlib.suppress(OSError), pipe:
+        pipe.write(job)
+
+
 def awaited(process, job, deadline, is_awaited):
     """What a process writes that gets a job, until a deadline, and as long as somebody waits."""
-    given = job
-    while True:
+    threading.Thread(target=feed, args=(process.stdin, job), daemon=True).start()
+    process.stdin = None
+    while time.monotonic() < deadline:
         try:
-            return process.communicate(given, timeout=PATIENCE)[0]
+            return process.communicate(timeout=PATIENCE)[0]
         except subprocess.TimeoutExpired:
-            given = None
-        if not is_awaited():
-            raise Gone
-        if time.monotonic() > deadline:
-            return b""
+            if not is_awaited():
+                raise Gone from None
+    return b""
 
 
 class Fault(Exception):
