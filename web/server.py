@@ -183,18 +183,19 @@ class Kept:
     """Jobs and answers, by names: what was used longest ago goes first, where there is no room or its time is over."""
 
     def __init__(self, size, number, seconds):
-        self.left, self.number, self.seconds = size, number, seconds
+        self.size, self.left, self.number, self.seconds = size, size, number, seconds
         self.entries, self.lock = collections.OrderedDict(), threading.Lock()
 
     def keep(self, name, content):
         """Keeps this for some time, unless it has more bytes than there is room."""
+        if len(content) > self.size:
+            return
         with self.lock:
             self.drop(name)
-            while self.entries and (len(content) > self.left or len(self.entries) >= self.number):
+            while len(content) > self.left or len(self.entries) >= self.number:
                 self.drop(next(iter(self.entries)))
-            if len(content) <= self.left:
-                self.entries[name] = time.monotonic(), content
-                self.left -= len(content)
+            self.entries[name] = time.monotonic(), content
+            self.left -= len(content)
 
     def found(self, name):
         """What is kept by a name, which is used now; None where there is nothing."""
