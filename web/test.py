@@ -807,8 +807,11 @@ def test_where(held, browser, program, port):
                   f"colours that take long are said to: {browser.value('element(`note`).textContent')}")
         browser.wait("waiting === 0")
     held.tell(not browser.value("element('small').hidden && element('page').hidden"), "and the page is seen without")
-    browser.value("element('colours').click()")
     browser.forget_status(504)
+    open_job(held, browser, program, "lettered.pcl")
+    held.tell(browser.wait("element('view').dataset.coloured === '1' && waiting === 0") and browser.value(LEGEND)[-1] == rows[-1],
+              "the next job is in colours too")
+    browser.value("element('colours').click()")
 
 
 def test_keys(held, browser, program):
