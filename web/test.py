@@ -146,7 +146,7 @@ def test_server(held, port, program, jobs):
     with changed(server, SECONDS=1):
         status, body = asked(port, "/pages/300", SLOW)
     held.tell(status == 504 and body.count(b"\n") == 1, f"a job that takes long ends in one line: {status} {body[:200]}")
-    status, body = asked(port, "/grey/300/1/16/1", MANY)
+    status, body = asked(port, "/preview/300/0/0", MANY)
     held.tell(status == 413 and body.count(b"\n") == 1, f"an answer that is too long is a line: {status} {body[:200]}")
     connection = http.client.HTTPConnection("127.0.0.1", port, timeout=PATIENCE)
     connection.request("POST", "/pages/300", SLOW)
