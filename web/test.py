@@ -2,18 +2,24 @@
 """The page of this folder beside the program, in Chromium without a window: jobs are opened, the dots on the canvas are those of
 `pclmin pbm`, the greys of a smaller page the means of these dots, the small pictures those of `pclmin pgm`, the sizes, the copies and
 what is asked those of `pclmin pages`. One job is refused with its place marked among its bytes, what is saved is what `pclmin shrink`
-writes, and a dropped file is opened too.
-Keys turn pages, nothing moves when a job is shrunk, and the page is used at the size of a phone. The server is asked for more than it
-takes. Where there is no Chromium the server alone is tested, and a line says so. Prints what doesn't hold and how much does; status 1
-if something doesn't.
+writes, and a dropped file is opened too. Keys turn pages, nothing moves when a job is shrunk, and the page is used at the size of a
+phone and in two tabs.
+
+The first of many pages is shown before the others are known, and what a job is asked for twice is made once. A page in colours has the
+program's dots, each in one colour, and the bytes that are told are those of the job. The server is asked for more than it takes, and
+for what takes too long. Where there is no Chromium the server alone is tested, and a line says so. Prints what doesn't hold and how
+much does; status 1 if something doesn't.
 
     web/test.py [PROGRAM] [--picture FILE]     PROGRAM is crates/pclmin/out/pclmin where none is given; FILE gets a picture of the page
 """
 import argparse
 import base64
+import contextlib
 import hashlib
+import functools
 import http.client
 import json
+import operator
 import os
 import random
 import shutil
@@ -40,10 +46,29 @@ JOBS = {
     "refused.pcl": b"\x1bE\x1b&l2A\x1b*p300x300Y\x1b*c90a90b0P Hello, printer\r\n\x0c\x1bE",
 }
 REFUSED = "refused.pcl"
-PAGES = 30
+PAGES = 87
 MANY = b"\x1bE" + b"".join(b"\x1b*p300x%dY\x1b*c900a30b0P\x0c" % (90 * page) for page in range(PAGES)) + b"\x1bE"
+# The first takes hours, and the second more than a second, but by bench/colours.py alone.
+SLOW = b"\x1bE\x1b*c2400a3300b" + b"0p1p" * 200_000 + b"0P\x1bE"
+SLOW_IN_COLOURS = b"\x1bE\x1b*c2400a3300b" + b"0p1p" * 500 + b"0P\x1bE"
 SIDES = {0: "one side", 1: "both sides, long edge", 2: "both sides, short edge"}
 PATIENCE = 60
+
+
+def lettered():
+    """A job with letters of a font and of a macro, a rectangle and a white one, a raster, and a second page."""
+    chance = random.Random(7)
+    font = bytearray(64)
+    font[0:2], font[3], font[13], font[16:18] = b"\0\x40", 2, 1, b"\0\x78"
+    job = b"\x1bE\x1b&l2a0E\x1b*c1D\x1b)s64W" + bytes(font)
+    for code in b"abc":
+        bits = bytes(chance.randrange(256) for _ in range(3 * 30))
+        data = bytes([4, 0, 14, 1, 0, 0, 0, 2, 0, 30, 0, 24, 0, 30, 0, 100]) + bits
+        job += b"\x1b*c%dE\x1b(s%dW" % (code, len(data)) + data
+    job += b"\x1b&f7y0X\x1b*t300R\x1b*r1A\x1b*b2W\xff\x18\x1b*rC\x1b&f1X\x1b(1X\x1b*p300x400Yabcab\x1b*p900x400Ycc"
+    job += b"\x1b*p310x390Y\x1b*c50a60b0P\x1b*p315x395Y\x1b*c10a10b1P"
+    job += b"\x1b*p400x900Y\x1b*r1A" + b"\x1b*b4W\xaa\x55\xf0\x0f" * 40 + b"\x1b*rC"
+    return job + b"".join(b"\x1b*p%dx1200Y\x1b&f7y3X" % (300 * place) for place in range(1, 5)) + b"\f\x1b*p600x600Yabc\f\x1bE"
 
 
 class Held:
@@ -118,11 +143,133 @@ def test_server(held, port, program, jobs):
         status, body = asked(port, path, body, headers)
         held.tell(status == wanted and body.count(b"\n") == 1,
                   f"{path} with {str(headers)[:60]} has status {wanted} and one line: {status} {body}")
-    slow = b"\x1bE\x1b*c2400a3300b" + b"0p1p" * 200_000 + b"0P\x1bE"
-    seconds, server.SECONDS = server.SECONDS, 1
-    status, body = asked(port, "/pages/300", slow)
-    server.SECONDS = seconds
+    with changed(server, SECONDS=1):
+        status, body = asked(port, "/pages/300", SLOW)
     held.tell(status == 504 and body.count(b"\n") == 1, f"a job that takes long ends in one line: {status} {body[:200]}")
+    status, body = asked(port, "/preview/300/0/0", MANY)
+    held.tell(status == 413 and body.count(b"\n") == 1, f"an answer that is too long is a line: {status} {body[:200]}")
+    connection = http.client.HTTPConnection("127.0.0.1", port, timeout=PATIENCE)
+    connection.request("POST", "/pages/300", SLOW)
+    held.tell(in_time(lambda: not has_turns()), "a job that takes long has a turn")
+    connection.close()
+    held.tell(in_time(has_turns), "and loses it when nobody waits any more")
+
+
+@contextlib.contextmanager
+def changed(thing, **values):
+    """Gives attributes other values for a block."""
+    before = {name: getattr(thing, name) for name in values}
+    for name, value in values.items():
+        setattr(thing, name, value)
+    try:
+        yield
+    finally:
+        for name, value in before.items():
+            setattr(thing, name, value)
+
+
+def has_turns():
+    """Whether no call runs."""
+    turns = server.Handler.running
+    taken = [turns.acquire(blocking=False) for _ in range(server.CALLS)]
+    for _ in filter(None, taken):
+        turns.release()
+    return all(taken)
+
+
+class Calls:
+    """Notes which calls the server makes, and holds some back."""
+
+    def __init__(self, *held_back):
+        self.made, self.held_back, self.free, self.plain = [], held_back, threading.Event(), server.call_in_process
+
+    def __call__(self, call, numbers, job, is_awaited):
+        self.made.append((call, *numbers))
+        if call in self.held_back:
+            self.free.wait(PATIENCE)
+        return self.plain(call, numbers, job, is_awaited)
+
+
+def keep(port, job):
+    """The path of a job that the server keeps from now on."""
+    return "/kept/" + json.loads(asked(port, "/keep", job)[1])["digest"]
+
+
+def test_kept(held, port, program, jobs):
+    """What is asked of jobs that the server keeps: it is the same, and made once."""
+    for name in jobs:
+        with open(os.path.join(program.folder, name), "rb") as file:
+            job = file.read()
+        path = keep(port, job)
+        held.tell(path == "/kept/" + hashlib.sha256(job).hexdigest(), f"{name} is kept by its digest: {path}")
+        for call in ("/count/0", "/pages/0", "/preview/0/1/1", "/grey/0/1/1/8", "/shrink/0", "/explain/0", "/preview/0/1/9"):
+            wanted, calls = asked(port, call, job), Calls()
+            with changed(server, call_in_process=calls):
+                got = [asked(port, path + call, None) for _ in range(2)]
+            held.tell(got == [wanted] * 2, f"{call} of {name} is the same where it is kept")
+            is_image = json.loads(wanted[1].split(b"\n", 1)[0])["fault"] == 0
+            held.tell(len(calls.made) == 1 or not is_image, f"{call} of {name} is made once: {calls.made}")
+    path, calls = keep(port, MANY), Calls()
+    with changed(server, call_in_process=calls):
+        pages = [asked(port, path + call, None)[1].split(b"\n", 1)[1] for call in ("/count/0", "/preview/300/9/9", "/preview/300/16/16")]
+        greys = [asked(port, path + f"/grey/300/{first}/{min(first + 7, PAGES)}/15", None)[1] for first in range(1, PAGES + 1, 8)]
+    held.tell(sorted(calls.made) == [("count", 0), ("grey", 300, 1, 64, 15), ("grey", 300, 65, PAGES, 15), ("preview", 300, 9, 16)],
+              f"pages are made together: {calls.made}")
+    with open(os.path.join(program.folder, "many.pcl"), "wb") as file:
+        file.write(MANY)
+    for page, made in zip((9, 16), pages[1:]):
+        held.tell(made == program.run("pbm", "--page", str(page), "many.pcl")[0], f"page {page} is the program's")
+    made = b"".join(grey.split(b"\n", 1)[1] for grey in greys)
+    held.tell(made == program.run("pgm", "--drivers", "--scale", "15", "many.pcl")[0], "the greys of many pages are the program's")
+    for path, body, headers, wanted in (("/kept/0/pages/0", None, {}, 410), ("/kept", None, {}, 404), (path, None, {}, 404),
+                                        (path + "/remove/0", None, {}, 404), (path + "/pages/0", b"job", {}, 400),
+                                        (path + "/pages/0", None, {"Host": "example.com"}, 403), ("/keep", None, {"Host": "a"}, 403)):
+        status, body = asked(port, path, body, headers)
+        held.tell(status == wanted and body.count(b"\n") == 1, f"{path} has status {wanted} and one line: {status} {body[:200]}")
+
+
+def test_room(held):
+    """What is kept goes where there is no room, and when its time is over."""
+    kept = server.Kept(100, 3, 60)
+    for name, size in (("a", 40), ("b", 30), ("c", 30)):
+        kept.keep(name, b"0" * size)
+    held.tell(kept.found("a") == b"0" * 40 and kept.left == 0, "as many bytes are kept as there is room for")
+    kept.keep("d", b"0" * 20)
+    held.tell(list(kept.entries) == ["c", "a", "d"] and kept.left == 10, f"what was used longest ago goes first: {list(kept.entries)}")
+    kept.keep("e", b"0")
+    held.tell(list(kept.entries) == ["a", "d", "e"], f"and goes where there are too many: {list(kept.entries)}")
+    kept.keep("f", b"0" * 101)
+    held.tell(kept.found("f") is None and len(kept.entries) == 3, "what has no room at all isn't kept, and nothing goes for it")
+    kept.keep("g", b"0")
+    kept.seconds = -1
+    kept.forget()
+    held.tell(not kept.entries and kept.left == 100, "what isn't used any more goes")
+
+
+def test_colours(held, port, program, jobs):
+    """A page in colours has the program's dots, each in one colour; what bytes are for is all bytes of the job."""
+    for name in jobs:
+        with open(os.path.join(program.folder, name), "rb") as file:
+            came = file.read()
+        resolution = program.resolution(name)
+        for job in (came, asked(port, "/shrink/" + resolution, came)[1].split(b"\n", 1)[1]):
+            listed, images = asked(port, f"/colours/{resolution}/1", job)[1].split(b"\n", 2)[1:]
+            layers = [int.from_bytes(image.split(b"\n", 2)[2], "big") for image in server.split_images(images)]
+            whole = program.run("pbm", "--drivers", "--dpi", resolution, "--page", "1", name)[0]
+            dots = int.from_bytes(whole.split(b"\n", 2)[2], "big")
+            held.tell(sum(layers) == dots == functools.reduce(operator.or_, layers, 0) and len(json.loads(listed)) == len(layers),
+                      f"page 1 of {name} has the program's dots in colours, each once")
+            purposes = json.loads(asked(port, f"/purposes/{resolution}", job)[1].split(b"\n", 1)[1])
+            held.tell(sum(part["bytes"] for part in purposes) == len(job), f"all bytes of {name} are for something: {purposes}")
+    listed = json.loads(asked(port, "/purposes/300", lettered())[1].split(b"\n", 1)[1])
+    wanted = ["letters of fonts", "letters of macros", "rectangles", "rasters", "moves", "the rest"]
+    held.tell(list(dict.fromkeys(part["purpose"] for part in listed if part["bytes"])) == wanted, f"each purpose is there: {listed}")
+    for path, fault in (("/colours/300/3", 1), ("/colours/0/1", 3), ("/purposes/0", 3)):
+        head = json.loads(asked(port, path, lettered())[1].split(b"\n", 1)[0])
+        held.tell(head["fault"] == fault and head["line"], f"{path} has fault {fault}: {head}")
+    with changed(server, COLOURS_SECONDS=1):
+        status, body = asked(port, "/colours/300/1", SLOW_IN_COLOURS)
+    held.tell(status == 504 and body.count(b"\n") == 1, f"colours that take long end in one line: {status} {body[:200]}")
 
 
 def started(port, length):
@@ -205,10 +352,25 @@ class Browser:
         os.close(from_browser)
         self.number, self.session, self.unread = 0, None, b""
         self.faults = []
+        self.open_tab()
+
+    def open_tab(self):
+        """Opens a tab, to which goes what is sent from now on; what it is gone back to by."""
+        before, self.session = self.session, None
         target = self.send("Target.createTarget", url="about:blank")["targetId"]
         self.session = self.send("Target.attachToTarget", targetId=target, flatten=True)["sessionId"]
         for domain in ("Page", "Runtime", "DOM", "Log"):
             self.send(domain + ".enable")
+        return before
+
+    def go(self, address):
+        """Goes to the page of the server."""
+        self.send("Page.navigate", url=address)
+        self.wait("document.readyState === 'complete' && typeof openFile === 'function'")
+
+    def forget_status(self, status):
+        """Drops what the browser itself notes of answers with a status."""
+        self.faults = [fault for fault in self.faults if f"status of {status}" not in fault]
 
     def message(self):
         """The next message of the browser."""
@@ -375,7 +537,8 @@ def test_pages(held, browser, program, job):
     details = browser.value("[...document.querySelectorAll('nav button small')].map(small => small.textContent)")
     held.tell(details == list(map(details_of, pages)), f"{job} says of its pages {list(map(details_of, pages))}: {details}")
     exits = [exit for exit in json.loads(listed)["exits"] if exit["lines"]]
-    lines = browser.value("[...document.querySelectorAll('nav pre')].map(text => [text.previousElementSibling.textContent, text.textContent])")
+    lines = browser.value("""[...document.querySelectorAll('nav pre')]
+      .map(text => [text.previousElementSibling.textContent, text.textContent])""")
     wanted = [[f"before page {exit['pages'] + 1}" if exit["pages"] < len(pages) else "at the end", exit["lines"]] for exit in exits]
     held.tell(lines == wanted, f"{job} has the lines {wanted}: {lines}")
     browser.wait("element('view').dataset.page === '1'")
@@ -444,7 +607,9 @@ def test_refused(held, browser, program, job):
 
 
 def test_words(held, browser, program):
-    """What was refused before goes, and what is refused for its resolution says what to choose in the page."""
+    """What was refused before goes, and advice is in words of the page: what to choose there, and nothing of other commands."""
+    with open(os.path.join(program.folder, "offset.pcl"), "wb") as file:
+        file.write(b"\x1bE\x1b*c90a90b0P\x1b&l30U\x0c\x1bE")
     open_job(held, browser, program, "two.pcl")
     held.tell(browser.wait("element('view').dataset.page === '1'") and
               browser.value("element('refusal').hidden && element('line').textContent + element('advice').textContent === ''"),
@@ -457,6 +622,11 @@ def test_words(held, browser, program):
     browser.value("element('wanted').click()")
     held.tell(browser.wait("element('view').dataset.page === '1' && element('resolution').value === '0'"), "a button chooses it")
     held.tell(browser.value("element('refusal').hidden"), "and the refusal goes")
+    open_job(held, browser, program, "offset.pcl")
+    held.tell(browser.wait("element('advice').textContent !== ''"), "an offset of a marked page is refused")
+    advice = browser.value("element('advice').textContent")
+    held.tell("--" not in advice and "min and check" not in advice and "left offset: known on a page without marks" in advice,
+              f"no command is named that the page doesn't have: {advice}")
 
 
 def test_greys(held, browser, program):
@@ -499,10 +669,153 @@ def test_greys(held, browser, program):
         compare_small(held, browser, program, "grey.pcl", 1, scale)
 
 
+# The pages that small pictures are asked for, in order.
+NOTED = """(() => {
+  const plain = window.fetch;
+  window.asked = [];
+  window.fetch = (path, options) => {
+    window.asked.push(path);
+    return plain(path, options);
+  };
+})()"""
+# The size of each small picture, and whether it is drawn; and whether it is said that something is waited for.
+BOXES = "[...document.querySelectorAll('nav canvas')].map(one => [one.offsetWidth, one.offsetHeight, 'drawn' in one.dataset])"
+WORKING = "getComputedStyle(element('working')).visibility === 'visible'"
+
+
+def test_many(held, browser, program):
+    """The first of many pages, before more is known than how many there are, and then the small pictures as they come into view."""
+    calls = Calls("pages", "grey")
+    browser.value(NOTED)
+    with changed(server, call_in_process=calls):
+        browser.choose(os.path.join(program.folder, "many.pcl"))
+        held.tell(browser.wait("element('view').dataset.page === '1'"), "the first page is shown before the others")
+        said = browser.value("element('number').value + ' ' + element('count').textContent + ': ' + element('said').textContent")
+        held.tell(said == f"1 of {PAGES}: reading many.pcl: {PAGES} pages ...", f"and how many there are: {said}")
+        boxes = browser.value(BOXES)
+        held.tell(boxes == [[160, 220, False]] * PAGES, f"and a box for each: {boxes[:3]}")
+        held.tell(browser.wait(WORKING + " && element('part').textContent === 'small pictures: 0 of %d'" % PAGES), "and how far it is")
+        browser.value("element('pages').children[59].scrollIntoView()")
+        calls.free.set()
+        held.tell(browser.wait(DRAWN + " && element('said').textContent.startsWith('many.pcl:') && waiting === 0"), "and then the others")
+    greys = browser.value("asked.filter(path => path.includes('/grey/')).map(path => path.split('/').slice(5, 7).map(Number))")
+    held.tell(greys[0] == [1, 8] and greys[1][0] <= 60 <= greys[1][1], f"small pictures come first where they are in view: {greys}")
+    sent = browser.value("asked.filter(path => path === '/keep').length")
+    held.tell(sent == 1, f"the job is sent once: {sent}")
+    held.tell(not browser.value(WORKING) and browser.value("element('part').textContent") == "", "nothing is waited for any more")
+    kept = server.Handler.jobs.kept
+    with changed(kept, seconds=-1):
+        kept.forget()
+    browser.value("element('pages').children[39].click()")
+    held.tell(browser.wait("element('view').dataset.page === '40'"), "what isn't kept any more is sent again")
+    browser.forget_status(410)
+
+
+def test_cancel(held, browser, program):
+    """A job that takes hours is cancelled, or ends by itself; the next is shown."""
+    with open(os.path.join(program.folder, "slow.pcl"), "wb") as file:
+        file.write(SLOW)
+    browser.choose(os.path.join(program.folder, "slow.pcl"))
+    held.tell(browser.wait(WORKING + " && !element('reading').hidden") and not has_turns(), "a job that takes long can be cancelled")
+    browser.value("element('cancel').click()")
+    held.tell(browser.wait("!element('drop').hidden && element('said').textContent === 'slow.pcl: cancelled'"), "and is")
+    held.tell(in_time(has_turns), "and takes no more time then")
+    with changed(server, SECONDS=1):
+        browser.choose(os.path.join(program.folder, "slow.pcl"))
+        held.tell(browser.wait("element('line').textContent.startsWith('the call took more than 1 second')"),
+                  "it ends by itself in one line")
+    browser.forget_status(504)
+    browser.choose(os.path.join(program.folder, "slow.pcl"))
+    browser.wait(WORKING)
+    open_job(held, browser, program, "two.pcl")
+    held.tell(browser.wait("element('view').dataset.page === '1'") and in_time(has_turns), "it ends too when another job is opened")
+
+
+def test_tabs(held, browser, program, address):
+    """Two tabs with jobs of their own, and what is made for one of them there for the other."""
+    open_job(held, browser, program, "two.pcl")
+    browser.wait("element('view').dataset.page === '1' && waiting === 0 && " + DRAWN)
+    first = browser.open_tab()
+    browser.go(address)
+    open_job(held, browser, program, "asked.pcl")
+    held.tell(browser.wait("element('view').dataset.page === '1' && waiting === 0") and browser.value("opened.count") == 4,
+              "a second tab has a job of its own")
+    calls = Calls()
+    with changed(server, call_in_process=calls):
+        open_job(held, browser, program, "two.pcl")
+        browser.wait("element('view').dataset.page === '1' && waiting === 0 && " + DRAWN)
+    held.tell(not calls.made, f"what was made for a tab is there for the other: {calls.made}")
+    browser.send("Page.close")
+    browser.session = first
+    browser.value("element('next').click()")
+    held.tell(browser.wait("element('view').dataset.page === '2'") and browser.value("document.title") == "two.pcl - pclmin",
+              "the first tab goes on")
+
+
+# How many pixels of the canvas have each colour, but for white.
+COLOURS = """(() => {
+  const canvas = element("page");
+  const pixels = new Uint32Array(canvas.getContext("2d").getImageData(0, 0, canvas.width, canvas.height).data.buffer);
+  const counts = {};
+  for (const pixel of pixels) if (pixel !== 0xffffffff) counts[pixel] = (counts[pixel] ?? 0) + 1;
+  return Object.entries(counts).map(([pixel, count]) => [[pixel & 255, pixel >> 8 & 255, pixel >> 16 & 255], count]);
+})()"""
+# The rows of the legend.
+LEGEND = "[...element('purposes').querySelectorAll('tr')].map(row => [...row.children].map(cell => cell.textContent))"
+
+
+def colours_wanted(port, path, page):
+    """How many dots of a page have each colour."""
+    listed, images = asked(port, f"{path}/colours/300/{page}", None)[1].split(b"\n", 2)[1:]
+    counts = [bin(int.from_bytes(image.split(b"\n", 2)[2], "big")).count("1") for image in server.split_images(images)]
+    return sorted([layer["colour"], count] for layer, count in zip(json.loads(listed), counts) if count)
+
+
+def test_where(held, browser, program, port):
+    """Where bytes go: the page in colours, of both jobs, and the legend."""
+    job = lettered()
+    for name, content in (("lettered.pcl", job), ("slow_in_colours.pcl", SLOW_IN_COLOURS)):
+        with open(os.path.join(program.folder, name), "wb") as file:
+            file.write(content)
+    smaller = program.run("shrink", "--dpi", "300", "lettered.pcl")[0]
+    open_job(held, browser, program, "lettered.pcl")
+    browser.wait("element('view').dataset.page === '1'")
+    for pressed, content in (("element('dots').click(); element('colours').click()", smaller),
+                             ("delete element('view').dataset.coloured; element('which').querySelector('input').click()", job)):
+        browser.value(pressed)
+        held.tell(browser.wait("element('view').dataset.coloured === '1' && waiting === 0"), "the page is drawn in colours")
+        wanted, seen = colours_wanted(port, keep(port, content), 1), sorted(browser.value(COLOURS))
+        held.tell(seen == wanted, f"each dot has its colour: {seen}, {wanted}")
+    rows = browser.value(LEGEND)
+    held.tell(rows[-1] == ["the whole job", f"{len(job):,}", f"{len(smaller):,}"], f"the legend tells all bytes: {rows}")
+    whole = [row for row in rows[1:-1] if row[0] not in ("patterns", "codes", "calls")]
+    sums = [sum(int(row[column].replace(",", "")) for row in whole) for column in (1, 2)]
+    held.tell(sums == [len(job), len(smaller)], f"each byte is told once: {rows}")
+    held.tell(len(whole) == 6 and len(browser.value(COLOURS)) == 4, f"each purpose has a line, and each way a colour: {rows}")
+    browser.press("PageDown")
+    held.tell(browser.wait("element('view').dataset.coloured === '2'"), "the page after is in colours too")
+    browser.value("element('colours').click()")
+    browser.wait("element('legend').hidden && waiting === 0")
+    time.sleep(0.5)
+    image = program.run("pbm", "--page", "2", "lettered.pcl")[0]
+    held.tell(browser.value(CANVAS) == hashlib.sha256(image).hexdigest(), "the button takes the colours away")
+    open_job(held, browser, program, "slow_in_colours.pcl")
+    browser.wait("element('view').dataset.page === '1' && waiting === 0")
+    with changed(server, COLOURS_SECONDS=1):
+        browser.value("element('which').querySelector('input').click(); element('colours').click()")
+        held.tell(browser.wait("element('note').textContent.includes('in colours: the call took more than 1 second')"),
+                  f"colours that take long are said to: {browser.value('element(`note`).textContent')}")
+        browser.wait("waiting === 0")
+    held.tell(not browser.value("element('small').hidden && element('page').hidden"), "and the page is seen without")
+    browser.forget_status(504)
+    open_job(held, browser, program, "lettered.pcl")
+    held.tell(browser.wait("element('view').dataset.coloured === '1' && waiting === 0") and browser.value(LEGEND)[-1] == rows[-1],
+              "the next job is in colours too")
+    browser.value("element('colours').click()")
+
+
 def test_keys(held, browser, program):
     """The keys and the number that turn pages, with the list beside them."""
-    with open(os.path.join(program.folder, "many.pcl"), "wb") as file:
-        file.write(MANY)
     open_job(held, browser, program, "many.pcl")
     browser.wait("element('view').dataset.page === '1' && " + DRAWN)
     for key, page in (("PageDown", 2), ("ArrowRight", 3), ("ArrowDown", 4), ("PageUp", 3), ("ArrowLeft", 2), ("ArrowUp", 1),
@@ -539,12 +852,29 @@ def test_phone(held, browser, program):
     held.tell(browser.wait("element('view').dataset.page === '7' && element('pages').offsetWidth === 0"), "and goes when a page is chosen")
     browser.value("element('next').click()")
     held.tell(browser.wait("element('view').dataset.page === '8'"), "a button turns the page")
+    browser.value("element('colours').click()")
+    held.tell(browser.wait("element('view').dataset.coloured === '8' && waiting === 0"), "a page is in colours on a phone")
+    held.tell(browser.value(FITS + " && " + IN_A_ROW + " && element('small').offsetHeight > 200 && element('legend').offsetWidth === 390"),
+              f"the page is seen above the legend: {browser.value(PLACES)}")
+    browser.value("element('colours').click()")
     open_job(held, browser, program, REFUSED)
     browser.wait("element('advice').textContent !== ''")
     seen = browser.value("""[document.querySelector("#bytes mark").getBoundingClientRect()].every(one =>
       one.left >= 0 && one.right <= innerWidth && one.bottom <= innerHeight)""")
     held.tell(seen and browser.value(FITS), "the marked byte is in view on a phone")
     browser.resize(1280, 800)
+
+
+def test_photograph(held, browser, program):
+    """A photograph where it is smaller: as grey as its dots in the mean."""
+    open_job(held, browser, program, "picture.pcl")
+    held.tell(browser.wait("element('view').dataset.page === '1' && " + DRAWN), "a picture is shown")
+    page = json.loads(program.run("pages", "--json", "picture.pcl")[0])["pages"][0]
+    browser.value("element('fit').click()")
+    browser.wait("element('page').hidden")
+    _, _, greys, small = browser.value(GREYS)
+    mean, wanted = sum(greys) / len(greys), 255 * (1 - page["black_dots"] / page["dots"])
+    held.tell(abs(mean - wanted) < 0.5 and abs(small - wanted) < 1, f"the picture is as grey as {wanted}: {mean}, {small}")
 
 
 def test_full(held, browser, program):
@@ -556,8 +886,7 @@ def test_full(held, browser, program):
         time.sleep(0.5)
         held.tell(browser.value("element('said').textContent") == "reading two.pcl ...", "a job waits for room")
     held.tell(browser.wait("element('view').dataset.page === '1'"), "and is shown when there is some")
-    # The browser itself notes each 503.
-    browser.faults = [fault for fault in browser.faults if "status of 503" not in fault]
+    browser.forget_status(503)
 
 
 def test_sample(held, browser):
@@ -600,8 +929,7 @@ def test_zoom(held, browser):
 def test_page(held, address, program, folder, jobs, picture):
     """The page in Chromium."""
     browser = Browser(folder)
-    browser.send("Page.navigate", url=address)
-    browser.wait("document.readyState === 'complete' && typeof openFile === 'function'")
+    browser.go(address)
     test_sample(held, browser)
     for job in jobs:
         if job == REFUSED:
@@ -611,6 +939,11 @@ def test_page(held, address, program, folder, jobs, picture):
     test_refused(held, browser, program, REFUSED)
     test_words(held, browser, program)
     test_greys(held, browser, program)
+    test_photograph(held, browser, program)
+    test_many(held, browser, program)
+    test_cancel(held, browser, program)
+    test_tabs(held, browser, program, address)
+    test_where(held, browser, program, int(address.strip("/").rsplit(":", 1)[1]))
     test_keys(held, browser, program)
     test_phone(held, browser, program)
     test_full(held, browser, program)
@@ -646,6 +979,9 @@ def main():
         port = serving.server_address[1]
         test_server(held, port, program, jobs)
         test_bounds(held, port)
+        test_kept(held, port, program, jobs)
+        test_room(held)
+        test_colours(held, port, program, [job for job in jobs if job != REFUSED])
         if CHROMIUM:
             test_page(held, f"http://127.0.0.1:{port}/", program, folder, jobs, words.picture)
         else:
