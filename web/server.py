@@ -65,11 +65,11 @@ def answered(call, numbers, job):
 
 def answer_of(function, call, numbers, job):
     """What the library answers. Where a job says its resolution itself, that is mostly 300, so this is tried alone first: an answer is
-    the same then, but for `explain`, which refuses no job."""
+    the same then, but for `explain`, which refuses no job, and `shrink`, which looks at both."""
     import pclmin
 
     resolution, *others = numbers
-    if resolution == 0 and call != "explain":
+    if resolution == 0 and call not in ("explain", "shrink"):
         answer = function(job, 300, *others)
         if answer.fault != pclmin.REFUSED:
             return answer

@@ -124,8 +124,7 @@ def test_server(held, port, program, jobs):
                             ("/explain/0", ["explain"])):
             status, body = asked(port, path, content)
             head, made = body.split(b"\n", 1)
-            # the server keeps the dots at one resolution, where the program goes on to the other
-            written, said = program.run(*words, "--dpi", program.resolution(job) if words == ["shrink"] else "auto", job)
+            written, said = program.run(*words, "--dpi", "auto", job)
             held.tell(status == 200 and made == written, f"{path} of {job} is what the program writes")
             held.tell(json.loads(head)["line"] == ("" if words[0] == "explain" else said.replace("pclmin: no page\n", "")),
                       f"{path} of {job} says what the program says")
