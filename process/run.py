@@ -313,9 +313,9 @@ def check_hints(program):
     raster = b"\x1b*t600R\x1b*r1A"
     cases = [(["min"], b"\x1b", "Truncated at 0 -", instead), (["min"], raster, "UnsupportedValue at 0 *tR", "try --dpi auto"),
              (["pages", "--dpi=auto"], b"\x1b*t5R", "UnsupportedValue at 0 *tR", instead),
-             (["shrink"], b"%PDF-1.4", "NoFont at 0 -", "the job is PDF, not PCL 5: choose a PCL 5 driver, or send it through "
+             (["shrink"], b"%PDF-1.4", "NoFont at 0 text", "the job is PDF, not PCL 5: choose a PCL 5 driver, or send it through "
               "ghostscript with -sDEVICE=ljet2p"),
-             (["min"], b"\x1f\x8b\x08", "NoFont at 0 -", "the job is packed by gzip: unpack it first")]
+             (["min"], b"\x1f\x8b\x08", "UnsupportedCommand at 2 BS", "the job is packed by gzip: unpack it first")]
     for words, job, refusal, hint in cases:
         said, _ = run_on_terminal(program, words, job)
         wanted = f"pclmin: refused: {refusal}\r\npclmin: {hint}\r\n"
