@@ -688,7 +688,8 @@ def test_many(held, browser, program):
     browser.value(NOTED)
     with changed(server, call_in_process=calls):
         browser.choose(os.path.join(program.folder, "many.pcl"))
-        held.tell(browser.wait("element('view').dataset.page === '1'"), "the first page is shown before the others")
+        is_shown = "element('view').dataset.page === '1' && element('count').textContent === 'of %d'" % PAGES
+        held.tell(browser.wait(is_shown), "the first page is shown before the others")
         said = browser.value("element('number').value + ' ' + element('count').textContent + ': ' + element('said').textContent")
         held.tell(said == f"1 of {PAGES}: reading many.pcl: {PAGES} pages ...", f"and how many there are: {said}")
         boxes = browser.value(BOXES)
