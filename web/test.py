@@ -684,6 +684,9 @@ WORKING = "getComputedStyle(element('working')).visibility === 'visible'"
 
 def test_many(held, browser, program):
     """The first of many pages, before more is known than how many there are, and then the small pictures as they come into view."""
+    kept = server.Handler.jobs.kept
+    with changed(kept, seconds=-1):
+        kept.forget()
     calls = Calls("pages", "grey")
     browser.value(NOTED)
     with changed(server, call_in_process=calls):
@@ -703,7 +706,6 @@ def test_many(held, browser, program):
     sent = browser.value("asked.filter(path => path === '/keep').length")
     held.tell(sent == 1, f"the job is sent once: {sent}")
     held.tell(not browser.value(WORKING) and browser.value("element('part').textContent") == "", "nothing is waited for any more")
-    kept = server.Handler.jobs.kept
     with changed(kept, seconds=-1):
         kept.forget()
     browser.value("element('pages').children[39].click()")
