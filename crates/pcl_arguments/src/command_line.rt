@@ -43,7 +43,7 @@ enum Argument {
     Json,
     /// What `shrink` tells of its bytes.
     Report,
-    /// That this is told as JSON.
+    /// That this is reported as JSON.
     ReportJson,
     Quiet,
     /// The resolution.
@@ -449,7 +449,7 @@ fn report<'a>(alloc: Global) -> Result<Arg<'a>, AllocError> {
     .conflicts_with("quiet")
 }
 
-/// That this is told as JSON.
+/// That this is reported as JSON.
 fn report_json<'a>(alloc: Global) -> Result<Arg<'a>, AllocError> {
     flag(alloc, "json", "Tell it as an object of JSON").requires_arg("report")
 }
