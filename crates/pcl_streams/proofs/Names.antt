@@ -8,6 +8,6 @@ pub use Rattle.pcl_bitmap.proofs.Names.{IsPicture, Picture, bit_of_byte, dot_of_
 pub use Rattle.pcl_bitmap.specs.declared.{page.Page.Page}
 pub use Rattle.pcl_page.proofs.{Jobs.has_pages}
 pub use Rattle.pcl_page.proofs.Names.{AllShow, Hands, HasPages, HasPagesBy, Sheet, Shows}
-pub use Rattle.pcl_streams.specs.{Greymap.greymap_header, Greymap.pixel, Greymap.squares_for, Image.IsImageWritten, Image.header_of, Image.image_of, PageImages.AreImagesIn, PageImages.ArePageImages, PageImages.AreThere, PageImages.IsPagesPreview, PageImages.LacksPage, PageImages.chosen, PageImages.images_in, Preview.HasPage, Preview.IsPageDots, Preview.IsPreview, Transfer.IsWritten}
-pub use Rattle.pcl_streams.specs.declared.{fault.Fault.Fault, fault.Fault.TheVariants.Memory, fault.Fault.TheVariants.NoSuchPage, fault.Fault.TheVariants.Refused, fault.Fault.TheVariants.WriteFault, form.ImageForm.ImageForm, page_images.PageChoice.PageChoice, page_images.PageChoice.TheVariants.All, page_images.PageChoice.TheVariants.Range, page_preview.Chosen.Chosen}
-pub use Rattle.pcl_streams.specs.inner.{Choice.chosen_after, Showing.IsMet, Showing.IsMetBy, Showing.Showing, Showing.later, Showing.next_image, Showing.shown_after}
+pub use Rattle.pcl_streams.specs.{Greymap.greymap_header, Greymap.pixel, Greymap.squares_for, Image.IsImageWritten, Image.header_of, Image.image_of, PageImages.AreImagesIn, PageImages.ArePageImages, PageImages.AreThere, PageImages.IsPagesPreview, PageImages.LacksPage, PageImages.chosen, PageImages.images_in, PageImages.last_listed, PageImages.those_listed, Preview.HasPage, Preview.IsPageDots, Preview.IsPreview, Transfer.IsWritten}
+pub use Rattle.pcl_streams.specs.declared.{fault.Fault.Fault, fault.Fault.TheVariants.Memory, fault.Fault.TheVariants.NoSuchPage, fault.Fault.TheVariants.Refused, fault.Fault.TheVariants.WriteFault, form.ImageForm.ImageForm, page_images.PageChoice.PageChoice, page_images.PageChoice.TheVariants.All, page_images.PageChoice.TheVariants.Listed, page_preview.Chosen.Chosen}
+pub use Rattle.pcl_streams.specs.inner.{Choice.chosen_after, Showing.IsMet, Showing.IsMetBy, Showing.Showing, Showing.flags_of, Showing.later, Showing.next_image, Showing.shown_after}
