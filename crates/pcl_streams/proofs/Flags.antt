@@ -1,5 +1,5 @@
 -- Which pages are listed by their flags.
-use Rattle.std.proofs.Common.{◌≡◌, ℕ, suc, zero, ◌+◌, ◌<◌, ◌≤◌, nat_le, nat_lt, eqb, ◌==◌, List, [], ◌∷◌, length, take, set, replicate, get_or, Bool, true, false, ◌&&◌, ◌||◌, if◌then◌else◌, refl, subst, arith, get_or-set_same, get_or-set_other}
+use Rattle.std.proofs.Common.{◌≡◌, ℕ, suc, zero, ◌+◌, ◌<◌, ◌==◌, List, [], ◌∷◌, length, take, replicate, get_or, Bool, true, false, if◌then◌else◌, refl, subst, arith}
 use Rattle.pcl_streams.proofs.Names.{last_listed, nat_tests}
 
 pub none_listed : (count place : ℕ) → get_or (replicate count false) place false ≡ false

@@ -1,7 +1,7 @@
 -- What proofs of this crate name of std, of the crates below, and of its own definitions; those above take these from here too.
 pub use Rattle.std.proofs.lemmas.Nat.{field_of, mod-pow-add, one_shl}
 pub use Rattle.std.specs.Int.Count.{ones_step}
-pub use Rattle.pcl_base.proofs.Names.{Appends, Appends-kept, Appends-trans, Consumes, Consumes-kept, Consumes-trans, Keeps-refl, SomeIff, [], ap, append-nil, div_below, drop-nil, drop_of_length-le, err_from_is_err_and, length-take, mul-le, nat_tests, ok_or, refl, rules, same_from_all_zip, shr-shr, slice_get, slice_index, sub-one, sym, take-append-drop, take-nil, take_rest, zero-div}
+pub use Rattle.pcl_base.proofs.Names.{Appends, Appends-kept, Appends-trans, Consumes, Consumes-kept, Consumes-trans, Keeps-refl, SomeIff, [], ap, append-nil, div_below, drop_of_length-le, err_from_is_err_and, length-take, mul-le, nat_tests, ok_or, refl, rules, same_from_all_zip, shr-shr, slice_get, slice_index, sub-one, sym, take-append-drop, take-nil, take_rest, zero-div}
 pub use Rattle.pcl_base.specs.declared.{dpi.Dpi.Dpi, profile.Profile.Profile, profile.Profile.TheVariants.Stated, size.Size.Size}
 pub use Rattle.pcl_base.proofs.{PageBounds.height_small}
 pub use Rattle.pcl_bitmap.proofs.Names.{IsPicture, Picture, bit_of_byte, dot_of_row, page_height, page_row_bytes, page_width, row_of}

@@ -1,4 +1,4 @@
-use Rattle.std.proofs.Common.{◌≡◌, sym, ◌∙◌}
+use Rattle.std.proofs.Common.{sym, ◌∙◌}
 use Rattle.pcl_streams.proofs.Flags.{last_more}
 use Rattle.pcl_streams.proofs.page_images.last_listed.Goals as goal
 use Rattle.pcl_streams.proofs.page_images.last_listed.Goals.{then-flag, else-flag}
