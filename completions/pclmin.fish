@@ -27,7 +27,7 @@ complete -c pclmin -n "__fish_seen_subcommand_from batch" -s o -l output -x -a "
 complete -c pclmin -n "__fish_seen_subcommand_from check" -l page -d "The first file has images of the pages"
 complete -c pclmin -n "__fish_seen_subcommand_from same" -l asked -d "Compare what is asked of the printer too"
 complete -c pclmin -n "__fish_seen_subcommand_from pgm" -l scale -x -d "Dots of a side of a pixel"
-complete -c pclmin -n "__fish_seen_subcommand_from pbm pgm" -l page -x -d "Number of the page, or a range"
+complete -c pclmin -n "__fish_seen_subcommand_from pbm pgm" -l page -x -d "Number of a page, a range or a list"
 complete -c pclmin -n "__fish_seen_subcommand_from pbm pgm" -l drivers -d "Read what drivers send besides"
 complete -c pclmin -n "__fish_seen_subcommand_from min pbm pgm shrink pages batch explain check same" -F
 complete -c pclmin -n "__fish_seen_subcommand_from min pbm pgm shrink pages explain" -s o -l output -r -F -d "Write to a file"

@@ -418,7 +418,7 @@ fn pages<'a>(alloc: Global) -> Arg<'a> {
         alloc,
         "page",
         "N",
-        "The number of the page, from 1 to 256, or a range such as 2-5; all pages where it isn't given",
+        "The number of a page, from 1 to 256, a range such as 2-5, or an ascending list such as 1,3,7-9; all pages where it isn't given",
     )
 }
 

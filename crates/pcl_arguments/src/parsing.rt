@@ -11,7 +11,7 @@ use pcl_request::{
     Batch, Beside, Certificate, CheckedFiles, ComparedFiles, Destination, Layout, Request,
     Resolution, Rewriting, Run, Source, Target, Task, Work, resolution_named,
 };
-use pcl_streams::{ImageForm, PageChoice, Scale};
+use pcl_streams::{ImageForm, PageChoice, PageSet, Scale};
 use std::alloc::{AllocError, Global};
 use std::convert::AsStr;
 
@@ -146,7 +146,7 @@ impl WrongWord<'_> {
                 "the resolution of --dpi is 300 or 600, or auto, and not '{word}'"
             ),
             WrongWord::Pages(word) => format!(in alloc;
-                "--page is a number from 1 to 256, or a range such as 2-5, and not '{word}'"
+                "--page is a number from 1 to 256, a range such as 2-5, or an ascending list such as 1,3,7-9, and not '{word}'"
             ),
             WrongWord::NoFolder => String::from_str(alloc, "the folder of -o has a name"),
             WrongWord::Missing => String::from_str(alloc, "a word is missing"),
@@ -327,22 +327,39 @@ fn scale_of<'w>(pgm: &ArgMatches<'w>) -> Result<Scale, WrongWord<'w>> {
 fn page_choice<'w>(pbm: &ArgMatches<'w>) -> Result<PageChoice, WrongWord<'w>> {
     match pbm.get_str("page") {
         None => Ok(PageChoice::All),
-        Some(word) => page_range(word).ok_or(WrongWord::Pages(word)),
+        Some(word) => {
+            let pages = page_list(word).ok_or(WrongWord::Pages(word))?;
+            Ok(PageChoice::Listed(pages))
+        }
     }
 }
 
-/// The pages of a number from 1 to 256, or of two with a hyphen between them.
-fn page_range(word: &str) -> Option<PageChoice> {
-    let (first, last) = word.split_once('-').unwrap_or((word, word));
-    let before = page_number(first)?.checked_sub(1)?;
-    let count = page_number(last)?.checked_sub(before)?;
-    (count > 0).then_some(PageChoice::Range { before, count })
+/// The pages of numbers and ranges between commas, each of which begins after the end of the one before it.
+fn page_list(word: &str) -> Option<PageSet> {
+    let mut pages = PageSet::none();
+    let mut before = 0;
+    for part in word.split(',') {
+        let (first, last) = page_range(part)?;
+        if first <= before {
+            return None;
+        }
+        pages = pages.with(first, last);
+        before = last;
+    }
+    Some(pages)
+}
+
+/// The first page and the last of a number, or of two with a hyphen between them.
+fn page_range(part: &str) -> Option<(usize, usize)> {
+    let (first, last) = part.split_once('-').unwrap_or((part, part));
+    let (first, last) = (page_number(first)?, page_number(last)?);
+    (first <= last).then_some((first, last))
 }
 
 /// The number of a page, up to 256.
-fn page_number(word: &str) -> Option<u16> {
+fn page_number(word: &str) -> Option<usize> {
     match word.parse::<u16>() {
-        Ok(number) if u32::from(number) <= PAGE_LIMIT => Some(number),
+        Ok(number) if u32::from(number) <= PAGE_LIMIT => Some(usize::from(number)),
         _ => None,
     }
 }

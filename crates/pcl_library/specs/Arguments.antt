@@ -1,5 +1,5 @@
 -- Arguments that come as numbers, and inputs that are too long.
-use Rattle.std.specs.Prelude.{◌≡◌, ◌≢◌, ◌⊎◌, ◌↔◌, ℕ, ◌+◌, ◌<◌, ◌≤◌, List, length, Option, Some, None, Result, Ok, Err}
+use Rattle.std.specs.Prelude.{◌≡◌, ◌≢◌, ◌⊎◌, ◌↔◌, ℕ, ◌<◌, ◌≤◌, List, length, Option, Some, None, Result, Ok, Err}
 use Rattle.pcl_base.specs.Limits.{input_limit, page_limit}
 use Rattle.pcl_base.specs.declared.dpi.Dpi.{Dpi}
 use Rattle.pcl_base.specs.declared.dpi.Dpi.TheVariants.{Dpi300, Dpi600}
@@ -10,7 +10,9 @@ use Rattle.pcl_cert.specs.declared.format.Format.TheVariants.{One, Two}
 use Rattle.pcl_streams.specs.declared.fault.Fault.TheVariants as run
 use Rattle.pcl_streams.specs.declared.form.Scale.{Scale}
 use Rattle.pcl_streams.specs.declared.page_images.PageChoice.{PageChoice}
-use Rattle.pcl_streams.specs.declared.page_images.PageChoice.TheVariants.{All, Range}
+use Rattle.pcl_streams.specs.declared.page_images.PageChoice.TheVariants.{All, Listed}
+use Rattle.pcl_streams.specs.declared.page_images.PageSet.{PageSet}
+use Rattle.pcl_streams.specs.PageImages.{is_between, is_listed}
 use Rattle.pcl_request.specs.declared.request.Resolution.{Resolution}
 use Rattle.pcl_request.specs.declared.request.Resolution.TheVariants.{Given, FirstAccepted}
 use Rattle.pcl_files.specs.Resolutions.{IsSeenAt, AreSeenAt}
@@ -35,11 +37,15 @@ IsSeen profile number job dpi = (asked : Resolution) × (resolution_number asked
 abbrev pub AreSeen : ℕ → (first second : List ℕ) → Dpi → Type 0
 AreSeen number first second dpi = (asked : Resolution) × (resolution_number asked ≡ number) × AreSeenAt asked Drivers first second dpi
 
+-- a set has the pages from one number to another, counted from 1, and no others
+abbrev pub HasBetween : (first last : ℕ) → PageSet → Type 0
+HasBetween first last pages =
+    (before : ℕ) → before < page_limit → is_listed before pages ≡ is_between first last before
+
 -- the pages from one number to another, counted from 1, or all of them by 0 and 0
 abbrev pub IsChoiceFor : (first last : ℕ) → PageChoice → Type 0
 IsChoiceFor first last All = (first ≡ 0) × (last ≡ 0)
-IsChoiceFor first last (Range before count) =
-    (first ≡ before + 1) × (last ≡ before + count) × (first ≤ last) × (last ≤ page_limit)
+IsChoiceFor first last (Listed pages) = (0 < first) × (first ≤ last) × (last ≤ page_limit) × HasBetween first last pages
 
 -- the scale of a number
 abbrev pub IsScaleFor : ℕ → Scale → Type 0

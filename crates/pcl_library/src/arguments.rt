@@ -10,7 +10,7 @@ use pcl_base::{Dpi, PAGE_LIMIT, Profile};
 use pcl_cert::Format;
 use pcl_files::{resolve, resolve_both};
 use pcl_request::Resolution;
-use pcl_streams::Scale;
+use pcl_streams::{PageSet, Scale};
 use pcl_tool::{Fault, INPUT_LIMIT, PageChoice};
 use std::alloc::Global;
 
@@ -79,10 +79,8 @@ pub fn pages_between(first: u32, last: u32) -> Result<PageChoice, Failure>
     if first == 0 || last < first || last > PAGE_LIMIT {
         return Err(Failure::Wrong(Argument::Pages));
     }
-    Ok(PageChoice::Range {
-        before: (first - 1) as u16,
-        count: (last - first + 1) as u16,
-    })
+    let pages = PageSet::none().with(first as usize, last as usize);
+    Ok(PageChoice::Listed(pages))
 }
 
 /// The scale that a number asks for: as many dots across and down make a pixel.

@@ -3,4 +3,5 @@ pub mod Writes
 pub mod Choices
 pub mod Counts
 pub mod Pixels
+pub mod Flags
 pub mod Showings

@@ -1,7 +1,8 @@
 -- What a preview of several pages writes, and what each fault says.
-use Rattle.std.specs.Prelude.{◌≡◌, ℕ, ◌+◌, ◌≤◌, List, [], ◌∷◌, ◌++◌, length, take, drop, Option, Result, Ok, Err}
+use Rattle.std.specs.Prelude.{◌≡◌, ℕ, suc, ◌+◌, ◌<◌, ◌≤◌, nat_le, nat_lt, ◌==◌, ◌&&◌, ◌||◌, if◌then◌else◌, Bool, false, List, [], ◌∷◌, ◌++◌, length, slice_index_or, Option, Result, Ok, Err}
 use Rattle.std.specs.Global.{Vec}
 use Rattle.std.specs.Io.KnownBytes.{Appends, Keeps}
+use Rattle.pcl_base.specs.Limits.{page_limit}
 use Rattle.pcl_base.specs.declared.dpi.Dpi.{Dpi}
 use Rattle.pcl_base.specs.declared.profile.Profile.{Profile}
 use Rattle.pcl_bitmap.specs.Bitmap.{Picture}
@@ -14,25 +15,49 @@ use Rattle.pcl_streams.specs.declared.fault.Fault.TheVariants.{Refused, Memory, 
 use Rattle.pcl_streams.specs.declared.form.ImageForm.{ImageForm}
 use Rattle.pcl_streams.specs.declared.form.ImageForm.TheVariants.{Bitmap, Greymap}
 use Rattle.pcl_streams.specs.declared.page_images.PageChoice.{PageChoice}
-use Rattle.pcl_streams.specs.declared.page_images.PageChoice.TheVariants.{All, Range}
+use Rattle.pcl_streams.specs.declared.page_images.PageChoice.TheVariants.{All, Listed}
+use Rattle.pcl_streams.specs.declared.page_images.PageSet.{PageSet}
 use Rattle.pcl_streams.specs.Transfer.{AppendsFront}
 use Rattle.pcl_streams.specs.Image.{image_of}
 use Rattle.pcl_streams.specs.Greymap.{greymap_of}
 
+-- whether the page is one of a set that comes after this many others
+abbrev pub is_listed : ℕ → PageSet → Bool
+is_listed before set = slice_index_or set.flags before false
+
+-- whether it lies between two numbers, counted from 1
+abbrev pub is_between : (first last before : ℕ) → Bool
+is_between first last before = nat_le first (before + 1) && nat_lt before last
+
+-- a set has the pages of another, and those from one number to another
+abbrev pub HasWith : (first last : ℕ) → (old new : PageSet) → Type 0
+HasWith first last old new =
+    (before : ℕ) → before < page_limit → is_listed before new ≡ (is_listed before old || is_between first last before)
+
+-- those pages of which a flag says that they are asked for: the first flag tells of the first page
+abbrev pub those_listed : List Bool → List Page → List Page
+those_listed [] pages = []
+those_listed (flag ∷ flags) [] = []
+those_listed (flag ∷ flags) (page ∷ later) = if flag then page ∷ those_listed flags later else those_listed flags later
+
+-- how many pages there are up to the last that is asked for
+abbrev pub last_listed : List Bool → ℕ
+last_listed [] = 0
+last_listed (flag ∷ flags) = if last_listed flags == 0 then (if flag then 1 else 0) else suc (last_listed flags)
+
 -- the pages that are asked for
 abbrev pub chosen : PageChoice → List Page → List Page
 chosen All pages = pages
-chosen (Range before count) pages = take count (drop before pages)
+chosen (Listed set) pages = those_listed set.flags pages
 
 -- the number of the last page that is asked for by its number, 0 where none is
 abbrev pub last_page : PageChoice → ℕ
 last_page All = 0
-last_page (Range before count) = before + count
+last_page (Listed set) = last_listed set.flags
 
 -- of this many pages none is missing that is asked for
 abbrev pub AreThere : PageChoice → ℕ → Type 0
-AreThere All number = Unit {0}
-AreThere (Range before count) number = before + count ≤ number
+AreThere choice number = last_page choice ≤ number
 
 -- the image of a page in a form
 abbrev pub image_in : ImageForm → Picture → List ℕ

@@ -1,27 +1,61 @@
 //! The preview of pages of a job, one image after the other.
 
-ghost use Rattle.std.specs.Prelude.{◌≡◌, ◌==◌, ◌&&◌, not, if◌then◌else◌};
-ghost use Rattle.pcl_streams.specs.PageImages.{last_page, ArePageImages, IsPagesPreview};
+ghost use Rattle.std.specs.Prelude.{◌≡◌, ℕ, false};
+ghost use Rattle.pcl_streams.specs.PageImages.{is_listed, last_listed, last_page, HasWith, ArePageImages, IsPagesPreview};
 ghost use Rattle.pcl_streams.specs.declared.form.ImageForm.TheVariants.{Bitmap};
-ghost use Rattle.pcl_streams.specs.inner.Showing.{asks_next, later, IsMetBy};
+ghost use Rattle.pcl_streams.specs.inner.Showing.{asks_next, flags_of, later, left_of, IsMetBy};
 
 use crate::Fault;
 use crate::form::ImageForm;
 use crate::image::append_image_in;
 use crate::writing::write_all;
-use pcl_base::{Dpi, Profile};
+use pcl_base::{Dpi, PAGE_LIMIT, Profile};
 use pcl_page::{Page, PageSink, perform_by};
 use std::alloc::{AllocError, Global};
 use std::io::Write;
 use std::marker::Model;
+
+/// How many pages a job has at most.
+const PAGES: usize = PAGE_LIMIT as usize;
+
+/// Some pages of a job, by their numbers.
+#[derive(Clone, Copy, Debug, PartialEq, Eq)]
+pub struct PageSet {
+    /// Whether each page is one of them, from the first on.
+    flags: [bool; PAGES],
+}
+
+impl PageSet {
+    /// No page.
+    pub fn none() -> PageSet
+        ensures { (before : ℕ) → is_listed before result ≡ false }
+    {
+        PageSet {
+            flags: [false; PAGES],
+        }
+    }
+
+    /// These pages, and those from one number to another, counted from 1.
+    pub fn with(self, first: usize, last: usize) -> PageSet
+        ensures { HasWith first last self result }
+    {
+        let mut flags = self.flags;
+        for before in 0..PAGES {
+            if first <= before + 1 && before < last {
+                flags[before] = true;
+            }
+        }
+        PageSet { flags }
+    }
+}
 
 /// Which pages of a job are asked for.
 #[derive(Clone, Copy, Debug, PartialEq, Eq)]
 pub enum PageChoice {
     /// All of them.
     All,
-    /// This many pages after this many others.
-    Range { before: u16, count: u16 },
+    /// These, each of which has to be there.
+    Listed(PageSet),
 }
 
 impl PageChoice {
@@ -31,46 +65,67 @@ impl PageChoice {
     {
         match self {
             PageChoice::All => 0,
-            PageChoice::Range { before, count } => usize::from(before) + usize::from(count),
+            PageChoice::Listed(set) => last_listed(&set.flags),
         }
     }
 
-    /// Whether the first of the pages that are to come is asked for.
-    fn asks_next(self) -> bool
-        ensures { result ≡ asks_next self }
+    /// Of each page whether it is listed, from the first on; none where all are asked for.
+    fn flags(&self) -> Option<&[bool]>
+        ensures { left_of result ≡ flags_of self.now }
     {
         match self {
-            PageChoice::All => true,
-            PageChoice::Range { before, count } => before == 0 && count != 0,
+            PageChoice::All => None,
+            PageChoice::Listed(set) => Some(&set.flags),
         }
     }
+}
 
-    /// What is asked for of the pages after the first of those that are to come.
-    fn later(self) -> PageChoice
-        ensures { result ≡ later self }
-    {
-        match self {
-            PageChoice::All => PageChoice::All,
-            PageChoice::Range { before, count } => {
-                if before == 0 {
-                    let count = count.saturating_sub(1);
-                    PageChoice::Range { before, count }
-                } else {
-                    let before = before - 1;
-                    PageChoice::Range { before, count }
-                }
-            }
+/// How many pages there are up to the last that is listed.
+fn last_listed(flags: &[bool]) -> usize
+    ensures { result ≡ last_listed flags.now }
+{
+    let mut last = 0;
+    for (before, flag) in flags.iter().enumerate() {
+        if *flag {
+            last = before + 1;
         }
     }
+    last
+}
 
-    /// Whether no further page is asked for by its number.
-    fn is_met(self) -> bool
-        ensures { IsMetBy self result }
-    {
-        match self {
-            PageChoice::All => true,
-            PageChoice::Range { before, count } => before == 0 && count == 0,
-        }
+/// Whether the first of the pages that are to come is asked for, by which of them are listed.
+fn asks_next(left: Option<&[bool]>) -> bool
+    ensures { result ≡ asks_next (left_of left.entry) }
+{
+    match left {
+        None => true,
+        Some(flags) => match flags.first() {
+            Some(flag) => *flag,
+            None => false,
+        },
+    }
+}
+
+/// Which are listed of the pages after the first of those that are to come.
+fn later(left: Option<&[bool]>) -> Option<&[bool]>
+    ensures { left_of result ≡ later (left_of left.entry) }
+{
+    match left {
+        None => None,
+        Some(flags) => match flags.split_first() {
+            Some((_, others)) => Some(others),
+            None => Some(flags),
+        },
+    }
+}
+
+/// Whether no further page is asked for by its number.
+fn is_met(left: Option<&[bool]>) -> bool
+    ensures { IsMetBy (left_of left.entry) result }
+{
+    match left {
+        None => true,
+        Some(flags) => last_listed(flags) == 0,
     }
 }
 
@@ -116,12 +171,12 @@ fn chosen_images_in(
     ensures { ArePageImages form profile dpi job.now choice result }
 {
     let mut shown = Shown {
-        choice,
+        left: choice.flags(),
         form,
         images: Vec::new(alloc),
     };
     perform_by(alloc, job, profile, dpi, &mut shown)?;
-    if shown.choice.is_met() {
+    if is_met(shown.left) {
         Ok(shown.images)
     } else {
         Err(Fault::NoSuchPage)
@@ -130,34 +185,34 @@ fn chosen_images_in(
 
 /// Makes images of the pages that are asked for.
 #[derive(Drop)]
-struct Shown {
-    /// What is asked for of the pages that are to come.
-    choice: PageChoice,
+struct Shown<'a> {
+    /// Of each page that is to come whether it is listed; none where all are asked for.
+    left: Option<&'a [bool]>,
     /// The form of the images.
     form: ImageForm,
     /// The images so far.
     images: Vec<u8>,
 }
 
-impl Model for Shown {
-    ghost use Rattle.pcl_streams.specs.inner.Showing.{Showing};
+impl<'a> Model for Shown<'a> {
+    ghost use Rattle.pcl_streams.specs.inner.Showing.{Showing, showing};
 
     ghost Value = { Showing };
 
-    ghost view = { λ a. record { choice = a.choice; form = a.form; images = a.images.items } };
+    ghost view = { showing };
 }
 
-impl PageSink for Shown {
+impl<'a> PageSink for Shown<'a> {
     ghost use Rattle.std.specs.Prelude.{◌≡◌};
     ghost use Rattle.pcl_streams.specs.inner.Showing.{shown_after};
 
     ghost takes = { λ old page new. new ≡ shown_after old page };
 
     fn page(&mut self, page: &Page) -> Result<(), AllocError> {
-        if self.choice.asks_next() {
+        if asks_next(self.left) {
             append_image_in(self.form, &page.bitmap, &mut self.images)?;
         }
-        self.choice = self.choice.later();
+        self.left = later(self.left);
         Ok(())
     }
 }

@@ -5,13 +5,13 @@ use Rattle.pcl_streams.proofs.page_images.chosen_images_in.Goals as goal
 pub returns-then-is_met : goal.returns-then-is_met
 returns-then-is_met c =
     let h = c.in_ok-perform_by.ensures in
-    let choice = ap (λ (s : Showing). s.choice) c.shown.view_is in
+    let left = ap (λ (s : Showing). s.left) c.shown.view_is in
     let images = sym (ap (λ (s : Showing). s.images) c.shown.view_is) in
-    all_made _ c.perform_by.new.sink (has_pages h) h.handed.1 refl refl c.new.ensures.items images
-    (met_by c.is_met.result choice c.if-is_met.true c.is_met.ensures)
+    all_made _ c.perform_by.new.sink (has_pages h) h.handed.1 c.flags.ensures refl c.new.ensures.items images
+    (met_by c.is_met.result left c.if-is_met.true c.is_met.ensures)
 
 pub returns-else-is_met : goal.returns-else-is_met
 returns-else-is_met c =
     let h = c.in_ok-perform_by.ensures in
-    let choice = ap (λ (s : Showing). s.choice) c.shown.view_is in
-    one_lacks _ c.perform_by.new.sink (has_pages h) h.handed.1 refl (unmet_by c.is_met.result choice c.if-is_met.false c.is_met.ensures)
+    let left = ap (λ (s : Showing). s.left) c.shown.view_is in
+    one_lacks _ c.perform_by.new.sink c.args.choice (has_pages h) h.handed.1 c.flags.ensures (unmet_by c.is_met.result left c.if-is_met.false c.is_met.ensures)
