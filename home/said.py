@@ -6,8 +6,8 @@
 For each kind of DRIVERS.md, "By answer", `explain KIND` has to say the row's text. Then a job of each command, by its name, is
 explained by the stated profile, and where the command or its value is refused the text has to be that of the row which names it, or of
 the row with a letter left open that it fits, or, where there is none, that of the kind. No row may be without a command. The manual
-page has to have each word that the help of a command has, in the synopsis and below. Each difference is printed, and the status is then
-1.
+page has to have each word that the help of a command has, in the synopsis and below. The help has commands in README.md's order, and no
+line of it is longer than 100 columns. Each difference is printed, and the status is then 1.
 """
 
 import pathlib
@@ -22,7 +22,8 @@ LINE = re.compile(r"(?P<kind>\w+) at \d+ (?P<name>\S+)(?: [+-]?\d+)?(?: \(\d+ ti
 # A value that commands with numbers don't take, and data behind those that take some.
 VALUE, DATA = "5000", b"3W\0\0\0"
 ACCEPTED = "nothing is refused\n"
-COMMANDS = ("min", "same", "explain", "pages", "shrink", "batch", "check", "pbm", "pgm")
+# The longest line of a help.
+COLUMNS = 100
 
 
 def explain(pclmin, *words, job=b""):
@@ -92,12 +93,35 @@ def command_faults(pclmin, kinds, commands):
             yield "docs/DRIVERS.md has %s, of which no command is refused" % row
 
 
+# ---- help
+
+def help_of(pclmin, *words):
+    """The lines of a help."""
+    return subprocess.run([pclmin, *words, "--help"], capture_output=True, text=True, timeout=60, check=True).stdout.splitlines()
+
+
+def commands_of(pclmin):
+    """The commands, in the order of the help."""
+    lines = help_of(pclmin)
+    listed = lines[lines.index("Commands:") + 1:]
+    return [line.split()[0] for line in listed[:listed.index("")] if line.split()[0] != "help"]
+
+
+def help_faults(pclmin, commands):
+    """Commands that stand elsewhere in README.md, and lines that are too long."""
+    usages = re.findall(r"^pclmin (\w+) ", (ROOT / "README.md").read_text(), re.M)
+    if list(dict.fromkeys(usages)) != commands:
+        yield "README.md has %s, and the help %s" % (list(dict.fromkeys(usages)), commands)
+    for words in [(), *((command,) for command in commands)]:
+        yield from ("%s --help has a line of %d columns: %s" % (" ".join(words), len(line), line)
+                    for line in help_of(pclmin, *words) if len(line) > COLUMNS)
+
+
 # ---- the manual page
 
 def options(pclmin, *words):
     """The long words that a help has."""
-    said = subprocess.run([pclmin, *words, "--help"], capture_output=True, text=True, timeout=60, check=True).stdout
-    return re.findall(r"^ +(?:-\w, )?--([\w-]+)", said, re.M)
+    return re.findall(r"^ +(?:-\w, )?--([\w-]+)", "\n".join(help_of(pclmin, *words)), re.M)
 
 
 def has_word(text, word):
@@ -121,11 +145,13 @@ def manual_faults(pclmin, commands):
 
 
 def main(pclmin):
-    kinds, commands = tables()
-    faults = [*kind_faults(pclmin, kinds), *command_faults(pclmin, kinds, commands), *manual_faults(pclmin, COMMANDS)]
+    kinds, names = tables()
+    commands = commands_of(pclmin)
+    faults = [*kind_faults(pclmin, kinds), *command_faults(pclmin, kinds, names), *help_faults(pclmin, commands),
+              *manual_faults(pclmin, commands)]
     for fault in faults:
         print(fault)
-    print("%d kinds and %d names of commands, %d faults" % (len(kinds), len(commands), len(faults)))
+    print("%d kinds and %d names of commands, %d faults" % (len(kinds), len(names), len(faults)))
     return 1 if faults else 0
 
 

@@ -46,8 +46,8 @@ enum Argument {
     /// That this is reported as JSON.
     ReportJson,
     Quiet,
-    /// The resolution.
-    Dpi,
+    /// The resolution, and its help.
+    Dpi(&'static str),
 }
 
 /// The program's version.
@@ -58,8 +58,7 @@ const ABOUT: &str = "A print filter for HP PCL 5: reads a job, and writes or sho
 
 /// What it says last.
 const STATUSES: &str =
-    "Statuses: 0 done, proved or the same, 1 refused, no such page, not proved or not the same, 2 usage, \
-                        3 reading, writing or memory.";
+    "Statuses: 0 done; 1 refused, no such page, not proved or not the same; 2 usage; 3 files or memory.";
 
 /// The option by which jobs are shrunk too that printers may read otherwise, and its help.
 const PROFILE_ONLY: &str = "profile-only";
@@ -70,8 +69,7 @@ const READ_OTHERWISE: &str =
 /// The option by which what drivers send besides is read too, and its help.
 const DRIVERS: &str = "drivers";
 
-const READ_AS_SENT: &str =
-    "Read what drivers send besides too, as shrink does: offsets of the page, and how well to print";
+const READ_AS_SENT: &str = "Read what drivers send besides too, as shrink does";
 
 /// The option by which a job is read as `min` reads it, and its help.
 const STATED: &str = "stated";
@@ -81,79 +79,38 @@ const READ_AS_STATED: &str = "Read the job as min does, without what drivers sen
 const READ_BOTH_AS_STATED: &str = "Read both jobs as min does, without what drivers send besides";
 
 const READ_ALL_AS_STATED: &str =
-    "Read the jobs as min does, without what drivers send besides, which --min does by itself";
+    "Read the jobs as min does, as with --min, without what drivers send besides";
+
+/// What help says of the resolution where a command looks at one, and where it looks at each that counts.
+const ONE_RESOLUTION: &str = "Dots per inch: 300, 600, or auto, the first that is accepted";
+
+const EACH_RESOLUTION: &str = "Dots per inch: 300, 600, or auto, each that is accepted";
 
 /// The subcommands, in the order of the help.
 const SUBCOMMANDS: [Subcommand; 9] = [
     Subcommand {
-        name: "min",
-        about: "Writes a job again as the least raster job of the same pages",
+        name: "pbm",
+        about: "Writes pages of a job as PBM images (P4), one after the other",
         takes: &[
             Argument::Job,
             Argument::Output,
-            Argument::Option(
-                "cert",
-                "FILE",
-                "Also write a certificate of the job to this file, which gets it once all is done; a refused job empties it",
-            ),
-            Argument::Format,
+            Argument::Pages,
+            Argument::Flag(DRIVERS, READ_AS_SENT),
             Argument::Quiet,
-            Argument::Dpi,
+            Argument::Dpi(ONE_RESOLUTION),
         ],
     },
     Subcommand {
-        name: "same",
-        about: "Tells whether two jobs print the same pages, and where not",
-        takes: &[
-            Argument::File("A", "The one job"),
-            Argument::File("B", "The other job"),
-            Argument::Flag(
-                "asked",
-                "Compare what they ask of the printer too: copies, paper, sides, resets, and @PJL lines",
-            ),
-            Argument::Option(
-                "image",
-                "FILE",
-                "Where the first difference is a dot, write a PBM image (P4) of all dots of its page that differ to \
-                 this file; else it isn't made",
-            ),
-            Argument::Flag(
-                "json",
-                "Write an object of JSON: whether they are the same, and the line",
-            ),
-            Argument::Flag(STATED, READ_BOTH_AS_STATED),
-            Argument::Quiet,
-            Argument::Dpi,
-        ],
-    },
-    Subcommand {
-        name: "explain",
-        about: "Names everything in a job that is refused, and says what to set instead; given the name of a kind \
-                of refusal in place of a file, as NoFont, says what that means",
+        name: "pgm",
+        about: "Writes pages of a job as smaller PGM images (P5), one after the other",
         takes: &[
             Argument::Job,
             Argument::Output,
-            Argument::Flag("json", "Write one object of JSON"),
-            Argument::Flag(STATED, READ_AS_STATED),
+            Argument::Scale,
+            Argument::Pages,
+            Argument::Flag(DRIVERS, READ_AS_SENT),
             Argument::Quiet,
-            Argument::Dpi,
-        ],
-    },
-    Subcommand {
-        name: "pages",
-        about: "Lists the pages of a job: resolution, size, copies, sides, paper source, black dots in percent, \
-                bytes as least raster, and bytes of row data by method",
-        takes: &[
-            Argument::Job,
-            Argument::Output,
-            Argument::Json,
-            Argument::Flag(
-                "tsv",
-                "Write lines of columns that tabs part, which is what comes where nothing is asked for",
-            ),
-            Argument::Flag(STATED, READ_AS_STATED),
-            Argument::Quiet,
-            Argument::Dpi,
+            Argument::Dpi(ONE_RESOLUTION),
         ],
     },
     Subcommand {
@@ -167,18 +124,58 @@ const SUBCOMMANDS: [Subcommand; 9] = [
             Argument::Flag(PROFILE_ONLY, READ_OTHERWISE),
             Argument::Flag(STATED, READ_AS_STATED),
             Argument::Quiet,
-            Argument::Dpi,
+            Argument::Dpi(EACH_RESOLUTION),
+        ],
+    },
+    Subcommand {
+        name: "min",
+        about: "Writes a job again as the least raster job of the same pages",
+        takes: &[
+            Argument::Job,
+            Argument::Output,
+            Argument::Option(
+                "cert",
+                "FILE",
+                "Also write a certificate to this file; a refused job leaves it empty",
+            ),
+            Argument::Format,
+            Argument::Quiet,
+            Argument::Dpi(ONE_RESOLUTION),
+        ],
+    },
+    Subcommand {
+        name: "pages",
+        about: "Lists the pages of a job: size, copies, sides, source, black dots, and bytes",
+        takes: &[
+            Argument::Job,
+            Argument::Output,
+            Argument::Json,
+            Argument::Flag("tsv", "Write lines of columns, parted by tabs: the default"),
+            Argument::Flag(STATED, READ_AS_STATED),
+            Argument::Quiet,
+            Argument::Dpi(ONE_RESOLUTION),
+        ],
+    },
+    Subcommand {
+        name: "explain",
+        about: "Names all that is refused in a job, and what to set instead; or what a KIND means",
+        takes: &[
+            Argument::Job,
+            Argument::Output,
+            Argument::Flag("json", "Write one object of JSON"),
+            Argument::Flag(STATED, READ_AS_STATED),
+            Argument::Quiet,
+            Argument::Dpi(ONE_RESOLUTION),
         ],
     },
     Subcommand {
         name: "batch",
-        about: "Shrinks many jobs into a folder, and reports on each; one that fails doesn't stop the others, and \
-                what is done isn't done again",
+        about: "Shrinks many jobs into a folder, and reports on each; what is done isn't done again",
         takes: &[
             Argument::Folder,
             Argument::Flag(
                 "keep-folders",
-                "Keep the folders of the jobs' files below DIR, so that two jobs may have one name",
+                "Keep the jobs' folders below DIR, so that two jobs may have one name",
             ),
             Argument::InPlace,
             Argument::Flag(
@@ -189,13 +186,13 @@ const SUBCOMMANDS: [Subcommand; 9] = [
             Argument::Stated,
             Argument::Flag("json", "Report in JSON, an object on each line"),
             Argument::Quiet,
-            Argument::Dpi,
+            Argument::Dpi(EACH_RESOLUTION),
             Argument::Jobs,
         ],
     },
     Subcommand {
         name: "check",
-        about: "Checks by a certificate that a written job prints the pages of another one, and that none is shorter",
+        about: "Checks by a certificate that a written job has a job's pages, and none is shorter",
         takes: &[
             Argument::File(
                 "IN",
@@ -212,32 +209,31 @@ const SUBCOMMANDS: [Subcommand; 9] = [
                 "Write an object of JSON: whether it is proved, and the line",
             ),
             Argument::Quiet,
-            Argument::Dpi,
+            Argument::Dpi(ONE_RESOLUTION),
         ],
     },
     Subcommand {
-        name: "pbm",
-        about: "Writes pages of a job as PBM images (P4), one after the other",
+        name: "same",
+        about: "Tells whether two jobs print the same pages, and where not",
         takes: &[
-            Argument::Job,
-            Argument::Output,
-            Argument::Pages,
-            Argument::Flag(DRIVERS, READ_AS_SENT),
+            Argument::File("A", "The one job"),
+            Argument::File("B", "The other job"),
+            Argument::Flag(
+                "asked",
+                "Compare what they ask for too: copies, paper, sides, resets, @PJL lines",
+            ),
+            Argument::Option(
+                "image",
+                "FILE",
+                "Write a PBM image of the page's dots that differ, if a dot differs first",
+            ),
+            Argument::Flag(
+                "json",
+                "Write an object of JSON: whether they are the same, and the line",
+            ),
+            Argument::Flag(STATED, READ_BOTH_AS_STATED),
             Argument::Quiet,
-            Argument::Dpi,
-        ],
-    },
-    Subcommand {
-        name: "pgm",
-        about: "Writes pages of a job as smaller PGM images (P5), one after the other",
-        takes: &[
-            Argument::Job,
-            Argument::Output,
-            Argument::Scale,
-            Argument::Pages,
-            Argument::Flag(DRIVERS, READ_AS_SENT),
-            Argument::Quiet,
-            Argument::Dpi,
+            Argument::Dpi(EACH_RESOLUTION),
         ],
     },
 ];
@@ -313,7 +309,7 @@ fn arg<'a>(alloc: Global, argument: Argument) -> Result<Arg<'a>, AllocError> {
         Argument::Report => report(alloc),
         Argument::ReportJson => report_json(alloc),
         Argument::Quiet => Ok(quiet(alloc)),
-        Argument::Dpi => Ok(dpi(alloc)),
+        Argument::Dpi(help) => Ok(dpi(alloc, help)),
     }
 }
 
@@ -351,7 +347,7 @@ fn job<'a>(alloc: Global) -> Arg<'a> {
 /// The files of the jobs of a batch.
 fn jobs<'a>(alloc: Global) -> Arg<'a> {
     Arg::new(alloc, "JOB").value_name("JOB").num_args(0..).help(
-        "The files of the jobs; where none is given they are read from standard input, one name on each line",
+        "The files of the jobs; without any, standard input names one on each line",
     )
 }
 
@@ -361,7 +357,7 @@ fn output<'a>(alloc: Global) -> Arg<'a> {
         alloc,
         "output",
         "FILE",
-        "Write to this file, which keeps what it has until the run is done; standard output where none or - is given",
+        "Write to this file once all is done; else, or by -, to standard output",
     )
     .short('o')
 }
@@ -418,7 +414,7 @@ fn pages<'a>(alloc: Global) -> Arg<'a> {
         alloc,
         "page",
         "N",
-        "The number of a page, from 1 to 256, a range such as 2-5, or an ascending list such as 1,3,7-9; all pages where it isn't given",
+        "Pages from 1 to 256, as 2, 2-5 or 1,3,7-9; all where none are given",
     )
 }
 
@@ -444,7 +440,7 @@ fn report<'a>(alloc: Global) -> Result<Arg<'a>, AllocError> {
     flag(
         alloc,
         "report",
-        "Tell on standard error the bytes of both jobs, the pages, and how they are written",
+        "Tell on standard error bytes, pages, and how they are written",
     )
     .conflicts_with("quiet")
 }
@@ -465,12 +461,6 @@ fn quiet<'a>(alloc: Global) -> Arg<'a> {
 }
 
 /// The resolution, which all commands take.
-fn dpi<'a>(alloc: Global) -> Arg<'a> {
-    option(
-        alloc,
-        "dpi",
-        "N",
-        "The resolution in dots per inch: 300, 600, or auto for the first of these at which the job is accepted; shrink and batch keep the dots at each",
-    )
-    .default_value("300")
+fn dpi<'a>(alloc: Global, help: &'a str) -> Arg<'a> {
+    option(alloc, "dpi", "N", help).default_value("300")
 }

@@ -146,7 +146,7 @@ impl WrongWord<'_> {
                 "the resolution of --dpi is 300 or 600, or auto, and not '{word}'"
             ),
             WrongWord::Pages(word) => format!(in alloc;
-                "--page is a number from 1 to 256, a range such as 2-5, or an ascending list such as 1,3,7-9, and not '{word}'"
+                "--page takes pages from 1 to 256 in their order, as 2, 2-5 or 1,3,7-9, and not '{word}'"
             ),
             WrongWord::NoFolder => String::from_str(alloc, "the folder of -o has a name"),
             WrongWord::Missing => String::from_str(alloc, "a word is missing"),
