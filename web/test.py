@@ -48,6 +48,8 @@ JOBS = {
 REFUSED = "refused.pcl"
 PAGES = 87
 MANY = b"\x1bE" + b"".join(b"\x1b*p300x%dY\x1b*c900a30b0P\x0c" % (90 * page) for page in range(PAGES)) + b"\x1bE"
+# 20 megabytes, as a driver sends as many pages of text.
+LARGE = b"\x1bE" + b"".join(b"\x1b*t300R\x1b*r1A" + b"\x1b*b100W%097d   " % page * 2300 + b"\x1b*rC\f" for page in range(PAGES)) + b"\x1bE"
 # The first takes hours, and the second more than a second, but by bench/colours.py alone.
 SLOW = b"\x1bE\x1b*c2400a3300b" + b"0p1p" * 200_000 + b"0P\x1bE"
 SLOW_IN_COLOURS = b"\x1bE\x1b*c2400a3300b" + b"0p1p" * 500 + b"0P\x1bE"
@@ -713,6 +715,37 @@ def test_many(held, browser, program):
     browser.forget_status(410)
 
 
+# When a file was chosen, and when the first page of it is shown, in milliseconds.
+TIMED = """(() => {
+  const view = element('view');
+  delete view.dataset.page;
+  window.begun = window.shown = 0;
+  element('file').addEventListener('change', () => window.begun = performance.now(), { once: true });
+  new MutationObserver((_, observer) => {
+    if (view.dataset.page === '1') {
+      window.shown = performance.now();
+      observer.disconnect();
+    }
+  }).observe(view, { attributes: true });
+})()"""
+
+
+def test_first(held, browser, program):
+    """The first page of a large job is shown within a second, by the best of five times."""
+    with open(os.path.join(program.folder, "large.pcl"), "wb") as file:
+        file.write(LARGE)
+    taken = []
+    for _ in range(5):
+        with changed(server.Handler.jobs.kept, seconds=-1):
+            server.Handler.jobs.kept.forget()
+        browser.value(TIMED)
+        browser.choose(os.path.join(program.folder, "large.pcl"))
+        held.tell(browser.wait("window.shown > 0"), "the first page of a large job is shown")
+        taken.append(browser.value("window.shown - window.begun"))
+        open_job(held, browser, program, "two.pcl")
+    held.tell(0 < min(taken) < 1000, f"the first page of {len(LARGE) >> 20} megabytes is shown within a second: {taken}")
+
+
 def test_cancel(held, browser, program):
     """A job that takes hours is cancelled, or ends by itself; the next is shown."""
     with open(os.path.join(program.folder, "slow.pcl"), "wb") as file:
@@ -943,6 +976,7 @@ def test_page(held, address, program, folder, jobs, picture):
     test_greys(held, browser, program)
     test_photograph(held, browser, program)
     test_many(held, browser, program)
+    test_first(held, browser, program)
     test_cancel(held, browser, program)
     test_tabs(held, browser, program, address)
     test_where(held, browser, program, int(address.strip("/").rsplit(":", 1)[1]))
