@@ -112,7 +112,8 @@ holds "as standard input" 'grep -qx "keep://there 5 1" "$folder/called"'
 holds "a job at 600 dots per inch" \
     'printf "\033*t600R\033*r1A\033*b1W\200\033*rC" > "$folder/fine" && send "$folder/fine" auto && "$program" same --dpi 600 "$folder/fine" "$folder/kept" | grep -qx same'
 holds "what is refused goes as it came" 'send "$folder/text" auto && cmp -s "$folder/text" "$folder/kept"'
-holds "with a warning that names the refusal" 'grep -q "^WARNING: pclmin: sent as it came: pclmin: refused: NoFont at 0 text" "$folder/said"'
+holds "with a warning that names the refusal, and says what to do" \
+    'grep -q "^WARNING: pclmin: sent as it came: refused: NoFont at 0 text: text with no soft font selected: ..*$" "$folder/said"'
 holds "a long one too, on standard input" 'feed "$folder/long" && cmp -s "$folder/long" "$folder/kept"'
 holds "an empty job goes as it came" 'rm "$folder/kept"; feed /dev/null && test -e "$folder/kept" -a ! -s "$folder/kept"'
 holds "a title and options with blanks and ends of lines come whole" \

@@ -6,6 +6,7 @@ ghost use Rattle.pcl_batch.specs.Failing.{HasFailingStatus};
 ghost use Rattle.pcl_batch.specs.inner.Jobs.{IsHonestTally};
 
 use crate::job::write_job;
+use crate::names::Name;
 use crate::reasons::{Obstacle, Reason};
 use crate::rewriter::Rewriter;
 use indexmap::IndexSet;
@@ -42,13 +43,13 @@ impl Tally {
     }
 }
 
-/// Writes the jobs of files again, one after the other, and a report of them. A job that fails stops none of those after it, and what
+/// Writes jobs again, one after the other, and a report of them. A job that fails stops none of those after it, and what
 /// an earlier batch did isn't done again. A failure has the worst of their statuses.
 pub(crate) fn run_batch<F: JobFiles, W: Write, R: Rewriter, P: Reporter>(
     files: &mut F,
     alloc: Global,
     batch: Batch<'_>,
-    paths: &[&str],
+    jobs: &[Name<'_>],
     out: &mut W,
     rewriter: R,
     reporter: P,
@@ -58,7 +59,7 @@ pub(crate) fn run_batch<F: JobFiles, W: Write, R: Rewriter, P: Reporter>(
     if let Err(why) = make_folder_of(files, batch.place) {
         return Err(Failure::of_file(alloc, why));
     }
-    match write_jobs(files, alloc, batch, paths, out, rewriter, reporter) {
+    match write_jobs(files, alloc, batch, jobs, out, rewriter, reporter) {
         Ok(tally) => ended(alloc, tally),
         Err(fault) => Err(Failure::of(alloc, &fault, 0)),
     }
@@ -77,7 +78,7 @@ fn write_jobs<F: JobFiles, W: Write, R: Rewriter, P: Reporter>(
     files: &mut F,
     alloc: Global,
     batch: Batch<'_>,
-    paths: &[&str],
+    jobs: &[Name<'_>],
     out: &mut W,
     rewriter: R,
     reporter: P,
@@ -87,19 +88,39 @@ fn write_jobs<F: JobFiles, W: Write, R: Rewriter, P: Reporter>(
     let mut names = IndexSet::new(alloc);
     let mut tally = Tally::NOTHING;
     write_all(out, header(batch.layout).as_bytes())?;
-    for path in paths {
-        let entry = entry_of(files, alloc, batch, path, &mut names, rewriter)?;
+    for job in jobs {
+        let entry = entry_of(files, alloc, batch, *job, &mut names, rewriter)?;
         write_all(out, &entry.line(alloc, batch.layout)?)?;
         tally = tally.with(&entry);
-        reporter.jobs_done(tally.totals.jobs, paths.len());
+        reporter.jobs_done(tally.totals.jobs, jobs.len());
     }
     reporter.ended();
     write_all(out, &tally.totals.line(alloc, batch.layout)?)?;
     Ok(tally)
 }
 
-/// Writes a job, unless it has no place, or one before it has a name that it needs.
+/// Writes a job, unless its name is no text.
 fn entry_of<'w, F: JobFiles, R: Rewriter>(
+    files: &mut F,
+    alloc: Global,
+    batch: Batch<'_>,
+    job: Name<'w>,
+    names: &mut IndexSet<String>,
+    rewriter: R,
+) -> Result<Entry<'w>, AllocError>
+    ensures { IfOk result IsHonest }
+{
+    match job {
+        Name::Path(path) => entry_of_file(files, alloc, batch, path, names, rewriter),
+        Name::NoText(line) => {
+            let Reason { status, said } = Reason::of_no_text(alloc, line)?;
+            Ok(Entry::failed(None, status, said))
+        }
+    }
+}
+
+/// Writes the job of a file, unless it has no place, or one before it has a name that it needs.
+fn entry_of_file<'w, F: JobFiles, R: Rewriter>(
     files: &mut F,
     alloc: Global,
     batch: Batch<'_>,
@@ -117,7 +138,7 @@ fn entry_of<'w, F: JobFiles, R: Rewriter>(
         None => Obstacle::LeadsOut,
     };
     let Reason { status, said } = Reason::of(alloc, obstacle)?;
-    Ok(Entry::failed(path, status, said))
+    Ok(Entry::failed(Some(path), status, said))
 }
 
 /// Notes the names of what is written of a job, and says whether no job before it had one of them.

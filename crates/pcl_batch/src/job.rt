@@ -62,7 +62,7 @@ fn obstacle_of<F: JobFiles>(
 fn unseen<'w>(file: &'w str, reason: Reason) -> Entry<'w>
     ensures { IsFailing reason → IsHonest result }
 {
-    Entry::failed(file, reason.status, reason.said)
+    Entry::failed(Some(file), reason.status, reason.said)
 }
 
 /// Writes a job of these bytes again, unless an earlier batch did.
@@ -166,7 +166,7 @@ impl Came {
             Came::Failed(Reason { status, said }) => (Outcome::Failed, status, None, Some(said)),
         };
         Entry {
-            file,
+            file: Some(file),
             outcome,
             status,
             dpi,

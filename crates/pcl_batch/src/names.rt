@@ -5,6 +5,7 @@ ghost use Rattle.pcl_batch.specs.Failing.{HasFailingStatus};
 
 use crate::batch::run_batch;
 use crate::rewriter::Rewriter;
+use bstr::ByteSlice;
 use pcl_base::INPUT_LIMIT;
 use pcl_files::{Failure, JobFiles, Reporter};
 use pcl_request::Batch;
@@ -12,8 +13,14 @@ use pcl_streams::read_all;
 use std::alloc::{AllocError, Global};
 use std::io::{Read, Write};
 
-/// What is said where the names aren't text.
-const NO_TEXT: &[u8] = b"pclmin: the names of the jobs aren't text\n";
+/// How a job of a batch is named.
+#[derive(Clone, Copy)]
+pub(crate) enum Name<'w> {
+    /// By the path of its file.
+    Path(&'w str),
+    /// By the line of this number, from 1, of a list: it isn't text, so no file can be opened by it.
+    NoText(usize),
+}
 
 /// Runs a batch with the jobs of these files, or where none is named of those that a reader names, one on each line.
 pub fn run_named<F: JobFiles, I: Read, W: Write, R: Rewriter, P: Reporter>(
@@ -29,42 +36,55 @@ pub fn run_named<F: JobFiles, I: Read, W: Write, R: Rewriter, P: Reporter>(
     ensures { IfErr result HasFailingStatus }
 {
     if !paths.is_empty() {
-        return run_batch(files, alloc, batch, paths, out, rewriter, reporter);
+        let names = given(alloc, paths);
+        return run_names(files, alloc, batch, names, out, rewriter, reporter);
     }
     match read_all(alloc, reader, INPUT_LIMIT) {
-        Ok(text) => run_listed(files, alloc, batch, &text, out, rewriter, reporter),
+        Ok(list) => {
+            let names = listed(alloc, &list);
+            run_names(files, alloc, batch, names, out, rewriter, reporter)
+        }
         Err(fault) => Err(Failure::of(alloc, &fault, 0)),
     }
 }
 
-/// Runs a batch with the jobs that a text names, one on each line.
-fn run_listed<F: JobFiles, W: Write, R: Rewriter, P: Reporter>(
+/// Runs a batch with jobs of these names, unless there was no memory for them.
+fn run_names<F: JobFiles, W: Write, R: Rewriter, P: Reporter>(
     files: &mut F,
     alloc: Global,
     batch: Batch<'_>,
-    text: &[u8],
+    names: Result<Vec<Name<'_>>, AllocError>,
     out: &mut W,
     rewriter: R,
     reporter: P,
 ) -> Result<(), Failure>
     ensures { IfErr result HasFailingStatus }
 {
-    match std::str::from_utf8(text) {
-        Ok(text) => match lines(alloc, text) {
-            Ok(paths) => run_batch(files, alloc, batch, &paths, out, rewriter, reporter),
-            Err(_) => Err(Failure::NoMemory),
-        },
-        Err(_) => Err(Failure::usage(alloc, NO_TEXT)),
+    match names {
+        Ok(names) => run_batch(files, alloc, batch, &names, out, rewriter, reporter),
+        Err(_) => Err(Failure::NoMemory),
     }
 }
 
-/// The lines of a text that aren't empty.
-fn lines<'w>(alloc: Global, text: &'w str) -> Result<Vec<&'w str>, AllocError> {
-    let mut paths = Vec::new(alloc);
-    for line in text.lines() {
+/// The names of these files.
+fn given<'w>(alloc: Global, paths: &[&'w str]) -> Result<Vec<Name<'w>>, AllocError> {
+    let mut names = Vec::new(alloc);
+    for path in paths {
+        names.push(Name::Path(path))?;
+    }
+    Ok(names)
+}
+
+/// The names on the lines of a list that aren't empty.
+fn listed<'w>(alloc: Global, list: &'w [u8]) -> Result<Vec<Name<'w>>, AllocError> {
+    let mut names = Vec::new(alloc);
+    for (place, line) in list.lines().enumerate() {
         if !line.is_empty() {
-            paths.push(line)?;
+            names.push(match std::str::from_utf8(line) {
+                Ok(path) => Name::Path(path),
+                Err(_) => Name::NoText(place.saturating_add(1)),
+            })?;
         }
     }
-    Ok(paths)
+    Ok(names)
 }

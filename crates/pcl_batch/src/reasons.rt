@@ -70,6 +70,16 @@ impl Reason {
         })
     }
 
+    /// Of a line of this number that should name it and isn't text.
+    pub(crate) fn of_no_text(alloc: Global, line: usize) -> Result<Reason, AllocError>
+        ensures { IfOk result IsFailing }
+    {
+        Ok(Reason {
+            status: FILE_STATUS,
+            said: format!(in alloc; "cannot read: the name on line {line} isn't text")?,
+        })
+    }
+
     /// Of a fault of reading or writing.
     pub(crate) fn of_fault(alloc: Global, fault: &Fault) -> Result<Reason, AllocError>
         ensures { IfOk result IsFailing }

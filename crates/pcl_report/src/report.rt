@@ -35,8 +35,8 @@ impl Outcome {
 /// What is reported of a job.
 #[derive(Drop, Serialize)]
 pub struct Entry<'w> {
-    /// The path of its file.
-    pub file: &'w str,
+    /// The path of its file, unless its name isn't text.
+    pub file: Option<&'w str>,
     pub outcome: Outcome,
     /// The status that the program would have ended with for this job alone.
     pub status: u8,
@@ -53,7 +53,7 @@ pub struct Entry<'w> {
 
 impl<'w> Entry<'w> {
     /// Of a job that failed before anything was known of it.
-    pub fn failed(file: &'w str, status: u8, said: String) -> Entry<'w>
+    pub fn failed(file: Option<&'w str>, status: u8, said: String) -> Entry<'w>
         ensures outcome { result.outcome ≡ Failed }
         ensures status { result.status ≡ status }
     {
@@ -90,7 +90,7 @@ impl<'w> Entry<'w> {
 
     /// The columns of a table. In a name a tab, a line feed and a backslash stand as `\t`, `\n` and `\\`.
     fn row(&self, alloc: Global) -> Result<String, AllocError> {
-        let file = escaped(alloc, self.file)?;
+        let file = name_column(alloc, self.file)?;
         let file = file.as_str();
         let outcome = self.outcome.name();
         let status = self.status;
@@ -124,6 +124,14 @@ pub fn header(layout: Layout) -> &'static str {
         Layout::Text =>
             "file\toutcome\tstatus\tdpi\tpages\tbytes_in\tsha256_in\tbytes_out\tsha256_out\tsaid\n",
         Layout::Json => "",
+    }
+}
+
+/// The column of a name, or a dash.
+fn name_column(alloc: Global, name: Option<&str>) -> Result<String, AllocError> {
+    match name {
+        Some(name) => escaped(alloc, name),
+        None => String::from_str(alloc, "-"),
     }
 }
 
