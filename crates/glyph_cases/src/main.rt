@@ -104,7 +104,7 @@ const FINE_RULE: Case = Case {
     ..RULE
 };
 
-const CASES: [Case; 57] = [
+const CASES: [Case; 60] = [
     LINE,
     Case {
         name: "one letter",
@@ -142,8 +142,7 @@ const CASES: [Case; 57] = [
         step: 4,
         ..LINE
     },
-    // The least distance is 16, and of the rests 9, 10, 11, 7, 7, 6, 14, 15 and 1 only the seven is there eight times: it is a space,
-    // and the other 27 are moves, of six bytes up to 9 and of seven above.
+    // Two distances of ten are 23, which is the advance. None of the other rests is there eight times, so these are 31 moves of six bytes.
     Case {
         name: "gaps in turn",
         shifts: &[0, 1, 3, 6, 5, 4, 2, 8, 0, 7],
@@ -153,6 +152,34 @@ const CASES: [Case; 57] = [
         name: "gaps that are frequent",
         lines: 40,
         shifts: &[0, 1, 3, 6, 5, 4, 2, 8, 0, 7],
+        ..LINE
+    },
+    // Eight rests of 5, which the space makes, and eight of 9, with a blank of 29 bytes: these two make three rests of 14.
+    Case {
+        name: "two blanks in turn",
+        shifts: &[
+            0, 0, 5, 5, 14, 14, 19, 19, 28, 28, 33, 33, 42, 42, 47, 47, 56, 56, 61, 61, 70, 70, 75,
+            75, 84, 84, 89, 89, 98, 98, 103, 103, 112, 126, 126, 140, 140, 154, 154, 154,
+        ],
+        ..LINE
+    },
+    Case {
+        name: "advances that are no whole dots",
+        lines: 40,
+        letters: 20,
+        kinds: 7,
+        shifts: &[0, 0, 0, 1, 1, 2, 2, 2, 3, 3, 4, 4, 4, 5, 5, 6, 6, 6, 7, 7],
+        ..LINE
+    },
+    // The first letter of a line stands at the edge, so its glyph has no bearing to the right.
+    Case {
+        name: "such advances from the left edge on",
+        lines: 40,
+        letters: 20,
+        kinds: 5,
+        first: 0,
+        x: 0,
+        shifts: &[0, 0, 0, 1, 1, 2, 2, 2, 3, 3, 4, 4, 4, 5, 5, 6, 6, 6, 7, 7],
         ..LINE
     },
     Case {
@@ -221,7 +248,7 @@ const CASES: [Case; 57] = [
     },
     // Most shapes of the second line are the boxes, which end a row lower than the letters: it seems to stand there, and the first line
     // where its letters end. There are more letters than boxes, so both lines stand where these end: 2, 79, 37 and 38 for the
-    // characters, 33, 8, twice 11 for the lines, 34 for their codes, 18 for blanks between letters, since a box is nearer, and 3.
+    // characters, 33, 8, twice 11 for the lines, 34 for their codes, twice 6 for a move back to the first box, which is nearer, and 3.
     Case {
         name: "boxes that end lower than letters",
         lines: 2,

@@ -6,6 +6,7 @@ mod fonts;
 mod layout;
 mod pen;
 mod permanence;
+mod rests;
 mod spacing;
 
 pub use fonts::append_fonts;

@@ -1,7 +1,8 @@
 //! The text of letters: codes, moves of the cursor, and changes of the font.
 
-use crate::codes::{blank_code, font_id};
+use crate::codes::font_id;
 use crate::layout::FontLayout;
+use crate::rests::append_rest;
 use pcl_patterns::{Letter, append_labelled, digit_count};
 use std::alloc::AllocError;
 
@@ -15,7 +16,7 @@ const SHIFT_OUT: u8 = 14;
 #[derive(Clone, Copy)]
 pub struct Pen {
     /// The dot of the cursor.
-    pub x: u32,
+    pub x: i32,
     /// The dot row of the cursor; none at the start of a page.
     pub line: Option<u32>,
     /// The width of the page: the cursor stops there.
@@ -54,9 +55,10 @@ impl Pen {
     }
 
     /// With the cursor at another place.
-    fn at(self, x: u32, line: u32) -> Pen {
+    fn at(self, x: i32, line: u32) -> Pen {
+        let edge = i32::try_from(self.page_width).unwrap_or(i32::MAX);
         Pen {
-            x: x.min(self.page_width),
+            x: x.min(edge),
             line: Some(line),
             page_width: self.page_width,
             has_primary: self.has_primary,
@@ -90,55 +92,45 @@ fn append_letter(
     out: &mut Vec<u8>,
 ) -> Result<Pen, AllocError> {
     let gap = match next {
-        Some(next) => letter.gap_to(next),
+        Some(next) => layout.spacing.distance(letter, next),
         None => None,
     };
     let Some((code, advance)) = layout.spacing.character(letter.glyph, gap) else {
         return Ok(pen);
     };
-    append_move(layout, letter, pen, out)?;
+    let place = layout.spacing.metrics.place_of(letter);
+    append_move(layout, letter, place, pen, out)?;
     let pen = select_font(code.font, pen, out)?;
     out.push(code.code)?;
-    Ok(pen.at(letter.x.saturating_add(advance), letter.baseline))
+    Ok(pen.at(place.saturating_add_unsigned(advance), letter.baseline))
 }
 
-/// Appends what moves the cursor to a letter.
+/// Appends what moves the cursor to the place of a letter.
 fn append_move(
     layout: &FontLayout,
     letter: &Letter,
+    place: i32,
     pen: Pen,
     out: &mut Vec<u8>,
 ) -> Result<(), AllocError> {
     if pen.line != Some(letter.baseline) {
-        return append_line_start(letter, pen, out);
+        let x = u32::try_from(place).unwrap_or(0);
+        return append_line_start(letter, x, pen, out);
     }
-    if letter.x < pen.x {
-        append_labelled(b"\x1b*p-", pen.x.saturating_sub(letter.x), out)?;
-        return out.extend_from_slice(b"X");
+    if place == pen.x {
+        return Ok(());
     }
-    if letter.x > pen.x {
-        return append_gap(layout, letter.x.saturating_sub(pen.x), out);
-    }
-    Ok(())
-}
-
-/// Appends a blank of this many dots, or else a move.
-fn append_gap(layout: &FontLayout, gap: u32, out: &mut Vec<u8>) -> Result<(), AllocError> {
-    match layout.spacing.blanks.get_index_of(&gap) {
-        Some(number) => {
-            out.push(blank_code(number))?;
-            Ok(())
-        }
-        None => {
-            append_labelled(b"\x1b*p+", gap, out)?;
-            out.extend_from_slice(b"X")
-        }
-    }
+    append_rest(&layout.spacing.blanks, place.saturating_sub(pen.x), out)
 }
 
 /// Appends a move to the start of another line. It is counted from the line above where that takes fewer bytes.
-fn append_line_start(letter: &Letter, pen: Pen, out: &mut Vec<u8>) -> Result<(), AllocError> {
-    append_labelled(b"\x1b*p", letter.x, out)?;
+fn append_line_start(
+    letter: &Letter,
+    x: u32,
+    pen: Pen,
+    out: &mut Vec<u8>,
+) -> Result<(), AllocError> {
+    append_labelled(b"\x1b*p", x, out)?;
     let below = pen
         .line
         .and_then(|line| letter.baseline.checked_sub(line))

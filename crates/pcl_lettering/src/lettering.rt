@@ -47,7 +47,7 @@ impl Lettering {
             ..
         } = collection;
         let letters = match form {
-            Form::Characters => Lettered::Characters(lay_out(alloc, patterns, letters)?),
+            Form::Characters => Lettered::Characters(lay_out(alloc, &widths, patterns, letters)?),
             Form::Macros { scale } => {
                 let layout = lay_out_macros(alloc, scale, &widths, patterns, letters)?;
                 Lettered::Macros(layout)
