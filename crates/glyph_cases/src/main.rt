@@ -104,7 +104,7 @@ const FINE_RULE: Case = Case {
     ..RULE
 };
 
-const CASES: [Case; 60] = [
+const CASES: [Case; 61] = [
     LINE,
     Case {
         name: "one letter",
@@ -268,6 +268,42 @@ const CASES: [Case; 60] = [
             [556, 140, 6, 10],
             [580, 140, 6, 10],
             [604, 140, 6, 10],
+        ],
+        ..LINE
+    },
+    // The last eight boxes stand seven rows higher than the others. They are a character of 34 bytes twice, and 28 codes more than the 213
+    // of the letters. A box is nearer than the next letter, so eleven spaces stand between letters.
+    Case {
+        name: "boxes that stand high too",
+        rectangles: &[
+            [164, 104, 4, 6],
+            [188, 104, 4, 6],
+            [212, 104, 4, 6],
+            [236, 104, 4, 6],
+            [260, 104, 4, 6],
+            [284, 104, 4, 6],
+            [308, 104, 4, 6],
+            [332, 104, 4, 6],
+            [356, 104, 4, 6],
+            [380, 104, 4, 6],
+            [404, 104, 4, 6],
+            [428, 104, 4, 6],
+            [452, 104, 4, 6],
+            [476, 104, 4, 6],
+            [500, 104, 4, 6],
+            [524, 104, 4, 6],
+            [548, 104, 4, 6],
+            [572, 104, 4, 6],
+            [596, 104, 4, 6],
+            [620, 104, 4, 6],
+            [644, 97, 4, 6],
+            [668, 97, 4, 6],
+            [692, 97, 4, 6],
+            [716, 97, 4, 6],
+            [740, 97, 4, 6],
+            [764, 97, 4, 6],
+            [788, 97, 4, 6],
+            [812, 97, 4, 6],
         ],
         ..LINE
     },
