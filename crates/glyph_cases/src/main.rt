@@ -104,7 +104,7 @@ const FINE_RULE: Case = Case {
     ..RULE
 };
 
-const CASES: [Case; 61] = [
+const CASES: [Case; 64] = [
     LINE,
     Case {
         name: "one letter",
@@ -305,6 +305,32 @@ const CASES: [Case; 61] = [
             [788, 97, 4, 6],
             [812, 97, 4, 6],
         ],
+        ..LINE
+    },
+    // Line feeds start 38 lines. They are set by 7 bytes for the margin, 9 for the spacing of 12.80 and 5 for the termination: with 162
+    // around the lines, 51 for the first line, 41 for each of these, and 51 for the last one, which is in the last half inch.
+    Case {
+        name: "lines down to the lower edge",
+        lines: 40,
+        leading: 80,
+        ..LINE
+    },
+    // The font and what is around the pages take 128, the termination 5, a page text 36, its settings 7 and 8, its lines 21 and nine
+    // times 11, the spacing that is set again 5, and a form feed.
+    Case {
+        name: "lines of two pages with a length",
+        start: b"\x1b&l66P",
+        pages: 2,
+        lines: 10,
+        letters: 10,
+        ..LINE
+    },
+    Case {
+        name: "lines of two pages with a reset between",
+        start: b"\x1bE",
+        pages: 2,
+        lines: 10,
+        letters: 10,
         ..LINE
     },
     Case {

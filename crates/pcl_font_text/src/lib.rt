@@ -2,6 +2,7 @@
 #![tactic(auto)]
 
 mod codes;
+mod feeds;
 mod fonts;
 mod layout;
 mod pen;

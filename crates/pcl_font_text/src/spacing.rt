@@ -1,6 +1,7 @@
 //! How far letters advance, and what makes the rests that are left.
 
 use crate::codes::{Code, code_of_rank};
+use crate::feeds::has_feeds;
 use crate::rests::RestCosts;
 use indexmap::IndexMap;
 use pcl_patterns::{Letter, Letters, Metrics, Patterns, find_metrics, number_of_place};
@@ -53,6 +54,8 @@ pub struct Spacing {
     pub characters: IndexMap<Character, u32>,
     /// The rests that blanks make, in dots, the most frequent first, and how often each is there.
     pub blanks: IndexMap<u32, u32>,
+    /// Whether line feeds may start lines: then the first blank, which is the pitch of fonts, is a dot.
+    pub has_feeds: bool,
 }
 
 impl Spacing {
@@ -78,14 +81,16 @@ impl Spacing {
         gaps: &[CountedGap],
         uses: &[u32],
     ) -> Result<Spacing, AllocError> {
+        let has_feeds = has_feeds(alloc, &found.letters)?;
         let mut usual = first_advances(alloc, &metrics, patterns, found, uses.len())?;
         let characters = find_characters(alloc, patterns, found, gaps, uses, &mut usual)?;
-        let blanks = find_blanks(alloc, gaps, &characters, &usual)?;
+        let blanks = sent_blanks(alloc, gaps, &characters, &usual, has_feeds)?;
         Ok(Spacing {
             metrics,
             usual,
             characters,
             blanks,
+            has_feeds,
         })
     }
 
@@ -361,6 +366,21 @@ fn pays(patterns: &Patterns, found: &Letters, counted: &CountedGap, cost: u32) -
     }
 }
 
+/// The rests that blanks make beside these characters. Where line feeds may start lines, the first is a dot.
+fn sent_blanks(
+    alloc: Global,
+    gaps: &[CountedGap],
+    characters: &IndexMap<Character, u32>,
+    usual: &[u32],
+    has_feeds: bool,
+) -> Result<IndexMap<u32, u32>, AllocError> {
+    let mut blanks = find_blanks(alloc, gaps, characters, usual)?;
+    if has_feeds {
+        begin_with_dot(&mut blanks)?;
+    }
+    Ok(blanks)
+}
+
 /// The rests that blanks make: those to the right that the usual advances leave where no character goes so far, if they are frequent; the
 /// most frequent first, up to the limit.
 fn find_blanks(
@@ -393,6 +413,21 @@ fn count_blank(blank: u32, count: u32, blanks: &mut IndexMap<u32, u32>) -> Resul
     let total = blanks.entry(blank)?.or_insert(0u32);
     *total = total.saturating_add(count);
     Ok(())
+}
+
+/// Has the first blank be a dot, where there is any.
+fn begin_with_dot(blanks: &mut IndexMap<u32, u32>) -> Result<(), AllocError> {
+    if blanks.is_empty() {
+        return Ok(());
+    }
+    blanks.entry(1)?.or_insert(0u32);
+    blanks.sort_by_key(|gap: &u32, count: &u32| -> u32 {
+        if *gap == 1 {
+            0
+        } else {
+            u32::MAX.saturating_sub(*count)
+        }
+    })
 }
 
 /// Keeps the blanks that are frequent, the most frequent first, up to the limit.
