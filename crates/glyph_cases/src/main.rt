@@ -104,7 +104,7 @@ const FINE_RULE: Case = Case {
     ..RULE
 };
 
-const CASES: [Case; 57] = [
+const CASES: [Case; 64] = [
     LINE,
     Case {
         name: "one letter",
@@ -142,8 +142,7 @@ const CASES: [Case; 57] = [
         step: 4,
         ..LINE
     },
-    // The least distance is 16, and of the rests 9, 10, 11, 7, 7, 6, 14, 15 and 1 only the seven is there eight times: it is a space,
-    // and the other 27 are moves, of six bytes up to 9 and of seven above.
+    // Two distances of ten are 23, which is the advance. None of the other rests is there eight times, so these are 31 moves of six bytes.
     Case {
         name: "gaps in turn",
         shifts: &[0, 1, 3, 6, 5, 4, 2, 8, 0, 7],
@@ -153,6 +152,34 @@ const CASES: [Case; 57] = [
         name: "gaps that are frequent",
         lines: 40,
         shifts: &[0, 1, 3, 6, 5, 4, 2, 8, 0, 7],
+        ..LINE
+    },
+    // Eight rests of 5, which the space makes, and eight of 9, with a blank of 29 bytes: these two make three rests of 14.
+    Case {
+        name: "two blanks in turn",
+        shifts: &[
+            0, 0, 5, 5, 14, 14, 19, 19, 28, 28, 33, 33, 42, 42, 47, 47, 56, 56, 61, 61, 70, 70, 75,
+            75, 84, 84, 89, 89, 98, 98, 103, 103, 112, 126, 126, 140, 140, 154, 154, 154,
+        ],
+        ..LINE
+    },
+    Case {
+        name: "advances that are no whole dots",
+        lines: 40,
+        letters: 20,
+        kinds: 7,
+        shifts: &[0, 0, 0, 1, 1, 2, 2, 2, 3, 3, 4, 4, 4, 5, 5, 6, 6, 6, 7, 7],
+        ..LINE
+    },
+    // The first letter of a line stands at the edge, so its glyph has no bearing to the right.
+    Case {
+        name: "such advances from the left edge on",
+        lines: 40,
+        letters: 20,
+        kinds: 5,
+        first: 0,
+        x: 0,
+        shifts: &[0, 0, 0, 1, 1, 2, 2, 2, 3, 3, 4, 4, 4, 5, 5, 6, 6, 6, 7, 7],
         ..LINE
     },
     Case {
@@ -221,7 +248,7 @@ const CASES: [Case; 57] = [
     },
     // Most shapes of the second line are the boxes, which end a row lower than the letters: it seems to stand there, and the first line
     // where its letters end. There are more letters than boxes, so both lines stand where these end: 2, 79, 37 and 38 for the
-    // characters, 33, 8, twice 11 for the lines, 34 for their codes, 18 for blanks between letters, since a box is nearer, and 3.
+    // characters, 33, 8, twice 11 for the lines, 34 for their codes, twice 6 for a move back to the first box, which is nearer, and 3.
     Case {
         name: "boxes that end lower than letters",
         lines: 2,
@@ -242,6 +269,68 @@ const CASES: [Case; 57] = [
             [580, 140, 6, 10],
             [604, 140, 6, 10],
         ],
+        ..LINE
+    },
+    // The last eight boxes stand seven rows higher than the others. They are a character of 34 bytes twice, and 28 codes more than the 213
+    // of the letters. A box is nearer than the next letter, so eleven spaces stand between letters.
+    Case {
+        name: "boxes that stand high too",
+        rectangles: &[
+            [164, 104, 4, 6],
+            [188, 104, 4, 6],
+            [212, 104, 4, 6],
+            [236, 104, 4, 6],
+            [260, 104, 4, 6],
+            [284, 104, 4, 6],
+            [308, 104, 4, 6],
+            [332, 104, 4, 6],
+            [356, 104, 4, 6],
+            [380, 104, 4, 6],
+            [404, 104, 4, 6],
+            [428, 104, 4, 6],
+            [452, 104, 4, 6],
+            [476, 104, 4, 6],
+            [500, 104, 4, 6],
+            [524, 104, 4, 6],
+            [548, 104, 4, 6],
+            [572, 104, 4, 6],
+            [596, 104, 4, 6],
+            [620, 104, 4, 6],
+            [644, 97, 4, 6],
+            [668, 97, 4, 6],
+            [692, 97, 4, 6],
+            [716, 97, 4, 6],
+            [740, 97, 4, 6],
+            [764, 97, 4, 6],
+            [788, 97, 4, 6],
+            [812, 97, 4, 6],
+        ],
+        ..LINE
+    },
+    // Line feeds start 38 lines. They are set by 7 bytes for the margin, 9 for the spacing of 12.80 and 5 for the termination: with 162
+    // around the lines, 51 for the first line, 41 for each of these, and 51 for the last one, which is in the last half inch.
+    Case {
+        name: "lines down to the lower edge",
+        lines: 40,
+        leading: 80,
+        ..LINE
+    },
+    // The font and what is around the pages take 128, the termination 5, a page text 36, its settings 7 and 8, its lines 21 and nine
+    // times 11, the spacing that is set again 5, and a form feed.
+    Case {
+        name: "lines of two pages with a length",
+        start: b"\x1b&l66P",
+        pages: 2,
+        lines: 10,
+        letters: 10,
+        ..LINE
+    },
+    Case {
+        name: "lines of two pages with a reset between",
+        start: b"\x1bE",
+        pages: 2,
+        lines: 10,
+        letters: 10,
         ..LINE
     },
     Case {

@@ -19,6 +19,8 @@ const QUARTERS: u32 = 4;
 #[derive(Clone, Copy)]
 struct Sent<'a> {
     code: u8,
+    /// How far right of the cursor its left edge stands, in dots.
+    left: i32,
     /// How far its topmost row lies above the cursor, in dots.
     top: u32,
     /// In dots.
@@ -71,6 +73,7 @@ fn sent_of_rank(
     let pattern = layout.pattern_of(character.glyph)?;
     let sent = Sent {
         code: code.code,
+        left: layout.spacing.metrics.bearing(character.glyph),
         top: layout.letters.top_of(character.glyph),
         width: pattern.width,
         height: pattern.height,
@@ -94,6 +97,7 @@ fn append_blanks(layout: &FontLayout, out: &mut Vec<u8>) -> Result<(), AllocErro
     for (number, gap) in layout.spacing.blanks.keys().enumerate().skip(1) {
         let sent = Sent {
             code: blank_code(number),
+            left: 0,
             top: 0,
             width: 1,
             height: 1,
@@ -113,8 +117,14 @@ fn append_character(sent: &Sent<'_>, out: &mut Vec<u8>) -> Result<(), AllocError
     // Format 4, no continuation, a descriptor of 14 bytes, class 1, portrait.
     out.extend_from_slice(&[b'W', 4, 0, 14, 1, 0, 0])?;
     let advance = sent.advance.saturating_mul(QUARTERS);
-    append_words(&[0, sent.top, sent.width, sent.height, advance], out)?;
+    append_left(sent.left, out)?;
+    append_words(&[sent.top, sent.width, sent.height, advance], out)?;
     out.extend_from_slice(sent.rows)
+}
+
+/// Appends a left offset, a field of two bytes with a sign.
+fn append_left(left: i32, out: &mut Vec<u8>) -> Result<(), AllocError> {
+    out.extend_from_slice(&i16::try_from(left).unwrap_or(0).to_be_bytes())
 }
 
 /// Appends fields of two bytes.

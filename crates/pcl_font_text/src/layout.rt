@@ -19,14 +19,15 @@ impl FontLayout {
     }
 }
 
-/// The layout of these letters: those whose characters are sent.
+/// The layout of these letters, on pages of these widths: those whose characters are sent.
 pub fn lay_out(
     alloc: Global,
+    widths: &[u32],
     patterns: Patterns,
     letters: Letters,
 ) -> Result<FontLayout, AllocError> {
     let mut letters = letters;
-    let spacing = Spacing::new(alloc, &patterns, &letters)?;
+    let spacing = Spacing::new(alloc, widths, &patterns, &letters)?;
     letters.letters.retain(|letter: &Letter| -> bool {
         spacing.character(letter.glyph, None).is_some()
     });

@@ -2,10 +2,12 @@
 #![tactic(auto)]
 
 mod codes;
+mod feeds;
 mod fonts;
 mod layout;
 mod pen;
 mod permanence;
+mod rests;
 mod spacing;
 
 pub use fonts::append_fonts;

@@ -1,21 +1,32 @@
 //! The text of letters: codes, moves of the cursor, and changes of the font.
 
-use crate::codes::{blank_code, font_id};
+use crate::codes::font_id;
+use crate::feeds::{Feed, find_feed};
 use crate::layout::FontLayout;
+use crate::rests::append_rest;
 use pcl_patterns::{Letter, append_labelled, digit_count};
-use std::alloc::AllocError;
+use std::alloc::{AllocError, Global};
 
 /// The primary font is in use from here on.
 const SHIFT_IN: u8 = 15;
 
+/// The line feed.
+const LINE_FEED: u8 = 10;
+
 /// The secondary font is in use from here on.
 const SHIFT_OUT: u8 = 14;
 
-/// What the printer holds: where its cursor is, and which fonts are selected.
+/// A line feed puts the cursor at the left margin too.
+const LINE_TERMINATION: &[u8] = b"\x1b&k2G";
+
+/// The line spacing is the default again, a sixth of an inch.
+const USUAL_SPACING: &[u8] = b"\x1b&l6D";
+
+/// What the printer holds: where its cursor is, which fonts are selected, and what a line feed does.
 #[derive(Clone, Copy)]
 pub struct Pen {
     /// The dot of the cursor.
-    pub x: u32,
+    pub x: i32,
     /// The dot row of the cursor; none at the start of a page.
     pub line: Option<u32>,
     /// The width of the page: the cursor stops there.
@@ -26,11 +37,17 @@ pub struct Pen {
     pub secondary: Option<usize>,
     /// Whether the secondary font is in use.
     pub is_shifted: bool,
+    /// The line feed that is set on the page, if one is.
+    pub feed: Option<Feed>,
+    /// Whether a line feed goes to the left margin.
+    pub returns: bool,
+    /// Whether the line spacing is the default again after each page, since page lengths count lines.
+    pub keeps_spacing: bool,
 }
 
 impl Pen {
-    /// At the start of a job.
-    pub fn new() -> Pen {
+    /// At the start of a job, whether the line spacing is the default again after each page or not.
+    pub fn new(keeps_spacing: bool) -> Pen {
         Pen {
             x: 0,
             line: None,
@@ -38,36 +55,104 @@ impl Pen {
             has_primary: false,
             secondary: None,
             is_shifted: false,
+            feed: None,
+            returns: false,
+            keeps_spacing,
         }
     }
 
     /// At the start of the text of a page. The fonts stay.
     pub fn on_page(self, page_width: u32) -> Pen {
-        Pen {
-            x: 0,
-            line: None,
-            page_width,
-            has_primary: self.has_primary,
-            secondary: self.secondary,
-            is_shifted: self.is_shifted,
-        }
+        let mut pen = self;
+        pen.x = 0;
+        pen.line = None;
+        pen.page_width = page_width;
+        pen.feed = None;
+        pen
     }
 
     /// With the cursor at another place.
-    fn at(self, x: u32, line: u32) -> Pen {
-        Pen {
-            x: x.min(self.page_width),
-            line: Some(line),
-            page_width: self.page_width,
-            has_primary: self.has_primary,
-            secondary: self.secondary,
-            is_shifted: self.is_shifted,
-        }
+    fn at(self, x: i32, line: u32) -> Pen {
+        let mut pen = self;
+        pen.x = x.min(i32::try_from(self.page_width).unwrap_or(i32::MAX));
+        pen.line = Some(line);
+        pen
     }
 }
 
-/// Appends the text of the letters of a page.
+/// Appends the text of the letters of a page of this height, with line feeds where it takes fewer bytes so.
 pub fn append_text(
+    layout: &FontLayout,
+    letters: &[Letter],
+    pen: Pen,
+    height: u32,
+    out: &mut Vec<u8>,
+) -> Result<Pen, AllocError> {
+    let alloc = *out.allocator();
+    let mut moved = Vec::new(alloc);
+    let moved_pen = append_lines(layout, letters, pen, &mut moved)?;
+    if let Some(feed) = feed_of(layout, alloc, letters, height)? {
+        let mut fed = Vec::new(alloc);
+        let fed_pen = append_fed(layout, letters, pen, feed, &mut fed)?;
+        if fed.len() < moved.len() {
+            out.extend_from_slice(&fed)?;
+            return Ok(fed_pen);
+        }
+    }
+    out.extend_from_slice(&moved)?;
+    Ok(moved_pen)
+}
+
+/// The line feed of a page of this height, if one may start its lines.
+fn feed_of(
+    layout: &FontLayout,
+    alloc: Global,
+    letters: &[Letter],
+    height: u32,
+) -> Result<Option<Feed>, AllocError> {
+    if layout.spacing.has_feeds {
+        find_feed(alloc, &layout.spacing, letters, height)
+    } else {
+        Ok(None)
+    }
+}
+
+/// Appends the text of the letters of a page, of which lines may start by this line feed.
+fn append_fed(
+    layout: &FontLayout,
+    letters: &[Letter],
+    pen: Pen,
+    feed: Feed,
+    out: &mut Vec<u8>,
+) -> Result<Pen, AllocError> {
+    let pen = set_feed(pen, feed, out)?;
+    let pen = append_lines(layout, letters, pen, out)?;
+    if pen.keeps_spacing {
+        out.extend_from_slice(USUAL_SPACING)?;
+    }
+    Ok(pen)
+}
+
+/// Appends what sets a line feed. The margin counts columns, of the pitch of a font: a dot.
+fn set_feed(pen: Pen, feed: Feed, out: &mut Vec<u8>) -> Result<Pen, AllocError> {
+    let mut pen = if pen.has_primary {
+        pen
+    } else {
+        select_font(0, pen, out)?
+    };
+    append_labelled(b"\x1b&a", feed.margin, out)?;
+    out.extend_from_slice(b"L")?;
+    feed.append_spacing(out)?;
+    if !pen.returns {
+        out.extend_from_slice(LINE_TERMINATION)?;
+    }
+    pen.returns = true;
+    pen.feed = Some(feed);
+    Ok(pen)
+}
+
+/// Appends the letters of a page.
+fn append_lines(
     layout: &FontLayout,
     letters: &[Letter],
     pen: Pen,
@@ -90,55 +175,80 @@ fn append_letter(
     out: &mut Vec<u8>,
 ) -> Result<Pen, AllocError> {
     let gap = match next {
-        Some(next) => letter.gap_to(next),
+        Some(next) => layout.spacing.distance(letter, next),
         None => None,
     };
     let Some((code, advance)) = layout.spacing.character(letter.glyph, gap) else {
         return Ok(pen);
     };
-    append_move(layout, letter, pen, out)?;
+    let place = layout.spacing.metrics.place_of(letter);
+    append_move(layout, letter, place, pen, out)?;
     let pen = select_font(code.font, pen, out)?;
     out.push(code.code)?;
-    Ok(pen.at(letter.x.saturating_add(advance), letter.baseline))
+    Ok(pen.at(place.saturating_add_unsigned(advance), letter.baseline))
 }
 
-/// Appends what moves the cursor to a letter.
+/// Appends what moves the cursor to the place of a letter.
 fn append_move(
     layout: &FontLayout,
     letter: &Letter,
+    place: i32,
     pen: Pen,
     out: &mut Vec<u8>,
 ) -> Result<(), AllocError> {
     if pen.line != Some(letter.baseline) {
-        return append_line_start(letter, pen, out);
+        return append_line_start(layout, letter, place, pen, out);
     }
-    if letter.x < pen.x {
-        append_labelled(b"\x1b*p-", pen.x.saturating_sub(letter.x), out)?;
-        return out.extend_from_slice(b"X");
+    if place == pen.x {
+        return Ok(());
     }
-    if letter.x > pen.x {
-        return append_gap(layout, letter.x.saturating_sub(pen.x), out);
-    }
-    Ok(())
+    append_rest(&layout.spacing.blanks, place.saturating_sub(pen.x), out)
 }
 
-/// Appends a blank of this many dots, or else a move.
-fn append_gap(layout: &FontLayout, gap: u32, out: &mut Vec<u8>) -> Result<(), AllocError> {
-    match layout.spacing.blanks.get_index_of(&gap) {
-        Some(number) => {
-            out.push(blank_code(number))?;
-            Ok(())
+/// Appends what starts another line with the cursor in this place: a move, or line feeds and what leads from the margin where they take
+/// fewer bytes.
+fn append_line_start(
+    layout: &FontLayout,
+    letter: &Letter,
+    place: i32,
+    pen: Pen,
+    out: &mut Vec<u8>,
+) -> Result<(), AllocError> {
+    let alloc = *out.allocator();
+    let mut moved = Vec::new(alloc);
+    append_place(letter, place, pen, &mut moved)?;
+    if let Some((feed, count)) = feeds_to(letter, pen) {
+        let mut fed = vec![in alloc; LINE_FEED; count as usize]?;
+        let margin = i32::try_from(feed.margin).unwrap_or(0);
+        if place != margin {
+            append_rest(
+                &layout.spacing.blanks,
+                place.saturating_sub(margin),
+                &mut fed,
+            )?;
         }
-        None => {
-            append_labelled(b"\x1b*p+", gap, out)?;
-            out.extend_from_slice(b"X")
+        if fed.len() < moved.len() {
+            return out.extend_from_slice(&fed);
         }
     }
+    out.extend_from_slice(&moved)
+}
+
+/// The line feed that is set, and how many of them go to the line of a letter, if they do.
+fn feeds_to(letter: &Letter, pen: Pen) -> Option<(Feed, u32)> {
+    let feed = pen.feed?;
+    let count = feed.count(pen.line?, letter.baseline)?;
+    Some((feed, count))
 }
 
 /// Appends a move to the start of another line. It is counted from the line above where that takes fewer bytes.
-fn append_line_start(letter: &Letter, pen: Pen, out: &mut Vec<u8>) -> Result<(), AllocError> {
-    append_labelled(b"\x1b*p", letter.x, out)?;
+fn append_place(
+    letter: &Letter,
+    place: i32,
+    pen: Pen,
+    out: &mut Vec<u8>,
+) -> Result<(), AllocError> {
+    append_labelled(b"\x1b*p", u32::try_from(place).unwrap_or(0), out)?;
     let below = pen
         .line
         .and_then(|line| letter.baseline.checked_sub(line))

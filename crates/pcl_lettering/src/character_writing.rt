@@ -20,19 +20,19 @@ pub struct CharacterWriter<'a> {
 }
 
 impl<'a> CharacterWriter<'a> {
-    /// At the first page.
-    pub fn new(layout: &'a FontLayout) -> CharacterWriter<'a> {
+    /// At the first page. Whether the line spacing is to be the default again after each page is given.
+    pub fn new(layout: &'a FontLayout, keeps_spacing: bool) -> CharacterWriter<'a> {
         CharacterWriter {
             layout,
             page: 0,
             letters: 0,
-            pen: Pen::new(),
+            pen: Pen::new(keeps_spacing),
         }
     }
 
     /// Goes on after a reset: no font is selected.
     pub fn restart(&mut self) {
-        self.pen = Pen::new();
+        self.pen = Pen::new(self.pen.keeps_spacing);
     }
 
     /// Appends the next page, which has these rules, and of which this is a text without letters: that text, or one with letters and
@@ -79,7 +79,7 @@ fn append_letters(
     out: &mut Vec<u8>,
 ) -> Result<Pen, AllocError> {
     let pen = pen.on_page(page.size.width(page.dpi));
-    let pen = append_text(layout, letters, pen, out)?;
+    let pen = append_text(layout, letters, pen, page.size.height(page.dpi), out)?;
     out.push(FORM_FEED)?;
     Ok(pen)
 }

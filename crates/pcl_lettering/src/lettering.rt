@@ -47,7 +47,7 @@ impl Lettering {
             ..
         } = collection;
         let letters = match form {
-            Form::Characters => Lettered::Characters(lay_out(alloc, patterns, letters)?),
+            Form::Characters => Lettered::Characters(lay_out(alloc, &widths, patterns, letters)?),
             Form::Macros { scale } => {
                 let layout = lay_out_macros(alloc, scale, &widths, patterns, letters)?;
                 Lettered::Macros(layout)
@@ -126,14 +126,14 @@ enum FormWriter<'a> {
 }
 
 impl<'a> PageWriter<'a> {
-    /// At the first page.
-    pub fn new(lettering: &'a Lettering) -> PageWriter<'a> {
+    /// At the first page. Whether the line spacing is to be the default again after each page is given.
+    pub fn new(lettering: &'a Lettering, keeps_spacing: bool) -> PageWriter<'a> {
         PageWriter {
             rules: &lettering.rules,
             page: 0,
             letters: match &lettering.letters {
                 Lettered::Characters(layout) => {
-                    FormWriter::Characters(CharacterWriter::new(layout))
+                    FormWriter::Characters(CharacterWriter::new(layout, keeps_spacing))
                 }
                 Lettered::Macros(layout) => FormWriter::Macros(MacroWriter::new(layout)),
             },

@@ -1,7 +1,7 @@
 //! The shapes that are printed as letters.
 
 use crate::frequency::{Frequency, find_frequency};
-use crate::standing::find_tops;
+use crate::standing::{LineCount, Standing};
 use pcl_patterns::{Letter, LetterGlyph, Letters, number_of_place};
 use pcl_shapes::{Collection, PlacedShape};
 use std::alloc::{AllocError, Global};
@@ -9,23 +9,25 @@ use std::alloc::{AllocError, Global};
 /// The letters of a job: the shapes of patterns that are so frequent that they take fewer bytes so.
 pub fn find_letters(alloc: Global, collection: &Collection) -> Result<Letters, AllocError> {
     let frequency = find_frequency(alloc, collection)?;
-    let tops = find_tops(alloc, collection, &frequency)?;
+    let standing = Standing::new(alloc, collection, &frequency)?;
     let mut found = Letters::new(alloc);
-    append_letters(collection, &tops, &frequency, &mut found)?;
+    append_letters(collection, &standing, &frequency, &mut found)?;
     found.letters.sort_unstable();
     Ok(found)
 }
 
-/// Appends the letters of a job, where their patterns stand so.
+/// Appends the letters of a job, which stand so.
 fn append_letters(
     collection: &Collection,
-    tops: &[u32],
+    standing: &Standing,
     frequency: &Frequency,
     found: &mut Letters,
 ) -> Result<(), AllocError> {
+    let mut lines = LineCount::new();
     for shape in collection.placed.iter() {
+        let line = lines.number_of(shape);
         if frequency.is_letter(shape.pattern) {
-            let top = tops.get(shape.pattern as usize).copied().unwrap_or(0);
+            let top = standing.top_of(shape, line);
             append_letter(shape, top, collection.height_of(shape.page), found)?;
         }
     }

@@ -1,13 +1,17 @@
 //! How glyphs stand on their lines.
 //!
 //! On which row a line seems to stand differs by a dot with what is on it: bold letters may end a row lower than others do. So patterns are
-//! taken in turn, those with the most shapes first, and each stands as it mostly does beside those before it.
+//! taken in turn, those with the most shapes first, and each stands as it mostly does beside those before it. A pattern that often stands
+//! otherwise, as an apostrophe that has the dots of a comma, is another glyph there.
 
 use crate::frequency::{Frequency, count_uses};
 use indexmap::IndexMap;
-use pcl_patterns::number_of_place;
+use pcl_patterns::{LetterGlyph, Patterns, number_of_place};
 use pcl_shapes::{Collection, PlacedShape};
 use std::alloc::{AllocError, Global};
+
+/// About how many bytes a glyph of its own saves each time: those of moves to another row and back.
+const MOVED_BYTES: usize = 8;
 
 /// A shape of a pattern whose shapes are letters. Their order is that of their patterns, those with the most shapes first.
 #[derive(Clone, Copy, PartialEq, Eq, PartialOrd, Ord)]
@@ -30,10 +34,10 @@ struct Lines {
 }
 
 impl Lines {
-    /// How far the topmost row of a shape lies above the row of its line, if that is known.
-    fn top_of(&self, shape: &LetterShape) -> Option<u32> {
-        let row = *self.rows.get(shape.line as usize)?;
-        row?.checked_sub(shape.top)
+    /// How far a row lies above that of the line of this number, if that is known.
+    fn top_of(&self, line: u32, row: u32) -> Option<u32> {
+        let stands = *self.rows.get(line as usize)?;
+        stands?.checked_sub(row)
     }
 
     /// Has the line of a shape stand where that shape does, whose topmost row lies so far above, unless it is known.
@@ -59,7 +63,7 @@ impl Lines {
         counts: &mut IndexMap<u32, u32>,
     ) -> Result<(), AllocError> {
         for shape in shapes {
-            if let Some(top) = self.top_of(shape) {
+            if let Some(top) = self.top_of(shape.line, shape.top) {
                 count(top, counts)?;
             }
         }
@@ -77,18 +81,87 @@ impl Lines {
     }
 }
 
-/// For each pattern whose shapes are letters, how far its topmost row lies above the row of its line.
-pub fn find_tops(
+/// How shapes that are letters stand on their lines.
+#[derive(Drop)]
+pub struct Standing {
+    /// For each pattern, how far its topmost row mostly lies above the row of its line.
+    tops: Vec<u32>,
+    lines: Lines,
+    /// The glyphs that stand otherwise than their patterns mostly do, and how often they do.
+    others: IndexMap<LetterGlyph, u32>,
+}
+
+impl Standing {
+    /// How the shapes of a collection stand that are letters.
+    pub fn new(
+        alloc: Global,
+        collection: &Collection,
+        frequency: &Frequency,
+    ) -> Result<Standing, AllocError> {
+        let letters = sorted_letters(alloc, collection, frequency)?;
+        let mut lines = Lines {
+            rows: vec![in alloc; None; collection.placed.len().saturating_add(1)]?,
+        };
+        let tops = find_tops(alloc, &letters, collection.patterns.len(), &mut lines)?;
+        let others = find_others(alloc, &letters, &collection.patterns, &tops, &lines)?;
+        Ok(Standing {
+            tops,
+            lines,
+            others,
+        })
+    }
+
+    /// How far the topmost row of a shape on the line of this number lies above the baseline.
+    pub fn top_of(&self, shape: &PlacedShape, line: u32) -> u32 {
+        let pattern = shape.pattern;
+        if let Some(top) = self.lines.top_of(line, u32::from(shape.top)) {
+            if self.others.contains_key(&LetterGlyph { pattern, top }) {
+                return top;
+            }
+        }
+        usual_top(&self.tops, pattern)
+    }
+}
+
+/// How far the topmost row of a pattern mostly lies above the row of its line.
+fn usual_top(tops: &[u32], pattern: u32) -> u32 {
+    tops.get(pattern as usize).copied().unwrap_or(0)
+}
+
+/// The glyphs that stand otherwise than their patterns mostly do, where they save more bytes than they take.
+fn find_others(
     alloc: Global,
-    collection: &Collection,
-    frequency: &Frequency,
+    letters: &[LetterShape],
+    patterns: &Patterns,
+    tops: &[u32],
+    lines: &Lines,
+) -> Result<IndexMap<LetterGlyph, u32>, AllocError> {
+    let mut others = IndexMap::new(alloc);
+    for shape in letters {
+        let pattern = shape.pattern;
+        if let Some(top) = lines.top_of(shape.line, shape.top) {
+            if top != usual_top(tops, pattern) {
+                let count = others.entry(LetterGlyph { pattern, top })?.or_insert(0u32);
+                *count = count.saturating_add(1);
+            }
+        }
+    }
+    others.retain(|glyph: &LetterGlyph, count: &mut u32| -> bool {
+        let saved = (*count as usize).saturating_mul(MOVED_BYTES);
+        saved > patterns.definition_bytes(glyph.pattern)
+    });
+    Ok(others)
+}
+
+/// For each pattern whose shapes are letters, how far its topmost row mostly lies above the row of its line. Finds these rows.
+fn find_tops(
+    alloc: Global,
+    letters: &[LetterShape],
+    patterns: usize,
+    lines: &mut Lines,
 ) -> Result<Vec<u32>, AllocError> {
-    let letters = sorted_letters(alloc, collection, frequency)?;
-    let mut lines = Lines {
-        rows: vec![in alloc; None; collection.placed.len().saturating_add(1)]?,
-    };
-    let mut tops = vec![in alloc; 0u32; collection.patterns.len()]?;
-    let mut rest = letters.as_slice();
+    let mut tops = vec![in alloc; 0u32; patterns]?;
+    let mut rest = letters;
     for _ in 0..tops.len() {
         let Some(first) = rest.first() else {
             break;
@@ -119,11 +192,9 @@ fn sorted_letters(
 ) -> Result<Vec<LetterShape>, AllocError> {
     let uses = count_uses(alloc, collection)?;
     let mut letters = Vec::new(alloc);
-    let mut line: u32 = 0;
-    let mut before: Option<&PlacedShape> = None;
+    let mut lines = LineCount::new();
     for shape in collection.placed.iter() {
-        line = line.saturating_add(u32::from(!is_on_line(before, shape)));
-        before = Some(shape);
+        let line = lines.number_of(shape);
         if frequency.is_letter(shape.pattern) {
             let count = uses.get(shape.pattern as usize).copied().unwrap_or(0);
             letters.push(letter_of(shape, line, collection.placed.len().saturating_sub(count)))?;
@@ -131,6 +202,31 @@ fn sorted_letters(
     }
     letters.sort_unstable();
     Ok(letters)
+}
+
+/// Numbers the lines of shapes, which come in turn.
+#[derive(Clone, Copy)]
+pub struct LineCount<'a> {
+    number: u32,
+    before: Option<&'a PlacedShape>,
+}
+
+impl<'a> LineCount<'a> {
+    /// Before the first shape.
+    pub fn new() -> LineCount<'a> {
+        LineCount {
+            number: 0,
+            before: None,
+        }
+    }
+
+    /// The number of the line of the next shape.
+    pub fn number_of(&mut self, shape: &'a PlacedShape) -> u32 {
+        let is_next = !is_on_line(self.before, shape);
+        self.number = self.number.saturating_add(u32::from(is_next));
+        self.before = Some(shape);
+        self.number
+    }
 }
 
 /// Whether a shape is on the line of the one before it.

@@ -9,7 +9,6 @@ mod lines;
 mod macro_layout;
 mod macros;
 mod marks;
-mod metrics;
 mod permanence;
 mod phrases;
 

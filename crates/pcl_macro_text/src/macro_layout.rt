@@ -2,9 +2,8 @@
 
 use crate::macros::Macros;
 use crate::marks::find_script;
-use crate::metrics::{Metrics, find_metrics};
 use crate::phrases::{Text, find_phrases};
-use pcl_patterns::{Letters, Patterns};
+use pcl_patterns::{Letters, Metrics, Patterns, find_metrics};
 use std::alloc::{AllocError, Global};
 
 /// How many glyphs have macros, at most: there are twice as many IDs.

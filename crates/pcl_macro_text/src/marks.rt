@@ -1,7 +1,6 @@
 //! Lines of letters as what macros print.
 
-use crate::metrics::Metrics;
-use pcl_patterns::Letter;
+use pcl_patterns::{Letter, Metrics};
 use std::alloc::{AllocError, Global};
 
 /// What a macro prints.
@@ -138,17 +137,11 @@ pub fn find_script(
     let mut cursor: Option<Cursor> = None;
     for letter in letters {
         let width = widths.get(letter.page as usize).copied().unwrap_or(0);
-        let place = place_of(letter, metrics);
+        let place = metrics.place_of(letter);
         script.append_letter(letter, place, cursor)?;
         cursor = Some(after(letter, metrics, place, width));
     }
     Ok(script)
-}
-
-/// The dot of the cursor where it prints a letter.
-fn place_of(letter: &Letter, metrics: &Metrics) -> i32 {
-    let x = i32::try_from(letter.x).unwrap_or(0);
-    x.saturating_sub(metrics.bearing(letter.glyph))
 }
 
 /// Where the cursor is after a letter at which it was in this place. It stays on the page.

@@ -6,6 +6,7 @@
 mod forms;
 mod letters;
 mod lists;
+mod metrics;
 mod numbers;
 mod parts;
 mod pattern_set;
@@ -15,6 +16,7 @@ mod stamping;
 pub use forms::Form;
 pub use letters::{Letter, LetterGlyph, Letters};
 pub use lists::{add, number_of, quotient};
+pub use metrics::{Metrics, find_metrics};
 pub use numbers::{
     append_labelled, append_signed, append_word, digit_count, number_of_place, short_number,
 };

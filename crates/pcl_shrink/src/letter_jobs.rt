@@ -3,6 +3,7 @@
 ghost use Rattle.pcl_shrink.specs.Outcome.{IsOutcome};
 
 use crate::asking::{append_end, append_page_start, append_page_text};
+use crate::proposals::says_length;
 use crate::shifts::{Shift, shift_at};
 use pcl_base::{Dpi, JobFault, Profile};
 use pcl_lettering::{END_RASTER, Lettering, PageWriter};
@@ -93,7 +94,7 @@ impl<'a, 'b> LetterWriter<'a, 'b> {
             asks,
             texts,
             lettering,
-            writer: PageWriter::new(lettering),
+            writer: PageWriter::new(lettering, says_length(asks)),
             pages: 0,
             first: 0,
             plain: 0,

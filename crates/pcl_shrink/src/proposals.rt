@@ -116,8 +116,8 @@ fn propose_letters(
     lettered(alloc, job, profile, dpi, shifts, asks, plain, &lettering)
 }
 
-/// Whether the length of a page is said: in lines, of which pages that lie half a dot lower set the spacing.
-fn says_length(asks: &Asks<'_>) -> bool {
+/// Whether the length of a page is said: in lines, of which pages that lie half a dot lower set the spacing, and line feeds too.
+pub fn says_length(asks: &Asks<'_>) -> bool {
     asks.pages
         .iter()
         .any(|page| page.said.page_length.is_some())

@@ -4,12 +4,13 @@
 //! letter to the next is fitted, in parts of a dot, as a number of the first and one of the second, and these are rounded then:
 //! so most letters follow from where the one before them stands, and the others are a dot off.
 
+use crate::letters::Letter;
+use crate::lists::{add, number_of, quotient};
 use indexmap::IndexMap;
-use pcl_patterns::{Letter, add, number_of, quotient};
 use std::alloc::{AllocError, Global};
 
 /// The parts of a dot in which distances are fitted.
-const FINE: i64 = 64;
+const DOT_PARTS: i64 = 64;
 
 /// How often medians are taken, which distances across a space don't disturb, and then means of what is near.
 const MEDIAN_ROUNDS: u32 = 8;
@@ -34,6 +35,12 @@ impl Metrics {
     /// How far right of the cursor the left edge of a glyph stands, in dots.
     pub fn bearing(&self, glyph: u32) -> i32 {
         self.bearings.get(glyph as usize).copied().unwrap_or(0)
+    }
+
+    /// The dot of the cursor where it prints a letter.
+    pub fn place_of(&self, letter: &Letter) -> i32 {
+        let x = i32::try_from(letter.x).unwrap_or(0);
+        x.saturating_sub(self.bearing(letter.glyph))
     }
 }
 
@@ -155,12 +162,12 @@ fn pair_of(step: Step, count: u32, next: Option<(&Step, &u32)>) -> Pair {
         _ => 0,
     };
     let all = count.saturating_add(more);
-    let part = quotient(i64::from(more).saturating_mul(FINE), i64::from(all));
+    let part = quotient(i64::from(more).saturating_mul(DOT_PARTS), i64::from(all));
     Pair {
         left: step.left,
         right: step.right,
         distance: i64::from(step.distance)
-            .saturating_mul(FINE)
+            .saturating_mul(DOT_PARTS)
             .saturating_add(part),
         count: all,
     }
@@ -248,7 +255,7 @@ impl Fit {
 /// Sets places to these, in dots.
 fn set_to_whole(bearings: &[i32], places: &mut [i64]) {
     for (glyph, bearing) in bearings.iter().enumerate() {
-        set(places, glyph, i64::from(*bearing).saturating_mul(FINE));
+        set(places, glyph, i64::from(*bearing).saturating_mul(DOT_PARTS));
     }
 }
 
@@ -301,7 +308,7 @@ fn add_changes(pairs: &[Pair], fit: &Fit, side: Side, sums: &mut [i64], counts: 
         let change = sample
             .value
             .saturating_sub(number_of(old, sample.glyph as usize));
-        if -FINE <= change && change <= FINE {
+        if -DOT_PARTS <= change && change <= DOT_PARTS {
             let count = i64::from(sample.count);
             add(sums, sample.glyph as usize, change.saturating_mul(count));
             add(counts, sample.glyph as usize, count);
@@ -336,7 +343,7 @@ fn set(numbers: &mut [i64], glyph: usize, new: i64) {
 fn whole_shift(pairs: &[Pair], fit: &Fit) -> i64 {
     let mut best = 0;
     let mut least = i64::MAX;
-    for shift in 0..FINE {
+    for shift in 0..DOT_PARTS {
         let sum = distance_to_whole(pairs, fit, shift);
         if sum < least {
             best = shift;
@@ -351,8 +358,8 @@ fn distance_to_whole(pairs: &[Pair], fit: &Fit, shift: i64) -> i64 {
     let mut sum: i64 = 0;
     for pair in pairs {
         let moved = number_of(&fit.places, pair.right as usize).saturating_sub(shift);
-        let part = moved.rem_euclid(FINE);
-        let off = part.min(FINE.saturating_sub(part));
+        let part = moved.rem_euclid(DOT_PARTS);
+        let off = part.min(DOT_PARTS.saturating_sub(part));
         sum = sum.saturating_add(off.saturating_mul(i64::from(pair.count)));
     }
     sum
@@ -360,8 +367,8 @@ fn distance_to_whole(pairs: &[Pair], fit: &Fit, shift: i64) -> i64 {
 
 /// The whole dots of a number of fine parts, rounded to the nearest.
 fn nearest_whole(number: i64) -> i32 {
-    let half = FINE / 2;
-    i32::try_from(number.saturating_add(half).div_euclid(FINE)).unwrap_or(0)
+    let half = DOT_PARTS / 2;
+    i32::try_from(number.saturating_add(half).div_euclid(DOT_PARTS)).unwrap_or(0)
 }
 
 /// For each glyph, how far right of the cursor it stands, in dots, on pages of these widths.
@@ -441,7 +448,7 @@ fn whole_advances(
 ) -> Result<Vec<i32>, AllocError> {
     let mut advances = Vec::new(alloc);
     for (glyph, bearing) in bearings.iter().enumerate() {
-        let place = i64::from(*bearing).saturating_mul(FINE);
+        let place = i64::from(*bearing).saturating_mul(DOT_PARTS);
         let advance = number_of(distances, glyph).saturating_add(place);
         advances.push(nearest_whole(advance))?;
     }
