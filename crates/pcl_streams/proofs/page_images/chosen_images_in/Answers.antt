@@ -14,4 +14,5 @@ pub returns-else-is_met : goal.returns-else-is_met
 returns-else-is_met c =
     let h = c.in_ok-perform_by.ensures in
     let left = ap (λ (s : Showing). s.left) c.shown.view_is in
-    one_lacks _ c.perform_by.new.sink c.args.choice (has_pages h) h.handed.1 c.flags.ensures (unmet_by c.is_met.result left c.if-is_met.false c.is_met.ensures)
+    one_lacks _ c.perform_by.new.sink c.args.choice (has_pages h) h.handed.1 c.flags.ensures
+    (unmet_by c.is_met.result left c.if-is_met.false c.is_met.ensures)
