@@ -11,6 +11,6 @@ mod verdicts;
 
 pub use checks::check;
 pub use comparison_lines::{compare_fault_line, comparison_in, comparison_line};
-pub use comparisons::{CompareFault, compare, compare_jobs};
+pub use comparisons::{CompareFault, compare, compare_jobs, compared_at};
 pub use endings::{Ending, not_compared};
 pub use verdicts::{answer_line, answer_status, verdict_line, verdict_status};

@@ -211,9 +211,10 @@ pub record ComparesAt (asks : Bool) (dpi : Dpi) (first second : List ℕ) (answe
   pub done : answer.outcome ≡ 0 → (answer.resolution ≡ dots_per_inch dpi) × HasComparison asks first second dpi answer
   pub refused : answer.outcome ≡ 1 → TellsOneRefused dpi first second answer
 
--- the same at the resolution at which the jobs are seen by a number
+-- the same at the resolution at which the jobs are compared by a number
 pub record Compares (asks : Bool) (number : ℕ) (first second : List ℕ) (answer : Answer) : Type 0 where
   pub no_page : answer.outcome ≢ 2
   pub done : answer.outcome ≡ 0
-      → (dpi : Dpi) × AreSeen number first second dpi × (answer.resolution ≡ dots_per_inch dpi) × HasComparison asks first second dpi answer
-  pub refused : answer.outcome ≡ 1 → (dpi : Dpi) × AreSeen number first second dpi × TellsOneRefused dpi first second answer
+      → (dpi : Dpi) × AreSeen asks number first second dpi × (answer.resolution ≡ dots_per_inch dpi)
+      × HasComparison asks first second dpi answer
+  pub refused : answer.outcome ≡ 1 → (dpi : Dpi) × AreSeen asks number first second dpi × TellsOneRefused dpi first second answer

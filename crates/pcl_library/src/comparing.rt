@@ -41,12 +41,12 @@ pub extern "C" fn pcl_library_same_asked(
     *answer = seen_answer(alloc, true, first, second, resolution);
 }
 
-/// Whether two jobs are the same at the resolution at which they are seen by a number; what they ask counts where that is wanted.
+/// Whether two jobs are the same at the resolution at which they are compared by a number; what they ask counts where that is wanted.
 fn seen_answer(alloc: Global, asks: bool, first: &[u8], second: &[u8], resolution: u32) -> Answer
     ensures told { Compares asks resolution first.now second.now result }
     ensures arguments { FailsBy (IsNoResolution resolution) (IsTooLong first.now ⊎ IsTooLong second.now) result.outcome }
 {
-    match both_seen_at(alloc, first, second, resolution) {
+    match both_seen_at(alloc, asks, first, second, resolution) {
         Ok(dpi) => same_answer(alloc, asks, first, second, dpi),
         Err(failure) => Answer::of_failure(alloc, &failure, 0),
     }
