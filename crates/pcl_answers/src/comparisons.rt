@@ -8,7 +8,7 @@ ghost use Rattle.pcl_streams.specs.declared.fault.Fault.TheVariants.{Memory};
 ghost use Rattle.pcl_answers.specs.declared.comparisons.CompareFault.TheVariants.{Failed};
 ghost use Rattle.pcl_answers.specs.Comparisons.{compare_fault_of, AreComparedAt, IsComparedFor, IsCompareRun, IsFiner};
 
-use crate::comparison_lines::comparison_in;
+use crate::comparison_lines::comparison_line;
 use crate::difference_images::draw_difference;
 use pcl_base::{Dpi, Profile, Refusal};
 use pcl_files::{JobFiles, are_accepted, read_file, resolve_both};
@@ -75,7 +75,7 @@ pub fn compare<F: JobFiles, W: Write>(
         asked.resolution,
     )?;
     let comparison = compare_jobs(alloc, asked.asks, &first, &second, asked.profile, dpi)?;
-    let line = comparison_in(alloc, asked.layout, &comparison)?;
+    let line = comparison_line(alloc, asked.layout, &comparison)?;
     let pages = comparison.of_pages();
     draw_difference(
         files,

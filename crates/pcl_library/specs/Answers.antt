@@ -195,7 +195,7 @@ pub record Shrinks (job : List ℕ) (answer : Answer) : Type 0 where
 pub record HasComparison (asks : Bool) (first second : List ℕ) (dpi : Dpi) (answer : Answer) : Type 0 where
   pub comparison : AskedComparison
   pub right : IsComparisonFor asks Drivers dpi first second comparison
-  pub line : IsLine (comparison_line_of comparison) answer.line.now
+  pub line : IsLine (comparison_line_of Text comparison) answer.line.now
   pub holds : IsTrue answer.holds ↔ (comparison ≡ comparisons.Same)
 
 -- one of two jobs is refused, and which

@@ -9,6 +9,7 @@ use crate::arguments::both_seen_at;
 use crate::failure::Failure;
 use pcl_answers::{compare_jobs, comparison_line};
 use pcl_base::{Dpi, Profile};
+use pcl_request::Layout;
 use std::alloc::Global;
 
 /// `pclmin_same`: whether two jobs have the same pages. The line says what differs first.
@@ -58,7 +59,7 @@ fn same_answer(alloc: Global, asks: bool, first: &[u8], second: &[u8], dpi: Dpi)
 {
     match compare_jobs(alloc, asks, first, second, Profile::Drivers, dpi) {
         Ok(comparison) => {
-            let line = comparison_line(alloc, &comparison);
+            let line = comparison_line(alloc, Layout::Text, &comparison);
             Answer::of_line(line, comparison.is_same(), dpi)
         }
         Err(fault) => Answer::of_failure(alloc, &Failure::from(fault), 0),
