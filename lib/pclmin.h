@@ -72,11 +72,12 @@ int pclmin_min(const unsigned char *job, size_t length, unsigned resolution, uns
    where the job is accepted at both. */
 int pclmin_shrink(const unsigned char *job, size_t length, unsigned resolution, pclmin_answer *answer);
 
-/* Whether two jobs have the same pages; the line says what differs first. */
+/* Whether two jobs have the same pages; the line says what differs first. By the resolution 0 they are compared at 300 and at 600
+   where both are accepted at both, and the answer's resolution is the one at which they differ, else the last. */
 int pclmin_same(const unsigned char *first, size_t first_length, const unsigned char *second, size_t second_length,
                 unsigned resolution, pclmin_answer *answer);
 
-/* Whether two jobs have the same pages and ask the printer for the same; the line says what differs first. */
+/* The same, where the jobs have to ask the printer for the same too. */
 int pclmin_same_asked(const unsigned char *first, size_t first_length, const unsigned char *second, size_t second_length,
                       unsigned resolution, pclmin_answer *answer);
 

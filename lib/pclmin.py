@@ -138,12 +138,12 @@ def shrink(job, resolution=300):
 
 
 def same(first, second, resolution=300):
-    """Whether two jobs have the same pages."""
+    """Whether two jobs have the same pages; by the resolution 0 at 300 and at 600 where both are accepted at both."""
     return _asked(_SAME, [first, second], [resolution])
 
 
 def same_asked(first, second, resolution=300):
-    """Whether two jobs have the same pages and ask the printer for the same."""
+    """Whether two jobs have the same pages and ask the printer for the same; by the resolution 0 at each, as same does."""
     return _asked(_SAME_ASKED, [first, second], [resolution])
 
 

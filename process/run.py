@@ -307,18 +307,20 @@ def check_terminal(program):
 
 
 def check_hints(program):
-    """A terminal gets a second line where a job is refused, which says what helps."""
+    """A terminal gets a second line where a job is refused, which says what helps, unless the run is quiet."""
     wrong = []
     instead = "pclmin explain says what to set instead"
     raster = b"\x1b*t600R\x1b*r1A"
     cases = [(["min"], b"\x1b", "Truncated at 0 -", instead), (["min"], raster, "UnsupportedValue at 0 *tR", "try --dpi auto"),
              (["pages", "--dpi=auto"], b"\x1b*t5R", "UnsupportedValue at 0 *tR", instead),
+             (["min", "-o", os.path.join(tempfile.gettempdir(), "auto")], raster, "UnsupportedValue at 0 *tR", "try --dpi auto"),
+             (["min", "-q"], b"\x1b", "Truncated at 0 -", None), (["shrink", "--quiet"], b"%PDF-1.4", "NoFont at 0 text", None),
              (["shrink"], b"%PDF-1.4", "NoFont at 0 text", "the job is PDF, not PCL 5: choose a PCL 5 driver, or send it through "
               "ghostscript with -sDEVICE=ljet2p"),
              (["min"], b"\x1f\x8b\x08", "UnsupportedCommand at 2 BS", "the job is packed by gzip: unpack it first")]
     for words, job, refusal, hint in cases:
         said, _ = run_on_terminal(program, words, job)
-        wanted = f"pclmin: refused: {refusal}\r\npclmin: {hint}\r\n"
+        wanted = f"pclmin: refused: {refusal}\r\n" + (f"pclmin: {hint}\r\n" if hint else "")
         if said != wanted:
             wrong.append(f"{' '.join(words)} of {job!r}: {said!r}, and not {wanted!r}")
     return wrong, len(cases)
@@ -336,15 +338,16 @@ def on_terminals(program, words, typed):
 
 
 def check_spared_terminal(program):
-    """No job and no image is written to a terminal, and one that is read from gets a hint."""
+    """No job and no image is written to a terminal, and one that is read from gets a hint, unless the run is quiet."""
     end, wrong = b"\x04", []
     spared = "pclmin: nothing is written to a terminal: send standard output to a file, or give -o FILE\n"
     names = "pclmin: names of jobs are read from this terminal, one a line: end them with control D, or give files\n"
     hint = "pclmin: the job is read from this terminal: end it with control D, or give a file\n"
     wanted = [(["min"], spared, 2), (["shrink"], spared, 2), (["pbm"], spared, 2), (["pgm", "--scale", "2"], spared, 2),
               (["pages"], hint + "pclmin: no page\n", 0), (["explain"], hint + "pclmin: no page\n", 0),
-              (["min", "-q", "-o", "/dev/null"], hint, 0), (["--version"], "", 0),
-              (["batch", "-o", os.path.join(tempfile.gettempdir(), "no-jobs")], names, 0)]
+              (["min", "-o", "/dev/null"], hint, 0), (["min", "-q", "-o", "/dev/null"], "", 0), (["--version"], "", 0),
+              (["batch", "-o", os.path.join(tempfile.gettempdir(), "no-jobs")], names, 0),
+              (["batch", "-q", "-o", os.path.join(tempfile.gettempdir(), "no-jobs")], "", 0)]
     for words, said, status in wanted:
         came = on_terminals(program, words, end)
         if came != (said, status):

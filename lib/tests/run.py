@@ -44,6 +44,8 @@ JOBS = {
 SIMPLEX = b"\x1bE\x1b*p100x100Y\x1b*c300a200b0P\x0c\x1bE"
 # Squares of three tenths of a point, which at 600 dots per inch aren't those of 300 with dots of twice the side.
 POINTS = b"\x1bE" + b"".join(b"\x1b*p%dx100Y\x1b*c3h3v0P" % (100 + 9 * place) for place in range(40)) + b"\x0c\x1bE"
+# Rectangles half a dot of 300 apart: the same dots there, and others at 600.
+ONE, OTHER = (b"\x1bE\x1b&u600D\x1b*p%dx%dY\x1b*c90a90b0P\x0c\x1bE" % (place, place) for place in (100, 101))
 # A page that drivers move by an offset.
 MOVED = b"\x1bE\x1b&l36U\x0c\x1b&l0U\x1b*p30x40Y\x1b*c90a90b0P\x0c\x1bE"
 
@@ -222,6 +224,18 @@ def check_points(runner):
     runner.tell(both.resolution == 300, "the resolution is the first at which the job is accepted")
 
 
+def check_fine(runner):
+    """Two jobs that are the same at 300 dots per inch and accepted at 600, where they differ."""
+    write("one.pcl", ONE)
+    write("other.pcl", OTHER)
+    for call, words in ((["same"], ["same"]), (["same_asked"], ["same", "--asked"])):
+        for resolution, holds, told in ((300, True, 300), (600, False, 600), (0, False, 600)):
+            answer = compare_verdict(runner, call, words, ["one.pcl", "other.pcl"], resolution)
+            runner.tell((answer.holds, answer.resolution) == (holds, told), f"{call} of rectangles by {resolution}: {shown(answer)}")
+            same = compare_verdict(runner, call, words, ["one.pcl", "one.pcl"], resolution)
+            runner.tell((same.holds, same.resolution) == (True, told), f"{call} of one rectangle by {resolution}: {shown(same)}")
+
+
 def check_arguments(runner):
     """Numbers and pointers that no call takes, and pointers that are null where there are no bytes."""
     for line, *words in ((RESOLUTION, "shrink", "301", "dot.pcl"), (PAGES, "preview", "300", "0", "1", "dot.pcl"),
@@ -346,6 +360,7 @@ def main():
         for resolution in (300, 0):
             compare_verdict(runner, ["same"], ["same"], [first, second], resolution)
             compare_verdict(runner, ["same_asked"], ["same", "--asked"], [first, second], resolution)
+    check_fine(runner)
     check_arguments(runner)
     check_version(runner)
     check_python(runner)

@@ -104,16 +104,12 @@ comparison_text Same = codes "same"
 comparison_text (Pages difference) = pages_text difference
 comparison_text (Asks difference) = asks_text difference
 
-abbrev pub comparison_line_of : AskedComparison → List ℕ
-comparison_line_of comparison = comparison_text comparison ++ codes "\n"
-
 abbrev pub are_same : AskedComparison → Bool
 are_same Same = true
 are_same other = false
 
--- the same in a layout
-abbrev pub comparison_in : Layout → AskedComparison → List ℕ
-comparison_in layout comparison = laid_out layout (codes "same") (are_same comparison) (comparison_text comparison)
+abbrev pub comparison_line_of : Layout → AskedComparison → List ℕ
+comparison_line_of layout comparison = laid_out layout (codes "same") (are_same comparison) (comparison_text comparison)
 
 -- 0 where the jobs are the same, else 1
 abbrev pub comparison_status_for : AskedComparison → ℕ

@@ -23,7 +23,7 @@ use Rattle.pcl_files.specs.WholeFiles.{IsFileRead}
 use Rattle.pcl_request.specs.declared.request.ComparedFiles.{ComparedFiles}
 use Rattle.pcl_answers.specs.declared.comparisons.CompareFault.{CompareFault}
 use Rattle.pcl_answers.specs.declared.comparisons.CompareFault.TheVariants.{Refused, Failed}
-use Rattle.pcl_answers.specs.ComparisonLines.{comparison_in}
+use Rattle.pcl_answers.specs.ComparisonLines.{comparison_line_of}
 use Rattle.pcl_answers.specs.DifferenceImages.{IsImageDrawn}
 
 -- what the comparison of two jobs answers, as a fault of a run
@@ -102,12 +102,12 @@ IsComparedAndDrawn acts asked files kept comparison drawn =
 abbrev pub IsCompareRun : {F : Type 0} → (F → FileAct → F → Type 0) → ComparedFiles → (files kept : F) → (old new : Option (List ℕ))
     → Result AskedComparison CompareFault → Type 0
 IsCompareRun acts asked files kept old new (Ok comparison) =
-    IsComparedAndDrawn acts asked files kept comparison (Ok tt) × Appends old new (comparison_in asked.layout comparison)
+    IsComparedAndDrawn acts asked files kept comparison (Ok tt) × Appends old new (comparison_line_of asked.layout comparison)
 IsCompareRun acts asked files kept old new (Err (Refused which refusal)) =
     (kept ≡ files) × IsRefusedOf acts files asked which refusal × Keeps old new
 IsCompareRun acts asked files kept old new (Err (Failed fault.WriteFault)) =
     (comparison : AskedComparison) × ((IsComparedAndDrawn acts asked files kept comparison (Err fault.WriteFault) × Keeps old new)
-    ⊎ (IsComparedAndDrawn acts asked files kept comparison (Ok tt) × AppendsFront old new (comparison_in asked.layout comparison)))
+    ⊎ (IsComparedAndDrawn acts asked files kept comparison (Ok tt) × AppendsFront old new (comparison_line_of asked.layout comparison)))
 IsCompareRun acts asked files kept old new (Err (Failed fault.ReadFault)) =
     (kept ≡ files) × IsOneUnread acts files asked fault.ReadFault × Keeps old new
 IsCompareRun acts asked files kept old new (Err (Failed fault.TooLong)) =

@@ -50,10 +50,6 @@ job_text job.Frame = codes "not proved: frame"
 job_text (job.Page page verdict) = page_text (codes "not proved: page ") page ++ verdict_text verdict
 job_text job.Proved = codes "proved"
 
--- the line on standard output
-abbrev pub verdict_line_of : JobVerdict → List ℕ
-verdict_line_of verdict = job_text verdict ++ codes "\n"
-
 abbrev pub answer_text : CheckAnswer → List ℕ
 answer_text answer.OtherImages = codes "not proved: images"
 answer_text (answer.Job verdict) = job_text verdict
@@ -62,5 +58,6 @@ abbrev pub is_proved : CheckAnswer → Bool
 is_proved (answer.Job job.Proved) = true
 is_proved other = false
 
+-- the line on standard output
 abbrev pub answer_line_of : Layout → CheckAnswer → List ℕ
 answer_line_of layout given = laid_out layout (codes "proved") (is_proved given) (answer_text given)

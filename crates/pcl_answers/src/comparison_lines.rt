@@ -1,7 +1,7 @@
 //! What the program says of two compared jobs.
 
 ghost use Rattle.std.specs.Prelude.{◌≡◌, ◌++◌, IfOk, OnOk};
-ghost use Rattle.pcl_answers.specs.ComparisonLines.{size_text, pair_text, difference_text, pages_text, comparison_text, comparison_line_of, comparison_in, are_same};
+ghost use Rattle.pcl_answers.specs.ComparisonLines.{size_text, pair_text, difference_text, pages_text, comparison_text, comparison_line_of, are_same};
 ghost use Rattle.pcl_answers.specs.ComparisonLines.{setting_label, setting_text, asked_text, number_text, value_text, exit_text, asks_text};
 ghost use Rattle.pcl_answers.specs.ComparisonLines.{comparison_status_for, refused_job_text, compare_line_of, compare_status_for};
 
@@ -19,23 +19,13 @@ use pcl_same::{
 };
 use std::alloc::{AllocError, Global};
 
-/// The line for how two jobs compare, with its line feed.
-pub fn comparison_line(alloc: Global, comparison: &AskedComparison) -> Result<Vec<u8>, AllocError>
-    ensures { IfOk result (λ line. line.items ≡ comparison_line_of comparison.now) }
-{
-    let mut line = Vec::new(alloc);
-    append_comparison(*comparison, &mut line)?;
-    line.extend_from_slice(b"\n")?;
-    Ok(line)
-}
-
 /// What is said of how two jobs compare, in a layout.
-pub fn comparison_in(
+pub fn comparison_line(
     alloc: Global,
     layout: Layout,
     comparison: &AskedComparison,
 ) -> Result<Vec<u8>, AllocError>
-    ensures { IfOk result (λ said. said.items ≡ comparison_in layout comparison.now) }
+    ensures { IfOk result (λ line. line.items ≡ comparison_line_of layout comparison.now) }
 {
     let mut text = Vec::new(alloc);
     append_comparison(*comparison, &mut text)?;

@@ -8,7 +8,7 @@ ghost use Rattle.pcl_streams.specs.declared.fault.Fault.TheVariants.{Memory};
 ghost use Rattle.pcl_answers.specs.declared.comparisons.CompareFault.TheVariants.{Failed};
 ghost use Rattle.pcl_answers.specs.Comparisons.{compare_fault_of, AreComparedAt, IsComparedFor, IsCompareRun, IsFiner};
 
-use crate::comparison_lines::comparison_in;
+use crate::comparison_lines::comparison_line;
 use crate::difference_images::draw_difference;
 use pcl_base::{Dpi, Profile, Refusal};
 use pcl_files::{JobFiles, are_accepted, read_file, resolve_both};
@@ -66,9 +66,16 @@ pub fn compare<F: JobFiles, W: Write>(
 {
     let first = read_file(files, alloc, asked.first)?;
     let second = read_file(files, alloc, asked.second)?;
-    let dpi = compared_at(alloc, asked, &first, &second)?;
+    let dpi = compared_at(
+        alloc,
+        asked.asks,
+        &first,
+        &second,
+        asked.profile,
+        asked.resolution,
+    )?;
     let comparison = compare_jobs(alloc, asked.asks, &first, &second, asked.profile, dpi)?;
-    let line = comparison_in(alloc, asked.layout, &comparison)?;
+    let line = comparison_line(alloc, asked.layout, &comparison)?;
     let pages = comparison.of_pages();
     draw_difference(
         files,
@@ -86,19 +93,19 @@ pub fn compare<F: JobFiles, W: Write>(
 
 /// The resolution at which two jobs are compared: the one that is asked for; or where that is left to the jobs, the first at which both are
 /// accepted, and 600 dots per inch where they are the same at 300 and both are accepted there too.
-fn compared_at(
+pub fn compared_at(
     alloc: Global,
-    asked: ComparedFiles<'_>,
+    asks: bool,
     first: &[u8],
     second: &[u8],
+    widest: Profile,
+    resolution: Resolution,
 ) -> Result<Dpi, AllocError>
-    ensures { IfOk result (λ dpi. AreComparedAt asked.entry.resolution asked.entry.asks asked.entry.profile first.now second.now dpi) }
+    ensures { IfOk result (λ dpi. AreComparedAt resolution asks widest first.now second.now dpi) }
 {
-    let dpi = resolve_both(alloc, asked.resolution, asked.profile, first, second)?;
-    match (asked.resolution, dpi) {
-        (Resolution::FirstAccepted, Dpi::Dpi300) => {
-            finest(alloc, asked.asks, first, second, asked.profile)
-        }
+    let dpi = resolve_both(alloc, resolution, widest, first, second)?;
+    match (resolution, dpi) {
+        (Resolution::FirstAccepted, Dpi::Dpi300) => finest(alloc, asks, first, second, widest),
         _ => Ok(dpi),
     }
 }

@@ -10,7 +10,7 @@ mod layouts;
 mod verdicts;
 
 pub use checks::check;
-pub use comparison_lines::{compare_fault_line, comparison_in, comparison_line};
-pub use comparisons::{CompareFault, compare, compare_jobs};
+pub use comparison_lines::{compare_fault_line, comparison_line};
+pub use comparisons::{CompareFault, compare, compare_jobs, compared_at};
 pub use endings::{Ending, not_compared};
-pub use verdicts::{answer_line, answer_status, verdict_line, verdict_status};
+pub use verdicts::{answer_line, answer_status, verdict_status};

@@ -2,7 +2,7 @@
 
 ghost use Rattle.std.specs.Prelude.{◌≡◌, ◌++◌, IfOk, OnOk};
 ghost use Rattle.pcl_answers.specs.Checks.{answer_status_for, verdict_status_for};
-ghost use Rattle.pcl_answers.specs.Verdicts.{fault_text, numbers_text, verdict_text, page_text, job_text, verdict_line_of, answer_text, answer_line_of, is_proved};
+ghost use Rattle.pcl_answers.specs.Verdicts.{fault_text, numbers_text, verdict_text, page_text, job_text, answer_text, answer_line_of, is_proved};
 
 use crate::layouts::laid_out;
 use itoa::Buffer;
@@ -40,16 +40,6 @@ fn is_proved(answer: &CheckAnswer) -> bool
     ensures { result ≡ is_proved answer.now }
 {
     matches!(answer, CheckAnswer::Job(JobVerdict::Proved))
-}
-
-/// The line for what the checker of a job answers, with its line feed.
-pub fn verdict_line(alloc: Global, verdict: &JobVerdict) -> Result<Vec<u8>, AllocError>
-    ensures { IfOk result (λ line. line.items ≡ verdict_line_of verdict.now) }
-{
-    let mut line = Vec::new(alloc);
-    append_job(*verdict, &mut line)?;
-    line.extend_from_slice(b"\n")?;
-    Ok(line)
 }
 
 /// Appends what is said of a job.

@@ -1,1 +1,2 @@
 mod AllKinds
+mod Nearest

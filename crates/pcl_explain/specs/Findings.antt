@@ -1,6 +1,8 @@
 -- What is found in a job.
-use Rattle.std.specs.Prelude.{◌≡◌, ◌++◌, ℕ, List, length, map, take, codes, Option, Some, None}
-use Rattle.std.specs.Char.{to_ascii_lowercase}
+use Rattle.std.specs.Prelude.{◌≡◌, ◌++◌, ℕ, List, length, take, codes, Option, Some, None}
+use Rattle.std.specs.Str.Lossy.{utf8_lossy}
+use Rattle.serde_json.specs.Data.{string}
+use Rattle.serde_json.specs.Written.{compact_text}
 use Rattle.pcl_base.specs.declared.dpi.Dpi.{Dpi}
 use Rattle.pcl_base.specs.declared.kind.Kind.{Kind}
 use Rattle.pcl_base.specs.declared.profile.Profile.{Profile}
@@ -38,10 +40,15 @@ Explains profile dpi job text = (findings : Option Findings) × AreFindings prof
 abbrev pub ExplainsKind : Kind → List ℕ → Type 0
 ExplainsKind kind text = StartsWith (kind_name kind) text
 
--- the same as an object of JSON: first comes whether the job is accepted
+-- a refusal as messages print it, as a string of JSON
+abbrev pub refusal_string : Refusal → List ℕ
+refusal_string refusal = compact_text (string (utf8_lossy (refusal_text refusal)))
+
+-- the same as an object of JSON: first come whether the job is accepted, and its refusal
 abbrev pub IsObjectOn : Option Findings → List ℕ → Type 0
-IsObjectOn None text = StartsWith (codes "{\"accepted\":true") text
-IsObjectOn (Some findings) text = StartsWith (codes "{\"accepted\":false") text
+IsObjectOn None text = text ≡ codes "{\"accepted\":true,\"refusal\":null,\"refused\":[],\"language\":null}\n"
+IsObjectOn (Some findings) text =
+    StartsWith (codes "{\"accepted\":false,\"refusal\":" ++ refusal_string findings.first.refusal ++ codes ",") text
 
 abbrev pub ExplainsAsObject : Profile → Dpi → List ℕ → List ℕ → Type 0
 ExplainsAsObject profile dpi job text = (findings : Option Findings) × AreFindings profile dpi job findings × IsObjectOn findings text
@@ -49,7 +56,3 @@ ExplainsAsObject profile dpi job text = (findings : Option Findings) × AreFindi
 -- and of a kind its name
 abbrev pub ExplainsKindAsObject : Kind → List ℕ → Type 0
 ExplainsKindAsObject kind text = StartsWith (codes "{\"kind\":\"" ++ kind_name kind) text
-
--- a name is that of a kind, in capitals or not
-abbrev pub IsKindName : List ℕ → Kind → Type 0
-IsKindName name kind = map to_ascii_lowercase (kind_name kind) ≡ map to_ascii_lowercase name

@@ -1,5 +1,8 @@
 //! Jobs of other languages.
 
+ghost use Rattle.std.specs.Prelude.{◌≡◌, false, IsTrue, MatchOption};
+ghost use Rattle.pcl_explain.specs.Languages.{begins_as};
+
 /// A language of printers that isn't read here.
 #[derive(Clone, Copy, Debug, PartialEq, Eq)]
 pub enum Language {
@@ -11,7 +14,10 @@ pub enum Language {
 }
 
 /// The language of a job, by its first bytes: none where it may be PCL 5.
-pub fn language_of(job: &[u8]) -> Option<Language> {
+pub fn language_of(job: &[u8]) -> Option<Language>
+    ensures { MatchOption result ((language : Language) → begins_as language job.now ≡ false)
+        (λ language. IsTrue (begins_as language job.now)) }
+{
     if job.starts_with(b"%!") || job.starts_with(b"\x04%!") {
         return Some(Language::PostScript);
     }

@@ -11,6 +11,9 @@ use itoa::Buffer;
 use pcl_base::{Dpi, Kind, Profile, Sign, Value};
 use std::alloc::{AllocError, Global};
 
+/// As many parts of a value make a whole.
+pub(crate) const WHOLE: u32 = 10_000;
+
 /// A line for each thing that a profile refuses in a job, or `nothing is refused`. One line is on the job's language where that is
 /// another than PCL 5.
 pub fn explanation(
@@ -91,7 +94,7 @@ fn append_value(value: Value, out: &mut Vec<u8>) -> Result<(), AllocError> {
         Sign::Plus => out.extend_from_slice(b"+")?,
         Sign::Minus => out.extend_from_slice(b"-")?,
     }
-    append_number((value.parts / 10_000) as usize, out)
+    append_number((value.parts / WHOLE) as usize, out)
 }
 
 /// Appends a number in decimal.

@@ -1,19 +1,17 @@
 //! Findings as JSON.
 
-ghost use Rattle.std.specs.Prelude.{IfOk};
-ghost use Rattle.pcl_explain.specs.Findings.{ExplainsAsObject, ExplainsKindAsObject};
+ghost use Rattle.std.specs.Prelude.{◌≡◌, IfOk};
+ghost use Rattle.pcl_explain.specs.Findings.{ExplainsAsObject, ExplainsKindAsObject, refusal_string};
 
 use crate::advice::advice_on_kind;
 use crate::languages::language_of;
-use crate::lines::advice_on;
+use crate::lines::{WHOLE, advice_on};
 use crate::refusals::find_refusals;
 use crate::{Finding, Findings};
-use pcl_base::{Dpi, Kind, Profile, Sign, Value};
+use pcl_base::{Dpi, Kind, Profile, Refusal, Sign, Value as Number};
 use serde::Serialize;
+use serde_json::Value;
 use std::alloc::{AllocError, Global};
-
-/// Ten-thousandths in a whole, of the parts of a value.
-const WHOLE: u32 = 10_000;
 
 /// What is said of a finding.
 #[derive(Drop, Serialize)]
@@ -37,8 +35,8 @@ struct Reasons {
     language: Option<&'static str>,
 }
 
-/// An object on all that a profile refuses in a job, on a line: whether it is `accepted`, what is `refused` and what can be done, and what
-/// is said of its `language` where that is another than PCL 5.
+/// An object on all that a profile refuses in a job, on a line: whether it is `accepted`, else its `refusal` as messages print it, what is
+/// `refused` and what can be done, and what is said of its `language` where that is another than PCL 5.
 pub fn explanation_object(
     alloc: Global,
     job: &[u8],
@@ -50,14 +48,26 @@ pub fn explanation_object(
     match find_refusals(alloc, job, profile, dpi)? {
         None => Vec::from_slice(
             alloc,
-            b"{\"accepted\":true,\"refused\":[],\"language\":null}\n",
+            b"{\"accepted\":true,\"refusal\":null,\"refused\":[],\"language\":null}\n",
         ),
         Some(findings) => {
-            let mut text = Vec::from_slice(alloc, b"{\"accepted\":false,")?;
+            let mut text = Vec::from_slice(alloc, b"{\"accepted\":false,\"refusal\":")?;
+            text.extend_from_slice(&refusal_string(alloc, findings.first.refusal)?)?;
+            text.extend_from_slice(b",")?;
             text.extend_from_slice(&members(alloc, job, &findings)?)?;
             Ok(text)
         }
     }
+}
+
+/// A refusal as messages print it, as a string of JSON.
+fn refusal_string(alloc: Global, refusal: Refusal) -> Result<Vec<u8>, AllocError>
+    ensures { IfOk result (λ text. text.items ≡ refusal_string refusal) }
+{
+    let mut text = Vec::new(alloc);
+    refusal.write_text(&mut text)?;
+    let string = Value::String(String::from_utf8_lossy(alloc, &text)?).to_string(alloc)?;
+    Ok(string.into_bytes())
 }
 
 /// An object on a kind of refusal, on a line.
@@ -79,7 +89,7 @@ fn rest_of_kind(alloc: Global, kind: Kind) -> Result<Vec<u8>, AllocError> {
     Ok(rest)
 }
 
-/// What stands in the object of a refused job after whether it is accepted.
+/// What stands in the object of a refused job after its refusal.
 fn members(alloc: Global, job: &[u8], findings: &Findings) -> Result<Vec<u8>, AllocError> {
     let mut refused = Vec::new(alloc);
     refused.push(reason_of(alloc, &findings.first)?)?;
@@ -111,7 +121,7 @@ fn reason_of(alloc: Global, finding: &Finding) -> Result<Reason, AllocError> {
 }
 
 /// The whole part of a value, with its sign.
-fn whole(value: Value) -> i64 {
+fn whole(value: Number) -> i64 {
     let whole = i64::from(value.parts / WHOLE);
     match value.sign {
         Sign::Minus => -whole,

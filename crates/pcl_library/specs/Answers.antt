@@ -195,7 +195,7 @@ pub record Shrinks (job : List ℕ) (answer : Answer) : Type 0 where
 pub record HasComparison (asks : Bool) (first second : List ℕ) (dpi : Dpi) (answer : Answer) : Type 0 where
   pub comparison : AskedComparison
   pub right : IsComparisonFor asks Drivers dpi first second comparison
-  pub line : IsLine (comparison_line_of comparison) answer.line.now
+  pub line : IsLine (comparison_line_of Text comparison) answer.line.now
   pub holds : IsTrue answer.holds ↔ (comparison ≡ comparisons.Same)
 
 -- one of two jobs is refused, and which
@@ -211,9 +211,10 @@ pub record ComparesAt (asks : Bool) (dpi : Dpi) (first second : List ℕ) (answe
   pub done : answer.outcome ≡ 0 → (answer.resolution ≡ dots_per_inch dpi) × HasComparison asks first second dpi answer
   pub refused : answer.outcome ≡ 1 → TellsOneRefused dpi first second answer
 
--- the same at the resolution at which the jobs are seen by a number
+-- the same at the resolution at which the jobs are compared by a number
 pub record Compares (asks : Bool) (number : ℕ) (first second : List ℕ) (answer : Answer) : Type 0 where
   pub no_page : answer.outcome ≢ 2
   pub done : answer.outcome ≡ 0
-      → (dpi : Dpi) × AreSeen number first second dpi × (answer.resolution ≡ dots_per_inch dpi) × HasComparison asks first second dpi answer
-  pub refused : answer.outcome ≡ 1 → (dpi : Dpi) × AreSeen number first second dpi × TellsOneRefused dpi first second answer
+      → (dpi : Dpi) × AreSeen asks number first second dpi × (answer.resolution ≡ dots_per_inch dpi)
+      × HasComparison asks first second dpi answer
+  pub refused : answer.outcome ≡ 1 → (dpi : Dpi) × AreSeen asks number first second dpi × TellsOneRefused dpi first second answer

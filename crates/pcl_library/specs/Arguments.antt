@@ -1,5 +1,6 @@
 -- Arguments that come as numbers, and inputs that are too long.
-use Rattle.std.specs.Prelude.{◌≡◌, ◌≢◌, ◌⊎◌, ◌↔◌, ℕ, ◌<◌, ◌≤◌, List, length, Option, Some, None, Result, Ok, Err}
+use Rattle.std.specs.Prelude.{◌≡◌, ◌≢◌, ◌⊎◌, ◌↔◌, ℕ, ◌<◌, ◌≤◌, Bool, List, length, Option, Some, None, Result, Ok, Err}
+use Rattle.pcl_answers.specs.Comparisons.{AreComparedAt}
 use Rattle.pcl_base.specs.Limits.{input_limit, page_limit}
 use Rattle.pcl_base.specs.declared.dpi.Dpi.{Dpi}
 use Rattle.pcl_base.specs.declared.dpi.Dpi.TheVariants.{Dpi300, Dpi600}
@@ -15,7 +16,7 @@ use Rattle.pcl_streams.specs.declared.page_images.PageSet.{PageSet}
 use Rattle.pcl_streams.specs.PageImages.{is_between, is_listed}
 use Rattle.pcl_request.specs.declared.request.Resolution.{Resolution}
 use Rattle.pcl_request.specs.declared.request.Resolution.TheVariants.{Given, FirstAccepted}
-use Rattle.pcl_files.specs.Resolutions.{IsSeenAt, AreSeenAt}
+use Rattle.pcl_files.specs.Resolutions.{IsSeenAt}
 use Rattle.pcl_library.specs.Failures.{outcome_of}
 use Rattle.pcl_library.specs.declared.failure.Argument.TheVariants as wrong
 use Rattle.pcl_library.specs.declared.failure.Failure.{Failure}
@@ -33,9 +34,10 @@ resolution_number FirstAccepted = 0
 abbrev pub IsSeen : Profile → ℕ → List ℕ → Dpi → Type 0
 IsSeen profile number job dpi = (asked : Resolution) × (resolution_number asked ≡ number) × IsSeenAt asked profile job dpi
 
--- two jobs are
-abbrev pub AreSeen : ℕ → (first second : List ℕ) → Dpi → Type 0
-AreSeen number first second dpi = (asked : Resolution) × (resolution_number asked ≡ number) × AreSeenAt asked Drivers first second dpi
+-- two jobs are seen at this by one where they are compared, with what they ask where that is wanted
+abbrev pub AreSeen : (asks : Bool) → ℕ → (first second : List ℕ) → Dpi → Type 0
+AreSeen asks number first second dpi =
+    (asked : Resolution) × (resolution_number asked ≡ number) × AreComparedAt asked asks Drivers first second dpi
 
 -- a set has the pages from one number to another, counted from 1, and no others
 abbrev pub HasBetween : (first last : ℕ) → PageSet → Type 0

@@ -6,9 +6,10 @@ ghost use Rattle.pcl_library.specs.Arguments.{IsWithinLimit, IsResolutionOf, IsC
 ghost use Rattle.pcl_library.specs.Failures.{IsUnperformed};
 
 use crate::failure::{Argument, Failure};
+use pcl_answers::compared_at;
 use pcl_base::{Dpi, PAGE_LIMIT, Profile};
 use pcl_cert::Format;
-use pcl_files::{resolve, resolve_both};
+use pcl_files::resolve;
 use pcl_request::Resolution;
 use pcl_streams::{PageSet, Scale};
 use pcl_tool::{Fault, INPUT_LIMIT, PageChoice};
@@ -29,21 +30,23 @@ pub fn seen_at(alloc: Global, job: &[u8], profile: Profile, resolution: u32) -> 
     Ok(resolve(alloc, asked, profile, job)?)
 }
 
-/// The same of two jobs; 0 is for the first resolution at which both are accepted.
+/// The resolution at which two jobs are compared by the number of one, with what they ask where that is wanted; by 0 it is the first at
+/// which both are accepted, and 600 dots per inch where they are the same at 300 and both are accepted there too.
 pub fn both_seen_at(
     alloc: Global,
+    asks: bool,
     first: &[u8],
     second: &[u8],
     resolution: u32,
 ) -> Result<Dpi, Failure>
-    ensures seen { IfOk result (AreSeen resolution first.now second.now) }
+    ensures seen { IfOk result (AreSeen asks resolution first.now second.now) }
     ensures unperformed { IfErr result IsUnperformed }
     ensures arguments { FailsBy (IsNoResolution resolution) (IsTooLong first.now ⊎ IsTooLong second.now) (outcome_in result) }
 {
     let asked = resolution_numbered(resolution)?;
     within_limit(first)?;
     within_limit(second)?;
-    Ok(resolve_both(alloc, asked, Profile::Drivers, first, second)?)
+    Ok(compared_at(alloc, asks, first, second, Profile::Drivers, asked)?)
 }
 
 /// Fails where there are more bytes than the program reads as one input.

@@ -9,6 +9,7 @@ use crate::arguments::both_seen_at;
 use crate::failure::Failure;
 use pcl_answers::{compare_jobs, comparison_line};
 use pcl_base::{Dpi, Profile};
+use pcl_request::Layout;
 use std::alloc::Global;
 
 /// `pclmin_same`: whether two jobs have the same pages. The line says what differs first.
@@ -41,12 +42,12 @@ pub extern "C" fn pcl_library_same_asked(
     *answer = seen_answer(alloc, true, first, second, resolution);
 }
 
-/// Whether two jobs are the same at the resolution at which they are seen by a number; what they ask counts where that is wanted.
+/// Whether two jobs are the same at the resolution at which they are compared by a number; what they ask counts where that is wanted.
 fn seen_answer(alloc: Global, asks: bool, first: &[u8], second: &[u8], resolution: u32) -> Answer
     ensures told { Compares asks resolution first.now second.now result }
     ensures arguments { FailsBy (IsNoResolution resolution) (IsTooLong first.now ⊎ IsTooLong second.now) result.outcome }
 {
-    match both_seen_at(alloc, first, second, resolution) {
+    match both_seen_at(alloc, asks, first, second, resolution) {
         Ok(dpi) => same_answer(alloc, asks, first, second, dpi),
         Err(failure) => Answer::of_failure(alloc, &failure, 0),
     }
@@ -58,7 +59,7 @@ fn same_answer(alloc: Global, asks: bool, first: &[u8], second: &[u8], dpi: Dpi)
 {
     match compare_jobs(alloc, asks, first, second, Profile::Drivers, dpi) {
         Ok(comparison) => {
-            let line = comparison_line(alloc, &comparison);
+            let line = comparison_line(alloc, Layout::Text, &comparison);
             Answer::of_line(line, comparison.is_same(), dpi)
         }
         Err(fault) => Answer::of_failure(alloc, &Failure::from(fault), 0),

@@ -1,5 +1,6 @@
 //! What the process prints of a run that failed: its line, with the file that stood in the way, and on a terminal what helps.
 
+use crate::manner::Manner;
 use pcl_base::Kind;
 use pcl_explain::{language_of, nearest_kind};
 use pcl_system::{Access, Trouble, Troubles};
@@ -18,15 +19,21 @@ const REFUSED: &str = "pclmin: refused: ";
 const RESOLUTION: &str = " *tR\n";
 
 /// Prints the line of a run that failed, which these words asked for. What standard error doesn't take is lost.
-pub(crate) fn print_fault(rt: &HostRuntime, line: &str, words: &[String], troubles: &Troubles) {
+pub(crate) fn print_fault(
+    rt: &HostRuntime,
+    line: &str,
+    words: &[String],
+    manner: Manner,
+    troubles: &Troubles,
+) {
     match troubles.take() {
         Some(trouble) => print_trouble(rt, line, words, &trouble),
         None => {
             let _ = rt.eprint(line);
         }
     }
-    if line.starts_with(REFUSED) && rt.stderr().is_terminal() {
-        let hint = hint(line, words, &troubles.start());
+    if line.starts_with(REFUSED) && !manner.is_quiet && rt.stderr().is_terminal() {
+        let hint = hint(line, manner.is_auto, &troubles.start());
         let _ = eprint!(rt; "pclmin: {hint}\n");
     }
 }
@@ -64,9 +71,8 @@ fn meant(rt: &HostRuntime, words: &[String], trouble: &Trouble) -> Option<Kind> 
     }
 }
 
-/// What helps where a run that words asked for refuses a job by this line, which begins so.
-fn hint(line: &str, words: &[String], start: &[u8]) -> &'static str {
-    let is_auto = words.iter().any(|word| word.as_str().ends_with("auto"));
+/// What helps where a run refuses a job by this line, which begins so; whether its resolution was left to the job is known.
+fn hint(line: &str, is_auto: bool, start: &[u8]) -> &'static str {
     match language_of(start) {
         Some(language) => language.text(),
         None if line.ends_with(RESOLUTION) && !is_auto => "try --dpi auto",

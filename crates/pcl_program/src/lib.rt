@@ -2,6 +2,7 @@
 #![tactic(auto)]
 
 mod faults;
+mod manner;
 mod process;
 mod rewriting;
 mod running;

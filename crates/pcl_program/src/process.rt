@@ -1,6 +1,7 @@
 //! The process of `pclmin`: its words, its standard streams, the files of the system, its line and its status.
 
 use crate::faults::print_fault;
+use crate::manner::Manner;
 use crate::running::{exit_status, run};
 use clap::Error;
 use pcl_answers::Ending;
@@ -24,6 +25,7 @@ pub fn run_process(rt: &HostRuntime) -> ExitCode {
             rt,
             &Ok(Ending::Failed(Failure::NoMemory)),
             &[],
+            Manner::plain(Typed::Job),
             &Troubles::new(),
         ),
     };
@@ -33,24 +35,17 @@ pub fn run_process(rt: &HostRuntime) -> ExitCode {
 /// Does what words ask for, prints what is left to be printed, and gives the status.
 fn run_words(rt: &HostRuntime, words: &[String]) -> u8 {
     let troubles = Troubles::new();
+    let manner = Manner::of(rt.alloc(), words);
     let ended = run(
         &mut SystemFiles::new(rt, &troubles),
         rt.alloc(),
         words,
-        &mut Input::new(rt, rt.reader(), typed(words), &troubles),
+        &mut Input::new(rt, rt.reader(), manner.typed(), &troubles),
         &mut OutputStream::new(io::writer(rt), &troubles),
         rt.stdout().is_terminal(),
         Voice::new(rt),
     );
-    end(rt, &ended, words, &troubles)
-}
-
-/// What is typed where standard input is a terminal.
-fn typed(words: &[String]) -> Typed {
-    match words {
-        [_, command, ..] if command.as_str() == "batch" => Typed::Names,
-        _ => Typed::Job,
-    }
+    end(rt, &ended, words, manner, &troubles)
 }
 
 /// The words of the command line, the program's name first; none where one of them isn't text.
@@ -67,13 +62,14 @@ fn end(
     rt: &HostRuntime,
     ended: &Result<Ending, Error>,
     words: &[String],
+    manner: Manner,
     troubles: &Troubles,
 ) -> u8 {
     match ended {
         Ok(Ending::Done | Ending::Checked(_) | Ending::Compared(_)) => {}
         Ok(Ending::Failed(Failure::Said { line, .. })) => {
             if let Ok(text) = std::str::from_utf8(line) {
-                print_fault(rt, text, words, troubles);
+                print_fault(rt, text, words, manner, troubles);
             }
         }
         Ok(Ending::Failed(Failure::NoMemory)) => {

@@ -24,12 +24,13 @@ impl Typed {
     }
 }
 
-/// Standard input. Where it is a terminal, a hint comes on standard error before the first read.
+/// Standard input. Where it is a terminal, a hint comes on standard error before the first read, unless nothing is to be said.
 #[derive(Drop)]
 pub struct Input<'a, R> {
     rt: &'a HostRuntime,
     reader: R,
-    typed: Typed,
+    /// What is typed; none where nothing is to be said of it.
+    typed: Option<Typed>,
     troubles: &'a Troubles,
     has_begun: bool,
 }
@@ -38,7 +39,7 @@ impl<'a, R: Read> Input<'a, R> {
     pub fn new(
         rt: &'a HostRuntime,
         reader: R,
-        typed: Typed,
+        typed: Option<Typed>,
         troubles: &'a Troubles,
     ) -> Input<'a, R> {
         Input {
@@ -55,8 +56,10 @@ impl<R: Read> Read for Input<'_, R> {
     fn read(&mut self, buf: &mut [u8]) -> io::Result<usize> {
         let is_first = !self.has_begun;
         self.has_begun = true;
-        if is_first && self.rt.stdin().is_terminal() {
-            let _ = self.rt.eprint(self.typed.hint());
+        if let Some(typed) = self.typed {
+            if is_first && self.rt.stdin().is_terminal() {
+                let _ = self.rt.eprint(typed.hint());
+            }
         }
         let read = self.reader.read(buf);
         match &read {

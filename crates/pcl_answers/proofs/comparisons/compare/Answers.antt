@@ -1,5 +1,5 @@
 use Rattle.std.proofs.Common.{◌≡◌, ◌∙◌, List, ℕ, Option, Result, Ok, Err, inl, inr, refl, sym, subst}
-use Rattle.pcl_answers.proofs.Names.{Vec, err_from_is_err_and, Keeps-refl, Dpi, Fault, Memory, ReadFault, TooLong, WriteFault, AppendsFront, IsWritten, AskedComparison, Comparison, SameFault, IsComparison, IsCompared, of_pages, FileAct, AreComparedAt, IsFileRead, ComparedFiles, Failed, comparison_in, AreFilesSeen, IsOneUnread, IsComparisonFor, IsComparedAndDrawn, IsCompareRun, compare_fault_of, dotted_page, IsImageDrawn}
+use Rattle.pcl_answers.proofs.Names.{Vec, err_from_is_err_and, Keeps-refl, Dpi, Fault, Memory, ReadFault, TooLong, WriteFault, AppendsFront, IsWritten, AskedComparison, Comparison, SameFault, IsComparison, IsCompared, of_pages, FileAct, AreComparedAt, IsFileRead, ComparedFiles, Failed, comparison_line_of, AreFilesSeen, IsOneUnread, IsComparisonFor, IsComparedAndDrawn, IsCompareRun, compare_fault_of, dotted_page, IsImageDrawn}
 use Rattle.pcl_same.specs.declared.fault.SameFault.TheVariants as same
 use Rattle.pcl_files.proofs.FileReads.{read_fault}
 use Rattle.pcl_answers.proofs.ComparedFor.{by_pages}
@@ -66,7 +66,7 @@ undrawn acts files kept asked held comparison other a = absurd (drawn_fault acts
 -- a write of the line that fails
 stops : {F : Type 0} (acts : F → FileAct → F → Type 0) (files kept : F) (asked : ComparedFiles) (old new : Option (List ℕ))
     (comparison : AskedComparison) (line : List ℕ) (fault : Fault) → IsComparedAndDrawn acts asked files kept comparison (Ok tt)
-    → line ≡ comparison_in asked.layout comparison → IsWritten old new line (Err fault)
+    → line ≡ comparison_line_of asked.layout comparison → IsWritten old new line (Err fault)
     → IsCompareRun acts asked files kept old new (Err (Failed fault))
 stops acts files kept asked old new comparison line WriteFault a e w = (comparison, inr (a, subst (AppendsFront old new) e w))
 stops acts files kept asked old new comparison line other a e w = absurd w

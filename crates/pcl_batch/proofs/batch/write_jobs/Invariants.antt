@@ -1,5 +1,5 @@
 use Rattle.pcl_batch.specs.inner.Jobs.{IsHonestTally}
 use Rattle.pcl_batch.proofs.batch.write_jobs.Given as goal
 
-abbrev pub invariant-loop-path : goal.invariant-loop-path
-invariant-loop-path g l = IsHonestTally l.tally
+abbrev pub invariant-loop-job : goal.invariant-loop-job
+invariant-loop-job g l = IsHonestTally l.tally

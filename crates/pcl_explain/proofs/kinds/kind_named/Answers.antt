@@ -1,7 +1,7 @@
 use Rattle.std.proofs.Common.{◌≡◌, ℕ, All, subst, take, arith}
 use Rattle.std.proofs.lemmas.List.Elements.{All-more, All-nil}
 use Rattle.pcl_base.specs.declared.kind.Kind.{Kind, TheVariants.Truncated}
-use Rattle.pcl_explain.specs.Findings.{IsKindName}
+use Rattle.pcl_explain.specs.Kinds.{IsKindName}
 use Rattle.pcl_explain.proofs.AllKinds.{kinds, of_each}
 use Rattle.pcl_explain.proofs.kinds.kind_named.Goals as goal
 

@@ -1,5 +1,5 @@
 use Rattle.std.proofs.Common.{take, All}
-use Rattle.pcl_explain.specs.Findings.{IsKindName}
+use Rattle.pcl_explain.specs.Kinds.{IsKindName}
 use Rattle.pcl_explain.proofs.kinds.kind_named.Given as goal
 
 -- no kind so far has the name

@@ -1,0 +1,77 @@
+//! How the process speaks where words ask for something, besides what a run writes.
+
+use pcl_arguments::{parse_batch, parse_request};
+use pcl_request::{Request, Resolution};
+use pcl_system::Typed;
+use std::alloc::Global;
+
+/// How the process speaks.
+#[derive(Clone, Copy)]
+pub(crate) struct Manner {
+    /// What is typed where standard input is a terminal.
+    typed: Typed,
+    /// Whether it says nothing but why a run fails.
+    pub is_quiet: bool,
+    /// Whether the resolution is left to the job.
+    pub is_auto: bool,
+}
+
+impl Manner {
+    /// Where nothing is known of what is asked for.
+    pub fn plain(typed: Typed) -> Manner {
+        Manner {
+            typed,
+            is_quiet: false,
+            is_auto: false,
+        }
+    }
+
+    /// Where the words of a command line ask for something.
+    pub fn of(alloc: Global, words: &[String]) -> Manner {
+        match words {
+            [_, command, ..] if command.as_str() == "batch" => Manner::of_batch(alloc, words),
+            _ => Manner::of_request(alloc, words),
+        }
+    }
+
+    /// Where they ask for a batch.
+    fn of_batch(alloc: Global, words: &[String]) -> Manner {
+        match parse_batch(alloc, words) {
+            Ok(asked) => Manner {
+                typed: Typed::Names,
+                is_quiet: asked.batch.quiet,
+                is_auto: is_auto(asked.batch.resolution),
+            },
+            Err(_) => Manner::plain(Typed::Names),
+        }
+    }
+
+    /// Where they ask for anything else.
+    fn of_request(alloc: Global, words: &[String]) -> Manner {
+        let (is_quiet, resolution) = match parse_request(alloc, words) {
+            Ok(Request::Run(run)) => (run.quiet, run.resolution),
+            Ok(Request::Check(asked)) => (asked.quiet, asked.resolution),
+            Ok(Request::Compare(asked)) => (false, asked.resolution),
+            Err(_) => return Manner::plain(Typed::Job),
+        };
+        Manner {
+            typed: Typed::Job,
+            is_quiet,
+            is_auto: is_auto(resolution),
+        }
+    }
+
+    /// What a person is told to type on a terminal, unless nothing is to be said.
+    pub fn typed(self) -> Option<Typed> {
+        if self.is_quiet {
+            None
+        } else {
+            Some(self.typed)
+        }
+    }
+}
+
+/// Whether a resolution is left to the job.
+fn is_auto(resolution: Resolution) -> bool {
+    matches!(resolution, Resolution::FirstAccepted)
+}
