@@ -20,6 +20,7 @@ import shutil
 import subprocess
 import sys
 import tempfile
+import threading
 import time
 
 HERE = os.path.dirname(os.path.abspath(__file__))
@@ -258,27 +259,35 @@ def check_sizes(program):
 def run_on_terminal(program, words, job):
     """What a run writes to a terminal that is its standard error, and how many seconds it took."""
     leader, follower = pty.openpty()
+    said = bytearray()
+    # what is shown may be more than a terminal holds
+    reader = threading.Thread(target=read_terminal, args=(leader, said))
     begun = time.monotonic()
     process = subprocess.Popen([program] + words, stdin=subprocess.PIPE, stdout=subprocess.DEVNULL, stderr=follower)
     os.close(follower)
+    reader.start()
     process.communicate(job)
     taken = time.monotonic() - begun
-    said = b""
-    while True:
-        try:
-            part = os.read(leader, 4096)
-        except OSError:
-            break
-        if not part:
-            break
-        said += part
+    reader.join()
     os.close(leader)
     return said.decode(), taken
 
 
+def read_terminal(leader, said):
+    """Appends what a terminal shows until nobody writes to it any more."""
+    while True:
+        try:
+            part = os.read(leader, 4096)
+        except OSError:
+            return
+        if not part:
+            return
+        said += part
+
+
 def check_terminal(program):
-    """A terminal shows how many pages are done, or how many jobs of a batch, from the first second on and not before, and the line is
-    cleared at the end."""
+    """A terminal shows how many pages are done, how far each pass of `shrink` has come, or how many jobs of a batch are done, from the
+    first second on and not before, and the line is cleared at the end."""
     wrong = []
     said, taken = run_on_terminal(program, ["min"], DOT)
     if taken < 1 and said:
@@ -294,6 +303,14 @@ def check_terminal(program):
     said, _ = run_on_terminal(program, ["min", "--quiet"], long)
     if said:
         wrong.append(f"a quiet run says {said[:80]!r}")
+    said, taken = run_on_terminal(program, ["shrink"], long)
+    shown = [line.rsplit(": ", 1) for line in said.removesuffix("\r\x1b[K").split("\r\x1b[Kpclmin: ")[1:]]
+    counts = [int(done) for name, done in shown if name == "pages read"]
+    if taken < 1.5 or not counts or counts[0] == 1 or counts != sorted(counts) or counts[-1] != 200 or not said.endswith("\r\x1b[K"):
+        wrong.append(f"shrink says in {taken:.1f} seconds {said[:80]!r} .. {said[-40:]!r}")
+    said, _ = run_on_terminal(program, ["shrink", "-q"], long)
+    if said:
+        wrong.append(f"a quiet shrink says {said[:80]!r}")
     with tempfile.TemporaryDirectory() as folder:
         names = [os.path.join(folder, name) for name in ("one.pcl", "two.pcl")]
         for name in names:
@@ -303,7 +320,7 @@ def check_terminal(program):
         quiet, _ = run_on_terminal(program, ["batch", "-q", "--min", "-o", os.path.join(folder, "quiet"), *names], b"")
     if said != "\rpclmin: jobs done: 1 of 2\rpclmin: jobs done: 2 of 2\r\x1b[K" or quiet:
         wrong.append(f"a batch says {said!r}, and a quiet one {quiet!r}")
-    return wrong, 5
+    return wrong, 7
 
 
 def check_hints(program):

@@ -16,6 +16,8 @@
 //!   shows Usage: pclmin <COMMAND>    in its place a line of the text of help or of a usage fault, of which none is left out
 //!   mentions --page <N>              in its place a part of that text
 //!   tells 2 pages, 1 end             how many pages are reported, and how often the end; none where it isn't said
+//!   passes pages read: 1, pages to compare: 1,
+//!                                    how far passes over the pages have come, each time that it is reported
 //!   makes page.cert 12: {PCLCERT1}   the length of a file that was made, and how it begins
 //!   run pclmin pbm --page 2          the words
 //!   status 1                         the status; this ends the case
@@ -77,6 +79,8 @@ struct Reports {
     ends: Cell<u32>,
     /// What was reported.
     said: Cell<Vec<u8>>,
+    /// How far passes over the pages of a job have come, as it was reported.
+    passed: Cell<Vec<u8>>,
     alloc: Global,
 }
 
@@ -88,6 +92,7 @@ impl Reports {
             times: Cell::new(0),
             ends: Cell::new(0),
             said: Cell::new(Vec::new(alloc)),
+            passed: Cell::new(Vec::new(alloc)),
             alloc,
         }
     }
@@ -101,6 +106,17 @@ impl Reporter for &Reports {
     }
 
     fn jobs_done(&self, _done: usize, _jobs: usize) {}
+
+    fn pages_passed(&self, done: &str, pages: usize) {
+        let mut passed = self.passed.replace(Vec::new(self.alloc));
+        if let Ok(text) = format!(in self.alloc; "{done}: {pages},") {
+            if !passed.is_empty() {
+                let _ = passed.push(b' ');
+            }
+            let _ = passed.extend_from_slice(text.as_bytes());
+        }
+        self.passed.set(passed);
+    }
 }
 
 impl Watcher for &Reports {
@@ -158,6 +174,8 @@ pub struct Commands {
     is_whole: bool,
     /// The pages that are reported, and how often the end is.
     reported: (usize, usize),
+    /// How far passes come, where that is wanted.
+    passed: Option<String>,
     /// The file that is made, and what it begins with.
     made: Option<(String, Begin)>,
 }
@@ -176,6 +194,7 @@ impl Commands {
             said: String::new(alloc),
             is_whole: true,
             reported: (0, 0),
+            passed: None,
             made: None,
         }
     }
@@ -187,6 +206,7 @@ impl Commands {
         self.said = String::new(alloc);
         self.is_whole = true;
         self.reported = (0, 0);
+        self.passed = None;
         self.made = None;
         Ok(())
     }
@@ -206,6 +226,7 @@ impl Commands {
                 self.is_whole = false;
             }
             "tells" => self.reported = counts_of(rest)?,
+            "passes" => self.passed = Some(String::from_str(alloc, rest)?),
             "makes" => {
                 let (file, begin) = rest.split_once(' ').ok_or(TableFault::Unknown)?;
                 self.made = Some((String::from_str(alloc, file)?, Begin::parse(alloc, begin)?));
@@ -271,6 +292,8 @@ impl Commands {
             &reports,
         );
         let lines = reports.said.replace(Vec::new(alloc));
+        let passed = reports.passed.replace(Vec::new(alloc));
+        let passed = String::from_utf8_lossy(alloc, &passed)?;
         let mut said = String::from_utf8_lossy(alloc, &lines)?;
         said.push_str(text_of(alloc, &ended)?.as_str())?;
         let held = taken.0.unwrap_or(Held::new(alloc));
@@ -280,12 +303,13 @@ impl Commands {
             && held.is_flushed()
             && self.is_said(&said)
             && self.is_reported(&reports)
+            && self.is_passed(&passed)
             && self.is_made(folder);
         if is_right {
             return Ok(None);
         }
         let came = format!(in alloc;
-            "status {}, {} bytes written, pages reported {} in {} times, {} ends: {said}",
+            "status {}, {} bytes written, pages reported {} in {} times, {} ends, {passed} {said}",
             exit_status(&ended),
             written.len(),
             reports.pages.get(),
@@ -310,6 +334,14 @@ impl Commands {
         reports.pages.get() as usize == pages
             && reports.times.get() as usize == pages
             && reports.ends.get() as usize == ends
+    }
+
+    /// Whether passes came as far as is wanted.
+    fn is_passed(&self, passed: &str) -> bool {
+        match &self.passed {
+            Some(wanted) => passed == wanted.as_str(),
+            None => true,
+        }
     }
 
     /// Whether the file that is wanted was made.

@@ -3,6 +3,7 @@
 
 mod certifying;
 mod clashes;
+mod passes;
 mod reporting;
 mod rewriting;
 mod running;

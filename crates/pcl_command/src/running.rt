@@ -8,6 +8,7 @@ ghost use Rattle.pcl_command.specs.World.{world};
 
 use crate::certifying::certify;
 use crate::clashes::{clashes, refuse_clash};
+use crate::passes::{shrink_everywhere_reported, shrink_reported};
 use crate::reporting::{report_no_page, report_shrunk};
 use pcl_answers::{Ending, check, compare, not_compared};
 use pcl_base::{Dpi, Kind, Profile};
@@ -16,7 +17,7 @@ use pcl_files::{Failure, JobFiles, Reporter, outcome, settle};
 use pcl_page::first_accepted;
 use pcl_pages::describe_pages;
 use pcl_request::{Layout, Request, Resolution, Run, Source, Target, Task, Work};
-use pcl_shrink::{Readers, shrink, shrink_everywhere};
+use pcl_shrink::Readers;
 use pcl_streams::{Fault, ImageForm, PageChoice, preview_pages, read_all, write_all};
 use pcl_tool::{INPUT_LIMIT, filter_watched};
 use std::alloc::{AllocError, Global};
@@ -369,7 +370,7 @@ fn write_smaller<R: Read, W: Write, P: Reporter>(
         (W.contents out.old) (W.contents out.new) result }
 {
     let job = read_all(alloc, reader, INPUT_LIMIT)?;
-    let shrunk = shrink(alloc, &job, widest, dpi, readers)?;
+    let shrunk = shrink_reported(alloc, &job, widest, dpi, readers, reporter)?;
     report_shrunk(alloc, job.len(), &shrunk, report, reporter)?;
     write_all(out, &shrunk.job)
 }
@@ -388,7 +389,7 @@ fn write_smallest<R: Read, W: Write, P: Reporter>(
         (W.contents out.old) (W.contents out.new) result }
 {
     let job = read_all(alloc, reader, INPUT_LIMIT)?;
-    let shrunk = shrink_everywhere(alloc, &job, widest, readers)?;
+    let shrunk = shrink_everywhere_reported(alloc, &job, widest, readers, reporter)?;
     report_shrunk(alloc, job.len(), &shrunk, report, reporter)?;
     write_all(out, &shrunk.job)
 }

@@ -10,6 +10,9 @@ pub trait Reporter: Watcher {
 
     /// Reports how many jobs are done, of how many.
     fn jobs_done(&self, done: usize, jobs: usize);
+
+    /// Reports what a pass over the pages of a job does, as `pages read`, and to how many of them it was done.
+    fn pages_passed(&self, done: &str, pages: usize);
 }
 
 /// Where there is no reporter, nothing is reported.
@@ -23,6 +26,12 @@ impl<P: Reporter> Reporter for Option<P> {
     fn jobs_done(&self, done: usize, jobs: usize) {
         if let Some(reporter) = self {
             reporter.jobs_done(done, jobs);
+        }
+    }
+
+    fn pages_passed(&self, done: &str, pages: usize) {
+        if let Some(reporter) = self {
+            reporter.pages_passed(done, pages);
         }
     }
 }

@@ -5,44 +5,39 @@ ghost use Rattle.pcl_shrink.specs.Outcome.{IsOutcome};
 use crate::asking::{append_end, append_page_start, append_page_text};
 use crate::proposals::says_length;
 use crate::shifts::{Shift, shift_at};
-use pcl_base::{Dpi, JobFault, Profile};
+use crate::watching::{Pass, ShrinkWatcher, WatchedJob};
+use pcl_base::JobFault;
 use pcl_lettering::{END_RASTER, Lettering, PageWriter};
 use pcl_page::{Asks, Page, PageSink, perform_by};
-use std::alloc::{AllocError, Global};
+use std::alloc::AllocError;
 use std::marker::Model;
 
 /// A proposal of a smaller job with the same pages, which asks for what a job asks for, with these letters as soft fonts or as macros
 /// (docs/GLYPHS.md), and with these texts for the pages and stretches of pages where that takes fewer bytes. Where the dots of the pages lie
 /// at 600 dots per inch is given if that counts. None where no page has letters, or where it has as many bytes as the job. Nothing is promised of it but that the input is accepted. A refusal is the job's.
-pub fn letter_job(
-    alloc: Global,
-    job: &[u8],
-    profile: Profile,
-    dpi: Dpi,
+pub fn letter_job<P: ShrinkWatcher>(
+    source: WatchedJob<'_, P>,
     shifts: &[Shift],
     asks: &Asks<'_>,
     texts: &[Vec<u8>],
     lettering: &Lettering,
 ) -> Result<Option<Vec<u8>>, JobFault>
-    ensures { IsOutcome profile dpi job.now result }
+    ensures { IsOutcome source.entry.profile source.entry.dpi source.entry.job.now result }
 {
-    let writer = LetterWriter::new(alloc, shifts, asks, texts, lettering, job.len())?;
-    let writer = after_pages(alloc, job, profile, dpi, writer)?;
+    let writer = LetterWriter::new(source, shifts, asks, texts, lettering);
+    let writer = after_pages(source, writer)?;
     Ok(writer.finish()?)
 }
 
 /// A sink after the pages of a job.
-fn after_pages<S: PageSink + Drop>(
-    alloc: Global,
-    job: &[u8],
-    profile: Profile,
-    dpi: Dpi,
+fn after_pages<P: ShrinkWatcher, S: PageSink + Drop>(
+    source: WatchedJob<'_, P>,
     sink: S,
 ) -> Result<S, JobFault>
-    ensures { IsOutcome profile dpi job.now result }
+    ensures { IsOutcome source.entry.profile source.entry.dpi source.entry.job.now result }
 {
     let mut sink = sink;
-    perform_by(alloc, job, profile, dpi, &mut sink)?;
+    perform_by(source.alloc, source.job, source.profile, source.dpi, &mut sink)?;
     Ok(sink)
 }
 
@@ -50,7 +45,7 @@ fn after_pages<S: PageSink + Drop>(
 /// after the letters, and without any where that takes fewer bytes. Where a reset stands within it, the letters are permanent, and are
 /// deleted at its end.
 #[derive(Drop)]
-struct LetterWriter<'a, 'b> {
+struct LetterWriter<'a, 'b, P> {
     /// Where the dots of its pages lie at 600 dots per inch, if that counts.
     shifts: &'b [Shift],
     /// What the job asks for.
@@ -77,19 +72,20 @@ struct LetterWriter<'a, 'b> {
     limit: usize,
     /// Whether it is: then nothing of it is left, and no more is written.
     is_too_long: bool,
+    /// Is called for each page.
+    watcher: P,
 }
 
-impl<'a, 'b> LetterWriter<'a, 'b> {
+impl<'a, 'b, P: ShrinkWatcher> LetterWriter<'a, 'b, P> {
     /// Before the first page.
     fn new(
-        alloc: Global,
+        source: WatchedJob<'_, P>,
         shifts: &'b [Shift],
         asks: &'b Asks<'a>,
         texts: &'b [Vec<u8>],
         lettering: &'b Lettering,
-        limit: usize,
-    ) -> Result<LetterWriter<'a, 'b>, AllocError> {
-        Ok(LetterWriter {
+    ) -> LetterWriter<'a, 'b, P> {
+        LetterWriter {
             shifts,
             asks,
             texts,
@@ -101,10 +97,11 @@ impl<'a, 'b> LetterWriter<'a, 'b> {
             place: 0,
             spans_reset: false,
             has_letters: false,
-            out: Vec::new(alloc),
-            limit,
+            out: Vec::new(source.alloc),
+            limit: source.job.len(),
             is_too_long: false,
-        })
+            watcher: source.watcher,
+        }
     }
 
     /// Gives up where the stretch, with letters and without, makes what is written too long.
@@ -219,6 +216,7 @@ impl<'a, 'b> LetterWriter<'a, 'b> {
         self.writer.append_page(page, text, &mut written)?;
         self.append_written(&written, text)?;
         self.pages = self.pages.saturating_add(1);
+        self.watcher.pages_passed(Pass::Write, self.pages);
         self.give_up_if_too_long();
         Ok(())
     }
@@ -261,14 +259,14 @@ fn spans_reset(asks: &Asks<'_>, first: usize) -> bool {
     false
 }
 
-impl<'a, 'b> Model for LetterWriter<'a, 'b> {
+impl<'a, 'b, P> Model for LetterWriter<'a, 'b, P> {
     // Nothing is said of what was written.
     ghost Value = { Unit {0} };
 
     ghost view = { λ _. tt };
 }
 
-impl<'a, 'b> PageSink for LetterWriter<'a, 'b> {
+impl<'a, 'b, P: ShrinkWatcher> PageSink for LetterWriter<'a, 'b, P> {
     ghost takes = { λ old page new. Unit {0} };
 
     fn page(&mut self, page: &Page) -> Result<(), AllocError> {

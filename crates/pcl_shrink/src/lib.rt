@@ -17,8 +17,10 @@ mod shifts;
 mod shrinking;
 mod squares;
 mod texts;
+mod watching;
 
 pub use candidate::{Candidate, Shrunk};
 pub use laws::shrunk_jobs_have_the_same_pages;
 pub use pcl_page::{Doubt, Readers};
-pub use shrinking::{shrink, shrink_everywhere};
+pub use shrinking::{shrink, shrink_everywhere, shrink_everywhere_watched, shrink_watched};
+pub use watching::{Pass, ShrinkWatcher};

@@ -10,11 +10,11 @@ use crate::raster_jobs::{asked_len, plain_job};
 use crate::rasters::{Text, shortest_texts};
 use crate::shifts::Shift;
 use crate::texts::{Found, page_texts};
-use pcl_base::{Dpi, JobFault, Profile};
+use crate::watching::{ShrinkWatcher, WatchedJob};
+use pcl_base::JobFault;
 use pcl_lettering::Lettering;
 use pcl_page::{Asks, Doubt};
 use pcl_shapes::Collection;
-use std::alloc::Global;
 
 /// What is proposed for a job, and what it is measured by.
 #[derive(Drop)]
@@ -31,20 +31,17 @@ pub struct Proposed {
 
 /// Proposes a job with the pages of a job, which asks for what that asks for: its pages as their shortest rasters, or, where that is
 /// shorter, with letters. Where the dots of its pages lie at 600 dots per inch is given if that counts. A refusal is the job's.
-pub fn propose(
-    alloc: Global,
-    job: &[u8],
-    profile: Profile,
-    dpi: Dpi,
+pub fn propose<P: ShrinkWatcher>(
+    source: WatchedJob<'_, P>,
     shifts: &[Shift],
 ) -> Result<Proposed, JobFault>
-    ensures { HasProposed profile dpi job.now result }
+    ensures { HasProposed source.entry.profile source.entry.dpi source.entry.job.now result }
 {
-    let (texts, found) = page_texts(alloc, job, profile, dpi, shifts)?;
+    let (texts, found) = page_texts(source, shifts)?;
     let pages = texts.len();
-    let limit = asked_len(alloc, &found.asks, &texts)?;
+    let limit = asked_len(source.alloc, &found.asks, &texts)?;
     let doubt = found.doubt;
-    let proposal = proposal_of(alloc, job, profile, dpi, shifts, texts, found)?;
+    let proposal = proposal_of(source, shifts, texts, found)?;
     Ok(Proposed {
         proposal,
         limit,
@@ -56,29 +53,29 @@ pub fn propose(
 /// The shorter of the texts of the pages, with what is asked around them, and of a job with letters found by this: none where neither is
 /// shorter than the job, nor where the job counts on what stays in the printer, so that only the job itself asks for the same, nor where
 /// a page has dots that no page of 300 dots per inch has at 600.
-fn proposal_of(
-    alloc: Global,
-    job: &[u8],
-    profile: Profile,
-    dpi: Dpi,
+fn proposal_of<P: ShrinkWatcher>(
+    source: WatchedJob<'_, P>,
     shifts: &[Shift],
     texts: Vec<Text>,
     found: Found<'_>,
 ) -> Result<Option<Proposal>, JobFault>
-    ensures { RefusesWith profile dpi job.now result }
+    ensures { RefusesWith source.entry.profile source.entry.dpi source.entry.job.now result }
 {
     let Found { shapes, asks, .. } = found;
     if asks.lasts || shifts.contains(&Shift::Other) {
         return Ok(None);
     }
     let by = raster_kind(&texts);
-    let plain = shortest_texts(alloc, texts, shifts)?;
-    match propose_letters(alloc, job, profile, dpi, shifts, &asks, &plain, shapes)? {
+    let plain = shortest_texts(source.alloc, texts, shifts)?;
+    match propose_letters(source, shifts, &asks, &plain, shapes)? {
         Some(job) => Ok(Some(Proposal {
             job,
             by: Candidate::Glyphs,
         })),
-        None => Ok(proposal_by(by, plain_job(alloc, &asks, plain, job.len())?)),
+        None => Ok(proposal_by(
+            by,
+            plain_job(source.alloc, &asks, plain, source.job.len())?,
+        )),
     }
 }
 
@@ -97,23 +94,20 @@ fn raster_kind(texts: &[Text]) -> Candidate {
 }
 
 /// A job with letters among these shapes, where that is shorter than these texts of its pages and than the job.
-fn propose_letters(
-    alloc: Global,
-    job: &[u8],
-    profile: Profile,
-    dpi: Dpi,
+fn propose_letters<P: ShrinkWatcher>(
+    source: WatchedJob<'_, P>,
     shifts: &[Shift],
     asks: &Asks<'_>,
     plain: &[Vec<u8>],
     shapes: Collection,
 ) -> Result<Option<Vec<u8>>, JobFault>
-    ensures { RefusesWith profile dpi job.now result }
+    ensures { RefusesWith source.entry.profile source.entry.dpi source.entry.job.now result }
 {
     if shifts.contains(&Shift::HalfLower) && says_length(asks) {
         return Ok(None);
     }
-    let lettering = Lettering::new(alloc, shapes)?;
-    lettered(alloc, job, profile, dpi, shifts, asks, plain, &lettering)
+    let lettering = Lettering::new(source.alloc, shapes)?;
+    lettered(source, shifts, asks, plain, &lettering)
 }
 
 /// Whether the length of a page is said: in lines, of which pages that lie half a dot lower set the spacing, and line feeds too.
@@ -124,21 +118,18 @@ pub fn says_length(asks: &Asks<'_>) -> bool {
 }
 
 /// A job with these letters, where there are any and it is shorter than these texts of its pages and than the job.
-fn lettered(
-    alloc: Global,
-    job: &[u8],
-    profile: Profile,
-    dpi: Dpi,
+fn lettered<P: ShrinkWatcher>(
+    source: WatchedJob<'_, P>,
     shifts: &[Shift],
     asks: &Asks<'_>,
     plain: &[Vec<u8>],
     lettering: &Lettering,
 ) -> Result<Option<Vec<u8>>, JobFault>
-    ensures { RefusesWith profile dpi job.now result }
+    ensures { RefusesWith source.entry.profile source.entry.dpi source.entry.job.now result }
 {
     if lettering.is_empty() {
         Ok(None)
     } else {
-        letter_job(alloc, job, profile, dpi, shifts, asks, plain, lettering)
+        letter_job(source, shifts, asks, plain, lettering)
     }
 }

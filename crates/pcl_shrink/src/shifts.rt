@@ -2,6 +2,7 @@
 
 ghost use Rattle.pcl_shrink.specs.Outcome.{IsOutcome};
 
+use crate::watching::{Pass, ShrinkWatcher};
 use pcl_base::{Dpi, JobFault, Profile};
 use pcl_bitmap::{Bitmap, trimmed_len};
 use pcl_page::{Doubt, Page, PageSink, perform_doubted};
@@ -41,11 +42,17 @@ impl Fine {
 }
 
 /// What is known of a job that a profile accepts at 600 dots per inch. A refusal is the job's.
-pub fn look_finely(alloc: Global, job: &[u8], profile: Profile) -> Result<Fine, JobFault>
+pub fn look_finely<P: ShrinkWatcher>(
+    alloc: Global,
+    job: &[u8],
+    profile: Profile,
+    watcher: P,
+) -> Result<Fine, JobFault>
     ensures { IsOutcome profile Dpi.Dpi600 job.now result }
 {
     let mut finder = ShiftFinder {
         shifts: Vec::new(alloc),
+        watcher,
     };
     let mut doubt = None;
     perform_doubted(alloc, job, profile, Dpi::Dpi600, &mut doubt, &mut finder)?;
@@ -121,22 +128,24 @@ fn is_pair(rows: &[u8], row_bytes: usize) -> bool {
 
 /// Finds the shift of each page that comes.
 #[derive(Drop)]
-struct ShiftFinder {
+struct ShiftFinder<P> {
     shifts: Vec<Shift>,
+    watcher: P,
 }
 
-impl Model for ShiftFinder {
+impl<P> Model for ShiftFinder<P> {
     // Nothing is said of what was found.
     ghost Value = { Unit {0} };
 
     ghost view = { λ _. tt };
 }
 
-impl PageSink for ShiftFinder {
+impl<P: ShrinkWatcher> PageSink for ShiftFinder<P> {
     ghost takes = { λ old page new. Unit {0} };
 
     fn page(&mut self, page: &Page) -> Result<(), AllocError> {
         self.shifts.push(shift_of(&page.bitmap))?;
+        self.watcher.pages_passed(Pass::Paint, self.shifts.len());
         Ok(())
     }
 }

@@ -17,6 +17,7 @@ use crate::proposals::{Proposed, propose};
 use crate::raster_jobs::asked_job;
 use crate::shifts::{Fine, look_finely};
 use crate::texts::texts_alone;
+use crate::watching::{NoWatcher, Pass, ShrinkWatcher, WatchedJob};
 use crate::{Candidate, Shrunk};
 use pcl_base::{Dpi, JobFault, Profile};
 use pcl_meaning::written_jobs_say_copies_and_sizes;
@@ -36,35 +37,53 @@ pub fn shrink(
 ) -> Result<Shrunk, JobFault>
     ensures { IsShrunk readers widest dpi job.now result }
 {
+    shrink_watched(alloc, job, widest, dpi, readers, NoWatcher)
+}
+
+/// The same, and the watcher is called for each page that a pass has done.
+pub fn shrink_watched<P: ShrinkWatcher>(
+    alloc: Global,
+    job: &[u8],
+    widest: Profile,
+    dpi: Dpi,
+    readers: Readers,
+    watcher: P,
+) -> Result<Shrunk, JobFault>
+    ensures { IsShrunk readers widest dpi job.now result }
+{
     match widest {
-        Profile::Stated => shrink_by(alloc, job, Profile::Stated, dpi, readers),
-        Profile::Drivers => shrink_by_either(alloc, job, dpi, readers),
+        Profile::Stated => shrink_by(alloc, job, Profile::Stated, dpi, readers, watcher),
+        Profile::Drivers => shrink_by_either(alloc, job, dpi, readers, watcher),
     }
 }
 
 /// The same by the stated profile where that accepts the job, else by the drivers'.
-fn shrink_by_either(
+fn shrink_by_either<P: ShrinkWatcher>(
     alloc: Global,
     job: &[u8],
     dpi: Dpi,
     readers: Readers,
+    watcher: P,
 ) -> Result<Shrunk, JobFault>
     ensures { IsShrunk readers Drivers dpi job.now result }
 {
-    match shrink_by(alloc, job, Profile::Stated, dpi, readers) {
+    match shrink_by(alloc, job, Profile::Stated, dpi, readers, watcher) {
         Ok(shrunk) => Ok(shrunk),
-        Err(JobFault::Refused(_)) => shrink_by(alloc, job, Profile::Drivers, dpi, readers),
+        Err(JobFault::Refused(_)) => {
+            shrink_by(alloc, job, Profile::Drivers, dpi, readers, watcher)
+        }
         Err(JobFault::Memory) => Err(JobFault::Memory),
     }
 }
 
 /// The same by a profile.
-fn shrink_by(
+fn shrink_by<P: ShrinkWatcher>(
     alloc: Global,
     job: &[u8],
     profile: Profile,
     dpi: Dpi,
     readers: Readers,
+    watcher: P,
 ) -> Result<Shrunk, JobFault>
     ensures { IsShrunkAt readers profile dpi None job.now result }
 {
@@ -73,7 +92,7 @@ fn shrink_by(
         first: dpi,
         also: None,
     };
-    shrink_at(alloc, job, at, &Fine::unknown(alloc), readers)
+    shrink_at(alloc, job, at, &Fine::unknown(alloc), readers, watcher)
 }
 
 /// The same at each of 300 and 600 dots per inch at which a job is accepted: what is written has its pages at both, where both accept it.
@@ -86,47 +105,71 @@ pub fn shrink_everywhere(
 ) -> Result<Shrunk, JobFault>
     ensures { IsShrunkEverywhere readers widest job.now result }
 {
+    shrink_everywhere_watched(alloc, job, widest, readers, NoWatcher)
+}
+
+/// The same, and the watcher is called for each page that a pass has done.
+pub fn shrink_everywhere_watched<P: ShrinkWatcher>(
+    alloc: Global,
+    job: &[u8],
+    widest: Profile,
+    readers: Readers,
+    watcher: P,
+) -> Result<Shrunk, JobFault>
+    ensures { IsShrunkEverywhere readers widest job.now result }
+{
     match widest {
-        Profile::Stated => everywhere_by(alloc, job, Profile::Stated, readers),
-        Profile::Drivers => everywhere_by_either(alloc, job, readers),
+        Profile::Stated => everywhere_by(alloc, job, Profile::Stated, readers, watcher),
+        Profile::Drivers => everywhere_by_either(alloc, job, readers, watcher),
     }
 }
 
 /// The same by the stated profile where that accepts the job at one of them, else by the drivers'.
-fn everywhere_by_either(alloc: Global, job: &[u8], readers: Readers) -> Result<Shrunk, JobFault>
+fn everywhere_by_either<P: ShrinkWatcher>(
+    alloc: Global,
+    job: &[u8],
+    readers: Readers,
+    watcher: P,
+) -> Result<Shrunk, JobFault>
     ensures { IsShrunkEverywhere readers Drivers job.now result }
 {
-    match everywhere_by(alloc, job, Profile::Stated, readers) {
+    match everywhere_by(alloc, job, Profile::Stated, readers, watcher) {
         Ok(shrunk) => Ok(shrunk),
-        Err(JobFault::Refused(_)) => everywhere_by(alloc, job, Profile::Drivers, readers),
+        Err(JobFault::Refused(_)) => {
+            everywhere_by(alloc, job, Profile::Drivers, readers, watcher)
+        }
         Err(JobFault::Memory) => Err(JobFault::Memory),
     }
 }
 
 /// The same by a profile.
-fn everywhere_by(
+fn everywhere_by<P: ShrinkWatcher>(
     alloc: Global,
     job: &[u8],
     profile: Profile,
     readers: Readers,
+    watcher: P,
 ) -> Result<Shrunk, JobFault>
     ensures { IsShrunkEverywhereBy readers profile job.now result }
 {
     one_meaning();
-    match look_finely(alloc, job, profile) {
-        Ok(fine) => shrink_fine(alloc, job, profile, &fine, readers),
-        Err(JobFault::Refused(_)) => shrink_by(alloc, job, profile, Dpi::Dpi300, readers),
+    match look_finely(alloc, job, profile, watcher) {
+        Ok(fine) => shrink_fine(alloc, job, profile, &fine, readers, watcher),
+        Err(JobFault::Refused(_)) => {
+            shrink_by(alloc, job, profile, Dpi::Dpi300, readers, watcher)
+        }
         Err(JobFault::Memory) => Err(JobFault::Memory),
     }
 }
 
 /// The same of a job that is accepted at 600 dots per inch, where this is known of it there.
-fn shrink_fine(
+fn shrink_fine<P: ShrinkWatcher>(
     alloc: Global,
     job: &[u8],
     profile: Profile,
     fine: &Fine,
     readers: Readers,
+    watcher: P,
 ) -> Result<Shrunk, JobFault>
     ensures { IsAccepted profile Dpi600 job.now → IsShrunkEverywhereBy readers profile job.now result }
 {
@@ -136,27 +179,37 @@ fn shrink_fine(
         first: Dpi::Dpi300,
         also: Some(Dpi::Dpi600),
     };
-    match shrink_at(alloc, job, at, fine, readers) {
+    match shrink_at(alloc, job, at, fine, readers, watcher) {
         Ok(shrunk) => Ok(shrunk),
-        Err(JobFault::Refused(_)) => shrink_by(alloc, job, profile, Dpi::Dpi600, readers),
+        Err(JobFault::Refused(_)) => {
+            shrink_by(alloc, job, profile, Dpi::Dpi600, readers, watcher)
+        }
         Err(JobFault::Memory) => Err(JobFault::Memory),
     }
 }
 
 /// The same by a reading of the job, where this is known of it at 600 dots per inch.
-fn shrink_at(
+fn shrink_at<P: ShrinkWatcher>(
     alloc: Global,
     job: &[u8],
     at: Reading,
     fine: &Fine,
     readers: Readers,
+    watcher: P,
 ) -> Result<Shrunk, JobFault>
     ensures { IsAcceptedAlso at.profile at.also job.now → IsShrunkAt readers at.profile at.first at.also job.now result }
 {
-    let proposed = propose(alloc, job, at.profile, at.first, &fine.shifts)?;
+    let source = WatchedJob {
+        alloc,
+        job,
+        profile: at.profile,
+        dpi: at.first,
+        watcher,
+    };
+    let proposed = propose(source, &fine.shifts)?;
     match heeded(readers, proposed.doubt.or(fine.doubt)) {
         Some(doubt) => Ok(as_it_came(alloc, job, &proposed, doubt)?),
-        None => shrink_to(alloc, job, at, proposed),
+        None => shrink_to(alloc, job, at, proposed, watcher),
     }
 }
 
@@ -190,7 +243,13 @@ fn as_it_came(
 }
 
 /// The best of a job and of what is proposed for it, at these resolutions.
-fn shrink_to(alloc: Global, job: &[u8], at: Reading, proposed: Proposed) -> Result<Shrunk, JobFault>
+fn shrink_to<P: ShrinkWatcher>(
+    alloc: Global,
+    job: &[u8],
+    at: Reading,
+    proposed: Proposed,
+    watcher: P,
+) -> Result<Shrunk, JobFault>
     ensures shrunk { IsAcceptedAlso at.profile at.also job.now → IsMeasured at.profile at.first job.now proposed.limit proposed.pages
         → IsShrunkAt reader.Profile at.profile at.first at.also job.now result }
     ensures sure { IfOk result (λ shrunk. shrunk.doubt ≡ None) }
@@ -201,19 +260,20 @@ fn shrink_to(alloc: Global, job: &[u8], at: Reading, proposed: Proposed) -> Resu
         pages,
         ..
     } = proposed;
-    let best = best_of(alloc, job, at, proposal, limit)?;
+    let best = best_of(alloc, job, at, proposal, limit, watcher)?;
     one_meaning();
     Ok(best_or_input(alloc, job, best, pages)?)
 }
 
 /// The best of the job, of what is proposed for it, and of the least page texts with what the job asks for around them, which have this
 /// many bytes at least: none where it is the job. Pages are kept only where something is compared, once what proposes has gone.
-fn best_of(
+fn best_of<P: ShrinkWatcher>(
     alloc: Global,
     job: &[u8],
     at: Reading,
     proposal: Option<Proposal>,
     limit: usize,
+    watcher: P,
 ) -> Result<Option<Proposal>, JobFault>
     ensures { IsAcceptedAlso at.profile at.also job.now → IsLimit at.profile at.first job.now limit → IsBestWithin at.profile at.first at.also job.now result }
 {
@@ -223,6 +283,7 @@ fn best_of(
         return Ok(None);
     }
     let kept = keep_jobs(alloc, job, at)?;
+    watcher.pages_passed(Pass::Compare, kept.first.asks().pages.len());
     let best = looked_at(alloc, &kept, at, job, proposal)?;
     within(alloc, &kept, at, job, best, limit)
 }

@@ -4,6 +4,7 @@ ghost use Rattle.pcl_shrink.specs.Texts.{HasTexts, HasTextsAlone};
 
 use crate::rasters::{Text, page_text};
 use crate::shifts::{Shift, form_of, shift_at};
+use crate::watching::{NoWatcher, Pass, ShrinkWatcher, WatchedJob};
 use pcl_base::{Dpi, JobFault, Profile};
 use pcl_page::{Asks, Doubt, Page, PageSink, perform_doubted};
 use pcl_shapes::Collection;
@@ -23,19 +24,24 @@ pub struct Found<'a> {
 
 /// The texts of the pages of a job as rasters, and what letters are found by of those pages whose dots are whole at 600 dots per inch too,
 /// or half a dot lower there. A refusal is the job's.
-pub fn page_texts<'a>(
-    alloc: Global,
-    job: &'a [u8],
-    profile: Profile,
-    dpi: Dpi,
+pub fn page_texts<'a, P: ShrinkWatcher>(
+    source: WatchedJob<'a, P>,
     shifts: &[Shift],
 ) -> Result<(Vec<Text>, Found<'a>), JobFault>
-    ensures { HasTexts profile dpi job.now result }
+    ensures { HasTexts source.entry.profile source.entry.dpi source.entry.job.now result }
 {
+    let WatchedJob {
+        alloc,
+        job,
+        profile,
+        dpi,
+        watcher,
+    } = source;
     let mut writer = TextWriter {
         texts: Vec::new(alloc),
         shapes: Collection::new(alloc, form_of(dpi, shifts)),
         shifts,
+        watcher,
     };
     let mut doubt = None;
     let asks = perform_doubted(alloc, job, profile, dpi, &mut doubt, &mut writer)?;
@@ -56,7 +62,14 @@ pub fn texts_alone(
 ) -> Result<Vec<Text>, JobFault>
     ensures { HasTextsAlone profile dpi job.now result }
 {
-    match page_texts(alloc, job, profile, dpi, &[]) {
+    let source = WatchedJob {
+        alloc,
+        job,
+        profile,
+        dpi,
+        watcher: NoWatcher,
+    };
+    match page_texts(source, &[]) {
         Ok((texts, _)) => Ok(texts),
         Err(fault) => Err(fault),
     }
@@ -81,14 +94,15 @@ fn collect(
 
 /// Writes the pages that come, and collects their shapes.
 #[derive(Drop)]
-struct TextWriter<'b> {
+struct TextWriter<'b, P> {
     texts: Vec<Text>,
     shapes: Collection,
     /// Where the dots of the pages lie at 600 dots per inch, if that counts.
     shifts: &'b [Shift],
+    watcher: P,
 }
 
-impl<'b> Model for TextWriter<'b> {
+impl<'b, P> Model for TextWriter<'b, P> {
     ghost use Rattle.std.specs.Prelude.{ℕ, List};
     ghost use Rattle.pcl_shrink.specs.Texts.{least_of};
 
@@ -97,7 +111,7 @@ impl<'b> Model for TextWriter<'b> {
     ghost view = { λ a. least_of a.texts.items };
 }
 
-impl<'b> PageSink for TextWriter<'b> {
+impl<'b, P: ShrinkWatcher> PageSink for TextWriter<'b, P> {
     ghost use Rattle.pcl_shrink.specs.Texts.{TakesText};
 
     ghost takes = { λ old page new. TakesText old page new };
@@ -107,6 +121,7 @@ impl<'b> PageSink for TextWriter<'b> {
         let shift = shift_at(self.shifts, self.texts.len());
         collect(&mut self.shapes, page, shift, text.shortest_len())?;
         self.texts.push(text)?;
+        self.watcher.pages_passed(Pass::Read, self.texts.len());
         Ok(())
     }
 }

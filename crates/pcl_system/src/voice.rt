@@ -71,6 +71,13 @@ impl Progress<'_> {
             let _ = eprint!(self.rt; "\rpclmin: jobs done: {done} of {jobs}");
         }
     }
+
+    /// This was done to as many pages of a job.
+    fn pages_passed(&self, done: &str, pages: usize) {
+        if self.is_long() {
+            let _ = eprint!(self.rt; "\r\x1b[Kpclmin: {done}: {pages}");
+        }
+    }
 }
 
 impl Watcher for Voice<'_> {
@@ -93,6 +100,12 @@ impl Reporter for Voice<'_> {
     fn jobs_done(&self, done: usize, jobs: usize) {
         if let Some(progress) = &self.progress {
             progress.jobs_done(done, jobs);
+        }
+    }
+
+    fn pages_passed(&self, done: &str, pages: usize) {
+        if let Some(progress) = &self.progress {
+            progress.pages_passed(done, pages);
         }
     }
 }

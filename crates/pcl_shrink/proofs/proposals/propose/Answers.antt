@@ -19,7 +19,7 @@ returns c =
       counted = omega (
         arith,
         c.len-pages.ensures,
-        as_many_texts c.args.dpi found.0.0 (least_of texts) found.0.2,
+        as_many_texts c.args.source.dpi found.0.0 (least_of texts) found.0.2,
         length-map texts (λ (t : Text). t.least.items),
       );
     }

@@ -1,5 +1,5 @@
 use Rattle.pcl_shrink.proofs.Written.{shrunk_by_stated}
-use Rattle.pcl_shrink.proofs.shrinking.shrink.Goals as goal
+use Rattle.pcl_shrink.proofs.shrinking.shrink_watched.Goals as goal
 
 pub returns-in-Stated : goal.returns-in-Stated
 returns-in-Stated c =

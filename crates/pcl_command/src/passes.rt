@@ -1,0 +1,61 @@
+//! Jobs shrunk, with how far that has come reported.
+
+ghost use Rattle.pcl_shrink.specs.Shrinking.{IsShrunk, IsShrunkEverywhere};
+
+use pcl_base::{Dpi, JobFault, Profile};
+use pcl_files::Reporter;
+use pcl_shrink::{
+    Pass, Readers, ShrinkWatcher, Shrunk, shrink_everywhere_watched, shrink_watched,
+};
+use std::alloc::Global;
+
+/// Reports how far each pass over the pages of a job has come.
+#[derive(Clone, Copy)]
+struct Passes<P>(P);
+
+impl<P: Reporter> ShrinkWatcher for Passes<P> {
+    fn pages_passed(&self, pass: Pass, pages: usize) {
+        self.0.pages_passed(pass_name(pass), pages);
+    }
+}
+
+/// What a pass does.
+fn pass_name(pass: Pass) -> &'static str {
+    match pass {
+        Pass::Paint => "pages painted at 600 dots per inch",
+        Pass::Read => "pages read",
+        Pass::Write => "pages written",
+        Pass::Compare => "pages to compare",
+    }
+}
+
+/// Shrinks a job at a resolution, and reports how far that has come.
+pub fn shrink_reported<P: Reporter>(
+    alloc: Global,
+    job: &[u8],
+    widest: Profile,
+    dpi: Dpi,
+    readers: Readers,
+    reporter: P,
+) -> Result<Shrunk, JobFault>
+    ensures { IsShrunk readers widest dpi job.now result }
+{
+    let shrunk = shrink_watched(alloc, job, widest, dpi, readers, Passes(reporter));
+    reporter.ended();
+    shrunk
+}
+
+/// The same at each resolution at which the job is accepted.
+pub fn shrink_everywhere_reported<P: Reporter>(
+    alloc: Global,
+    job: &[u8],
+    widest: Profile,
+    readers: Readers,
+    reporter: P,
+) -> Result<Shrunk, JobFault>
+    ensures { IsShrunkEverywhere readers widest job.now result }
+{
+    let shrunk = shrink_everywhere_watched(alloc, job, widest, readers, Passes(reporter));
+    reporter.ended();
+    shrunk
+}
