@@ -4,9 +4,7 @@ ghost use Rattle.pcl_shrink.specs.Shrinking.{IsShrunk, IsShrunkEverywhere};
 
 use pcl_base::{Dpi, JobFault, Profile};
 use pcl_files::Reporter;
-use pcl_shrink::{
-    Pass, Readers, ShrinkWatcher, Shrunk, shrink_everywhere_watched, shrink_watched,
-};
+use pcl_shrink::{Pass, Readers, ShrinkWatcher, Shrunk, shrink_everywhere_watched, shrink_watched};
 use std::alloc::Global;
 
 /// Reports how far each pass over the pages of a job has come.

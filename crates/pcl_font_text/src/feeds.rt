@@ -15,10 +15,10 @@ const JOB_USES: u32 = 8;
 /// How many line feeds start a line, at most.
 const MOST_FEEDS: u32 = 8;
 
-/// A line feed to this much of a page's lower end, in dots, may end the page: half an inch.
+/// A line feed to this much of a page's lower end, in dots at 300 per inch, may end the page: half an inch.
 const END_DOTS: u32 = 150;
 
-/// Hundredths of 1/48 inch in a dot.
+/// Hundredths of 1/48 inch in a dot at 300 per inch.
 const SPACING_PARTS: u32 = 16;
 
 /// What a line feed does on a page.
@@ -30,6 +30,8 @@ pub struct Feed {
     pub margin: u32,
     /// The lowest dot row that it may go to.
     pub last: u32,
+    /// How many dots are one at 300 per inch.
+    pub scale: u32,
 }
 
 impl Feed {
@@ -43,7 +45,7 @@ impl Feed {
 
     /// Appends the line spacing, in 1/48 inch.
     pub fn append_spacing(self, out: &mut Vec<u8>) -> Result<(), AllocError> {
-        let parts = self.rows.saturating_mul(SPACING_PARTS);
+        let parts = self.rows.saturating_mul(SPACING_PARTS / self.scale.max(1));
         append_labelled(b"\x1b&l", parts / 100, out)?;
         let part = parts % 100;
         if part > 0 {
@@ -122,12 +124,13 @@ fn most_frequent(counts: &IndexMap<u32, u32>, least: u32) -> Option<u32> {
     found
 }
 
-/// The line feed that starts most lines of a page of this height, if it starts enough of them.
+/// The line feed that starts most lines of a page of this height, if it starts enough of them. `scale` dots are one at 300 per inch.
 pub fn find_feed(
     alloc: Global,
     spacing: &Spacing,
     letters: &[Letter],
     height: u32,
+    scale: u32,
 ) -> Result<Option<Feed>, AllocError> {
     let starts = Starts::of(alloc, spacing, letters)?;
     let Some(rows) = most_frequent(&starts.rows, FEED_USES) else {
@@ -137,7 +140,10 @@ pub fn find_feed(
         Feed {
             rows,
             margin,
-            last: height.saturating_sub(END_DOTS).saturating_sub(1),
+            last: height
+                .saturating_sub(END_DOTS.saturating_mul(scale))
+                .saturating_sub(1),
+            scale,
         }
     }))
 }

@@ -3,10 +3,12 @@
 use crate::codes::{blank_code, font_id};
 use crate::layout::FontLayout;
 use crate::spacing::Character;
-use pcl_patterns::{Letters, Pattern, append_labelled, append_word};
+use pcl_patterns::{
+    FontKind, Letters, Pattern, append_compressed, append_labelled, append_word, number_of_place,
+};
 use std::alloc::AllocError;
 
-/// The bytes of a font header.
+/// The bytes of a font header without a resolution.
 const HEADER_BYTES: u32 = 64;
 
 /// The bytes of a character before its rows.
@@ -14,6 +16,12 @@ const DESCRIPTOR_BYTES: u32 = 16;
 
 /// Quarter dots in a dot.
 const QUARTERS: u32 = 4;
+
+/// The class of characters whose rows are sent as they are.
+const PLAIN: u8 = 1;
+
+/// The class of compressed characters.
+const COMPRESSED: u8 = 2;
 
 /// A character as it is sent.
 #[derive(Clone, Copy)]
@@ -32,8 +40,51 @@ struct Sent<'a> {
     rows: &'a [u8],
 }
 
-/// Appends all fonts with their characters.
+impl<'a> Sent<'a> {
+    /// Its dots.
+    fn pattern(self) -> Pattern<'a> {
+        Pattern {
+            width: self.width,
+            height: self.height,
+            rows: self.rows,
+        }
+    }
+}
+
+/// The resolution along x and along y that ends a header of format 20, in dots per inch; a header of format 0 has none.
+fn resolution_of(kind: FontKind) -> &'static [u32] {
+    match kind.scale {
+        2 => &[600, 600],
+        _ => &[],
+    }
+}
+
+/// How many bytes a header has.
+fn header_bytes(kind: FontKind) -> u32 {
+    let resolution = number_of_place(resolution_of(kind).len()).saturating_mul(2);
+    HEADER_BYTES.saturating_add(resolution)
+}
+
+/// The format of a header.
+fn format_of(kind: FontKind) -> u8 {
+    if resolution_of(kind).is_empty() {
+        0
+    } else {
+        20
+    }
+}
+
+/// Appends the unit in which the cursor moves, a dot, where it isn't the one that a reset sets.
+pub fn append_unit(layout: &FontLayout, out: &mut Vec<u8>) -> Result<(), AllocError> {
+    match layout.kind.scale {
+        1 => Ok(()),
+        _ => out.extend_from_slice(b"\x1b&u600D"),
+    }
+}
+
+/// Appends the unit in which the cursor moves, and all fonts with their characters.
 pub fn append_fonts(layout: &FontLayout, out: &mut Vec<u8>) -> Result<(), AllocError> {
+    append_unit(layout, out)?;
     let mut font = None;
     for (rank, character) in layout.spacing.characters.keys().enumerate() {
         font = append_ranked(layout, rank, *character, font, out)?;
@@ -59,7 +110,7 @@ fn append_ranked(
     if before != Some(font) {
         append_font(layout, font, out)?;
     }
-    append_character(&sent, out)?;
+    append_character(&sent, layout.kind, out)?;
     Ok(Some(font))
 }
 
@@ -86,7 +137,7 @@ fn sent_of_rank(
 /// Appends a font and its blanks.
 fn append_font(layout: &FontLayout, font: usize, out: &mut Vec<u8>) -> Result<(), AllocError> {
     append_labelled(b"\x1b*c", font_id(font), out)?;
-    append_labelled(b"D\x1b)s", HEADER_BYTES, out)?;
+    append_labelled(b"D\x1b)s", header_bytes(layout.kind), out)?;
     out.extend_from_slice(b"W")?;
     append_header(layout, out)?;
     append_blanks(layout, out)
@@ -104,22 +155,39 @@ fn append_blanks(layout: &FontLayout, out: &mut Vec<u8>) -> Result<(), AllocErro
             advance: *gap,
             rows: &[0],
         };
-        append_character(&sent, out)?;
+        append_character(&sent, layout.kind, out)?;
     }
     Ok(())
 }
 
-/// Appends a character: its code, and its descriptor and rows.
-fn append_character(sent: &Sent<'_>, out: &mut Vec<u8>) -> Result<(), AllocError> {
-    let size = u32::try_from(sent.rows.len()).unwrap_or(0);
+/// Appends a character, compressed where it may be and takes fewer bytes so.
+fn append_character(sent: &Sent<'_>, kind: FontKind, out: &mut Vec<u8>) -> Result<(), AllocError> {
+    if kind.compresses {
+        let mut compressed = Vec::new(*out.allocator());
+        append_compressed(sent.pattern(), &mut compressed)?;
+        if compressed.len() < sent.rows.len() {
+            return append_classed(sent, COMPRESSED, &compressed, out);
+        }
+    }
+    append_classed(sent, PLAIN, sent.rows, out)
+}
+
+/// Appends a character: its code, and its descriptor and rows, of this class.
+fn append_classed(
+    sent: &Sent<'_>,
+    class: u8,
+    rows: &[u8],
+    out: &mut Vec<u8>,
+) -> Result<(), AllocError> {
+    let size = number_of_place(rows.len());
     append_labelled(b"\x1b*c", u32::from(sent.code), out)?;
     append_labelled(b"E\x1b(s", DESCRIPTOR_BYTES.saturating_add(size), out)?;
-    // Format 4, no continuation, a descriptor of 14 bytes, class 1, portrait.
-    out.extend_from_slice(&[b'W', 4, 0, 14, 1, 0, 0])?;
+    // Format 4, no continuation, a descriptor of 14 bytes, the class, portrait.
+    out.extend_from_slice(&[b'W', 4, 0, 14, class, 0, 0])?;
     let advance = sent.advance.saturating_mul(QUARTERS);
     append_left(sent.left, out)?;
     append_words(&[sent.top, sent.width, sent.height, advance], out)?;
-    out.extend_from_slice(sent.rows)
+    out.extend_from_slice(rows)
 }
 
 /// Appends a left offset, a field of two bytes with a sign.
@@ -137,15 +205,17 @@ fn append_words(numbers: &[u32], out: &mut Vec<u8>) -> Result<(), AllocError> {
 
 /// Appends the header of a proportional font.
 fn append_header(layout: &FontLayout, out: &mut Vec<u8>) -> Result<(), AllocError> {
+    let kind = layout.kind;
     let cell = Cell::of(layout);
-    append_word(HEADER_BYTES, out)?;
-    // Format 0, type 1, and two bytes that aren't used.
-    out.extend_from_slice(&[0, 1, 0, 0])?;
+    append_word(header_bytes(kind), out)?;
+    // The format, type 1, and two bytes that aren't used.
+    out.extend_from_slice(&[format_of(kind), 1, 0, 0])?;
     append_words(&[cell.baseline, cell.width, cell.height], out)?;
     append_style(layout, cell, out)?;
     // The first and the last code, the parts of pitch and height below quarter dots, the height of capitals, a number.
     out.extend_from_slice(&[0, 32, 0, 255, 0, 0, 0, 0, 0, 0, 0, 0])?;
-    out.extend_from_slice(b"pclmin glyphs   ")
+    out.extend_from_slice(b"pclmin glyphs   ")?;
+    append_words(resolution_of(kind), out)
 }
 
 /// Appends the part of a header that says how its font looks. The pitch is the first blank.

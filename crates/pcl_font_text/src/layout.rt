@@ -1,12 +1,13 @@
 //! What of a job is printed by characters, and by which.
 
 use crate::spacing::Spacing;
-use pcl_patterns::{Letter, Letters, Pattern, Patterns};
+use pcl_patterns::{FontKind, Letter, Letters, Pattern, Patterns};
 use std::alloc::{AllocError, Global};
 
 /// What of a job is printed as text.
 #[derive(Drop)]
 pub struct FontLayout {
+    pub kind: FontKind,
     pub patterns: Patterns,
     pub letters: Letters,
     pub spacing: Spacing,
@@ -19,9 +20,10 @@ impl FontLayout {
     }
 }
 
-/// The layout of these letters, on pages of these widths: those whose characters are sent.
+/// The layout of these letters as characters of such fonts, on pages of these widths: those whose characters are sent.
 pub fn lay_out(
     alloc: Global,
+    kind: FontKind,
     widths: &[u32],
     patterns: Patterns,
     letters: Letters,
@@ -32,6 +34,7 @@ pub fn lay_out(
         spacing.character(letter.glyph, None).is_some()
     });
     Ok(FontLayout {
+        kind,
         patterns,
         letters,
         spacing,

@@ -10,7 +10,7 @@ mod permanence;
 mod rests;
 mod spacing;
 
-pub use fonts::append_fonts;
+pub use fonts::{append_fonts, append_unit};
 pub use layout::{FontLayout, lay_out};
 pub use pen::{Pen, append_text};
 pub use permanence::{append_deletion, append_permanent};

@@ -111,7 +111,8 @@ fn feed_of(
     height: u32,
 ) -> Result<Option<Feed>, AllocError> {
     if layout.spacing.has_feeds {
-        find_feed(alloc, &layout.spacing, letters, height)
+        let scale = layout.kind.scale;
+        find_feed(alloc, &layout.spacing, letters, height, scale)
     } else {
         Ok(None)
     }

@@ -4,7 +4,7 @@ use crate::character_writing::CharacterWriter;
 use crate::macro_writing::MacroWriter;
 use crate::rule_writing::RulePen;
 use pcl_bitmap::Page;
-use pcl_font_text::{FontLayout, append_fonts, lay_out};
+use pcl_font_text::{FontLayout, append_fonts, append_unit, lay_out};
 use pcl_letters::{find_letters, join_shapes};
 use pcl_macro_text::{MacroLayout, append_definitions, append_settings, lay_out_macros};
 use pcl_patterns::{Form, Letters};
@@ -47,7 +47,9 @@ impl Lettering {
             ..
         } = collection;
         let letters = match form {
-            Form::Characters => Lettered::Characters(lay_out(alloc, &widths, patterns, letters)?),
+            Form::Characters(kind) => {
+                Lettered::Characters(lay_out(alloc, kind, &widths, patterns, letters)?)
+            }
             Form::Macros { scale } => {
                 let layout = lay_out_macros(alloc, scale, &widths, patterns, letters)?;
                 Lettered::Macros(layout)
@@ -84,7 +86,7 @@ impl Lettering {
     /// Appends what is sent after a reset that left the fonts or the macros, before pages with letters.
     pub fn append_settings(&self, out: &mut Vec<u8>) -> Result<(), AllocError> {
         match &self.letters {
-            Lettered::Characters(_) => Ok(()),
+            Lettered::Characters(layout) => append_unit(layout, out),
             Lettered::Macros(layout) => append_settings(layout, out),
         }
     }

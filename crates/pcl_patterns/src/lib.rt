@@ -3,6 +3,7 @@
 //! A [`Pattern`] is what a shape looks like, wherever it stands; [`Patterns`] keeps each once. Nothing is promised of what is kept.
 #![tactic(auto)]
 
+mod compression;
 mod forms;
 mod letters;
 mod lists;
@@ -13,7 +14,8 @@ mod pattern_set;
 mod patterns;
 mod stamping;
 
-pub use forms::Form;
+pub use compression::append_compressed;
+pub use forms::{FontKind, Form};
 pub use letters::{Letter, LetterGlyph, Letters};
 pub use lists::{add, number_of, quotient};
 pub use metrics::{Metrics, find_metrics};

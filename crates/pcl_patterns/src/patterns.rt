@@ -138,7 +138,7 @@ impl Changes {
 }
 
 /// How many bytes of a row aren't those of the row above.
-fn changed_bytes(above: &[u8], row: &[u8]) -> usize {
+pub fn changed_bytes(above: &[u8], row: &[u8]) -> usize {
     let mut changed: usize = 0;
     for (place, byte) in row.iter().enumerate() {
         if *byte != above.get(place).copied().unwrap_or(0) {

@@ -37,7 +37,13 @@ fn after_pages<P: ShrinkWatcher, S: PageSink + Drop>(
     ensures { IsOutcome source.entry.profile source.entry.dpi source.entry.job.now result }
 {
     let mut sink = sink;
-    perform_by(source.alloc, source.job, source.profile, source.dpi, &mut sink)?;
+    perform_by(
+        source.alloc,
+        source.job,
+        source.profile,
+        source.dpi,
+        &mut sink,
+    )?;
     Ok(sink)
 }
 

@@ -72,10 +72,7 @@ fn proposal_of<P: ShrinkWatcher>(
             job,
             by: Candidate::Glyphs,
         })),
-        None => Ok(proposal_by(
-            by,
-            plain_job(source.alloc, &asks, plain, source.job.len())?,
-        )),
+        None => Ok(proposal_by(by, plain_job(source.alloc, &asks, plain, source.job.len())?)),
     }
 }
 

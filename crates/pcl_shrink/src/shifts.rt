@@ -6,7 +6,7 @@ use crate::watching::{Pass, ShrinkWatcher};
 use pcl_base::{Dpi, JobFault, Profile};
 use pcl_bitmap::{Bitmap, trimmed_len};
 use pcl_page::{Doubt, Page, PageSink, perform_doubted};
-use pcl_patterns::Form;
+use pcl_patterns::{FontKind, Form};
 use pcl_shapes::are_equal;
 use std::alloc::{AllocError, Global};
 use std::marker::Model;
@@ -63,13 +63,25 @@ pub fn look_finely<P: ShrinkWatcher>(
 }
 
 /// How letters are printed on pages with these shifts, at a resolution: characters between dots are read in two ways, so pages that lie
-/// half a dot lower at 600 dots per inch take macros.
-pub fn form_of(dpi: Dpi, shifts: &[Shift]) -> Form {
+/// half a dot lower at 600 dots per inch take macros. So do those at 600 dots per inch that are read by the stated profile, which knows fonts
+/// of 300 alone.
+pub fn form_of(profile: Profile, dpi: Dpi, shifts: &[Shift]) -> Form {
     match dpi {
         Dpi::Dpi300 if shifts.contains(&Shift::HalfLower) => Form::Macros { scale: 1 },
-        Dpi::Dpi300 => Form::Characters,
-        Dpi::Dpi600 => Form::Macros { scale: 2 },
+        Dpi::Dpi300 => characters(profile, 1),
+        Dpi::Dpi600 => match profile {
+            Profile::Stated => Form::Macros { scale: 2 },
+            Profile::Drivers => characters(profile, 2),
+        },
     }
+}
+
+/// Characters of fonts of as many dots for one at 300 dots per inch, which a profile reads: the drivers' reads compressed ones too.
+fn characters(profile: Profile, scale: u32) -> Form {
+    Form::Characters(FontKind {
+        scale,
+        compresses: profile == Profile::Drivers,
+    })
 }
 
 /// The shift of the page of this number, from 0: whole where none was looked for.

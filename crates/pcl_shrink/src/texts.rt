@@ -39,7 +39,7 @@ pub fn page_texts<'a, P: ShrinkWatcher>(
     } = source;
     let mut writer = TextWriter {
         texts: Vec::new(alloc),
-        shapes: Collection::new(alloc, form_of(dpi, shifts)),
+        shapes: Collection::new(alloc, form_of(profile, dpi, shifts)),
         shifts,
         watcher,
     };
