@@ -27,6 +27,34 @@ const SERIES: [Rectangle; 8] = [
     [100, 650, 600, 2],
 ];
 
+/// Lines of eight boxes.
+const BOXES: [Rectangle; 24] = [
+    [100, 200, 40, 12],
+    [160, 200, 40, 12],
+    [220, 200, 40, 12],
+    [280, 200, 40, 12],
+    [340, 200, 40, 12],
+    [400, 200, 40, 12],
+    [460, 200, 40, 12],
+    [520, 200, 40, 12],
+    [100, 250, 40, 12],
+    [160, 250, 40, 12],
+    [220, 250, 40, 12],
+    [280, 250, 40, 12],
+    [340, 250, 40, 12],
+    [400, 250, 40, 12],
+    [460, 250, 40, 12],
+    [520, 250, 40, 12],
+    [100, 310, 40, 12],
+    [160, 310, 40, 12],
+    [220, 310, 40, 12],
+    [280, 310, 40, 12],
+    [340, 310, 40, 12],
+    [400, 310, 40, 12],
+    [460, 310, 40, 12],
+    [520, 310, 40, 12],
+];
+
 /// Pages of letters, in lines, and of rectangles.
 #[derive(Clone, Copy)]
 struct Case {
@@ -88,6 +116,14 @@ const FINE_LINE: Case = Case {
     ..LINE
 };
 
+/// The same on a page that is moved, by 6 bytes: the drivers' profile reads it, so letters are characters of a font of 600 dots per inch.
+/// That takes 11 more than one of 300, 7 for the unit and 4 of the header.
+const MOVED_LINE: Case = Case {
+    name: "a letter forty times on a moved page, at 600",
+    start: b"\x1b&l36Z",
+    ..FINE_LINE
+};
+
 /// A page of a rule. Around its rectangle are 38 bytes: two resets, 33 of the page text, a form feed.
 const RULE: Case = Case {
     name: "a rule",
@@ -104,7 +140,7 @@ const FINE_RULE: Case = Case {
     ..RULE
 };
 
-const CASES: [Case; 64] = [
+const CASES: [Case; 68] = [
     LINE,
     Case {
         name: "one letter",
@@ -621,6 +657,29 @@ const CASES: [Case; 64] = [
         name: "letters, and a short rule far from them",
         rectangles: &[[2000, 3000, 70, 1]],
         ..LINE
+    },
+    // 213 as at 300 dots per inch, and 17.
+    MOVED_LINE,
+    // As at 300 dots per inch, with 17 more; the last line takes 52.
+    Case {
+        name: "lines down to the lower edge of a moved page, at 600",
+        lines: 40,
+        leading: 160,
+        ..MOVED_LINE
+    },
+    // 230 for the letters.
+    Case {
+        name: "letters on a rule of a moved page, at 600",
+        rectangles: &[[90, 110, 1000, 3]],
+        ..MOVED_LINE
+    },
+    // A box is a character of 3 bytes, a row that is repeated and two runs, in place of 60: 6 for the offset and 156 around the lines, of 11
+    // and 8 codes.
+    Case {
+        name: "boxes on a moved page",
+        start: b"\x1b&l36Z",
+        rectangles: &BOXES,
+        ..RULE
     },
 ];
 

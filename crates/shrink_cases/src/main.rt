@@ -17,6 +17,9 @@
 //! the end, 11; the two macros at 600 take 21 and 19, and 7 for the unit of measure after the reset. A page with a dot takes 40 as a
 //! raster.
 //!
+//! A page that is moved, by 6 bytes, is read by the drivers' profile. Then the line goes by a font at 600 too, of 600 dots per inch: the
+//! unit of measure takes 7 bytes, the header 4 more, and the letter 25 more, whose rows are compressed to 34.
+//!
 //! A raster where a reset leaves the cursor stands half a dot lower at 600 dots per inch: for both a raster starts there, for two bytes
 //! more, 40 around its rows and 10 for one of a byte. A stroke of forty dots goes as a macro below a top margin of half a dot, which takes
 //! four bytes more: 80 for the macro (11, 7 to go up, 7 for its raster, 7 for its first row, 43 for the others, 5), 2 before it, 9 and 28 of
@@ -53,7 +56,7 @@ const DOT: &[u8] = b"\x1b&l0E\x1b*p0x0Y\x1b*c1a1b0P\x0c";
 /// A universal exit with a line.
 const EXIT: &[u8] = b"\x1b%-12345X@PJL SET DUPLEX=ON\n";
 
-const LETTERED: [Lettered; 12] = [
+const LETTERED: [Lettered; 15] = [
     Lettered {
         name: "two pages of letters",
         dpi: Dpi::Dpi300,
@@ -113,6 +116,21 @@ const LETTERED: [Lettered; 12] = [
         name: "a dot between pages of letters, at 600",
         dpi: Dpi::Dpi600,
         pages: &[(b"", 90), (DOT, 90)],
+    },
+    Lettered {
+        name: "letters on a page that is moved",
+        dpi: Dpi::Dpi300,
+        pages: &[(b"\x1b&l36Z", 90)],
+    },
+    Lettered {
+        name: "letters on a page that is moved, at 600",
+        dpi: Dpi::Dpi600,
+        pages: &[(b"\x1b&l36Z", 90)],
+    },
+    Lettered {
+        name: "a reset after a page that is moved, at 600",
+        dpi: Dpi::Dpi600,
+        pages: &[(b"\x1b&l36Z", 90), (b"\x1bE", 90)],
     },
 ];
 
