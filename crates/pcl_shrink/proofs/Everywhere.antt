@@ -9,7 +9,8 @@ use Rattle.pcl_shrink.proofs.Written.{accepted_for}
 -- a job that is accepted isn't refused
 abbrev pub Apart : Profile → Type 0
 Apart profile =
-    (dpi : Dpi) (job : List ℕ) (pages : List Sheet) (refusal : Refusal) → HasPagesBy profile dpi job pages → IsRefusalBy profile dpi job refusal → ⊥
+    (dpi : Dpi) (job : List ℕ) (pages : List Sheet) (refusal : Refusal) → HasPagesBy profile dpi job pages
+    → IsRefusalBy profile dpi job refusal → ⊥
 
 -- ---- keeping
 
@@ -33,7 +34,8 @@ pub kept_alone : (profile : Profile) (also : Option Dpi) (job candidate : List �
 kept_alone profile None job candidate kept none k = tt
 kept_alone profile (Some dpi) job candidate kept none k = absurd (rw none at k)
 
-pub found_also : (profile : Profile) {E : Type 0} (dpi : Dpi) {other : Dpi} (also : Option Dpi) (job candidate : List ℕ) (first : Bool) (result : Result Bool E)
+pub found_also : (profile : Profile) {E : Type 0} (dpi : Dpi) {other : Dpi} (also : Option Dpi) (job candidate : List ℕ) (first : Bool)
+    (result : Result Bool E)
     → first ≡ true → also ≡ Some other → SaysIfSame profile dpi job candidate first
     → IfOk result (λ same. SaysIfSame profile other job candidate same)
     → IfOk result (λ same. SaysIfSameAt profile dpi also job candidate same)

@@ -21,7 +21,8 @@ texts_count dpi sheets texts a = absurd a
 
 -- a page of which no more is asked than what its text says, after another page
 record AsksLittle (page : AskedPage) : Type 0 where
-  said : page.said ≡ record nothing_asked { copies = page.said.copies; page_size = page.said.page_size; page_length = page.said.page_length }
+  said : page.said
+      ≡ record nothing_asked { copies = page.said.copies; page_size = page.said.page_size; page_length = page.said.page_length }
   side : page.start.sheet_side ≡ None
   later : page.start.is_first ≡ false
 

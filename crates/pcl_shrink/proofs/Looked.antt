@@ -8,7 +8,8 @@ use Rattle.pcl_same.specs.declared.fault.SameFault.TheVariants.{Refused, Memory}
 -- by a profile two jobs have one answer
 abbrev pub OneAnswer : Profile → Type 0
 OneAnswer profile = (dpi : Dpi) (first second : List ℕ) (answer other : Result AskedComparison SameFault)
-    → IsComparedAskedBy Counts profile dpi first second answer → IsComparedAskedBy Counts profile dpi first second other → answer ≢ Err Memory
+    → IsComparedAskedBy Counts profile dpi first second answer → IsComparedAskedBy Counts profile dpi first second other
+    → answer ≢ Err Memory
     → other ≢ Err Memory → answer ≡ other
 
 -- another answer was found

@@ -27,7 +27,8 @@ takes_proposal one one_asks looked short = record {
 -- a job that is no longer than least page texts with what is asked around them, where these are the same
 pub smaller_job : {profile : Profile} → OnePages profile → OneAsks profile → SayTheSame profile
     → {dpi : Dpi} {also : Option Dpi} {job last : List ℕ} {pages : List Sheet} {asks : Asks}
-    (texts : List (List ℕ)) → IsBest profile dpi also job last → HasPagesBy profile dpi job pages → HasAsksBy profile dpi job asks → AreLeastTexts dpi pages texts
+    (texts : List (List ℕ)) → IsBest profile dpi also job last → HasPagesBy profile dpi job pages → HasAsksBy profile dpi job asks
+    → AreLeastTexts dpi pages texts
     → (IsSameAt profile dpi also job (asked_job asks texts) → length last ≤ length (asked_job asks texts))
     → IsSmallerJobAt profile dpi also job last
 smaller_job {profile} one one_asks say_the_same {dpi} {also} {job} {last} {pages} {asks} texts s meaning asked least shorter =
@@ -74,7 +75,8 @@ raster_job one one_asks say_the_same {dpi} {also} {job} {best} {last} {asks} tex
     smaller_job one one_asks say_the_same texts (here.keeps s) meaning asked least here.takes
 
 -- the job itself is the best one so far: what becomes of it is one too
-pub keeps_best : {profile : Profile} {dpi : Dpi} {also : Option Dpi} {job : List ℕ} (proposal : List ℕ) {E : Type 0} (result : Result (Option Proposal) E) → IsBest profile dpi also job job
+pub keeps_best : {profile : Profile} {dpi : Dpi} {also : Option Dpi} {job : List ℕ} (proposal : List ℕ) {E : Type 0}
+    (result : Result (Option Proposal) E) → IsBest profile dpi also job job
     → IfOk result (λ shorter. IsShorter profile dpi also job job proposal (best_bytes job shorter))
     → IfOk result (λ best. IsBest profile dpi also job (best_bytes job best))
 keeps_best proposal (Ok shorter) s look = look.keeps s

@@ -5,7 +5,8 @@ use Rattle.pcl_shrink.proofs.Names.{Profile, Dpi, Asks, asks_of, Sheet, HasPages
 -- a job has one list of pages, and asks for one thing
 abbrev pub OnePages : Profile → Type 0
 OnePages profile =
-    (dpi : Dpi) (job : List ℕ) (pages others : List Sheet) → HasPagesBy profile dpi job pages → HasPagesBy profile dpi job others → pages ≡ others
+    (dpi : Dpi) (job : List ℕ) (pages others : List Sheet) → HasPagesBy profile dpi job pages → HasPagesBy profile dpi job others
+    → pages ≡ others
 
 abbrev pub OneAsks : Profile → Type 0
 OneAsks profile =

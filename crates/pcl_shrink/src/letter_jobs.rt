@@ -13,8 +13,9 @@ use std::alloc::AllocError;
 use std::marker::Model;
 
 /// A proposal of a smaller job with the same pages, which asks for what a job asks for, with these letters as soft fonts or as macros
-/// (docs/GLYPHS.md), and with these texts for the pages and stretches of pages where that takes fewer bytes. Where the dots of the pages lie
-/// at 600 dots per inch is given if that counts. None where no page has letters, or where it has as many bytes as the job. Nothing is promised of it but that the input is accepted. A refusal is the job's.
+/// (docs/GLYPHS.md), and with these texts for the pages and stretches of pages where that takes fewer bytes. Where the dots of the pages
+/// lie at 600 dots per inch is given if that counts. None where no page has letters, or where it has as many bytes as the job. Nothing is
+/// promised of it but that the input is accepted. A refusal is the job's.
 pub fn letter_job<P: ShrinkWatcher>(
     source: WatchedJob<'_, P>,
     shifts: &[Shift],
@@ -47,9 +48,9 @@ fn after_pages<P: ShrinkWatcher, S: PageSink + Drop>(
     Ok(sink)
 }
 
-/// Writes the pages that come. A universal exit may delete fonts and macros: so the pages up to the next one are a stretch, which is written
-/// after the letters, and without any where that takes fewer bytes. Where a reset stands within it, the letters are permanent, and are
-/// deleted at its end.
+/// Writes the pages that come. A universal exit may delete fonts and macros: so the pages up to the next one are a stretch, which is
+/// written after the letters, and without any where that takes fewer bytes. Where a reset stands within it, the letters are permanent,
+/// and are deleted at its end.
 #[derive(Drop)]
 struct LetterWriter<'a, 'b, P> {
     /// Where the dots of its pages lie at 600 dots per inch, if that counts.

@@ -63,8 +63,8 @@ pub fn look_finely<P: ShrinkWatcher>(
 }
 
 /// How letters are printed on pages with these shifts, at a resolution: characters between dots are read in two ways, so pages that lie
-/// half a dot lower at 600 dots per inch take macros. So do those at 600 dots per inch that are read by the stated profile, which knows fonts
-/// of 300 alone.
+/// half a dot lower at 600 dots per inch take macros. So do those at 600 dots per inch that are read by the stated profile, which knows
+/// fonts of 300 alone.
 pub fn form_of(profile: Profile, dpi: Dpi, shifts: &[Shift]) -> Form {
     match dpi {
         Dpi::Dpi300 if shifts.contains(&Shift::HalfLower) => Form::Macros { scale: 1 },

@@ -275,7 +275,8 @@ fn best_of<P: ShrinkWatcher>(
     limit: usize,
     watcher: P,
 ) -> Result<Option<Proposal>, JobFault>
-    ensures { IsAcceptedAlso at.profile at.also job.now → IsLimit at.profile at.first job.now limit → IsBestWithin at.profile at.first at.also job.now result }
+    ensures { IsAcceptedAlso at.profile at.also job.now → IsLimit at.profile at.first job.now limit
+        → IsBestWithin at.profile at.first at.also job.now result }
 {
     one_meaning();
     written_jobs_say_copies_and_sizes();
@@ -316,7 +317,8 @@ fn within(
     best: Option<Proposal>,
     limit: usize,
 ) -> Result<Option<Proposal>, JobFault>
-    ensures { AreKept at.profile at.first at.also job.now kept.now → IsLimit at.profile at.first job.now limit → IsWithin at.profile at.first at.also job.now best result }
+    ensures { AreKept at.profile at.first at.also job.now kept.now → IsLimit at.profile at.first job.now limit
+        → IsWithin at.profile at.first at.also job.now best result }
 {
     one_meaning();
     written_jobs_say_copies_and_sizes();

@@ -75,8 +75,8 @@ pub fn texts_alone(
     }
 }
 
-/// Collects the shapes of the next page, whose text takes this many bytes as a raster, where its dots are whole at 600 dots per inch too, or
-/// half a dot lower there.
+/// Collects the shapes of the next page, whose text takes this many bytes as a raster, where its dots are whole at 600 dots per inch too,
+/// or half a dot lower there.
 fn collect(
     shapes: &mut Collection,
     page: &Page,

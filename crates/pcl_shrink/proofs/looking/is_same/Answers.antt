@@ -4,7 +4,8 @@ use Rattle.pcl_shrink.proofs.looking.is_same.Goals as goal
 
 pub returns-then-not-branch : goal.returns-then-not-branch
 returns-then-not-branch c = λ job kept.
-    unlike_first c.args.at.profile c.args.at.first c.args.at.also job c.args.candidate.now _ c.if-not-branch.true (c.in_ok-is_same_at.ensures job kept.0)
+    unlike_first c.args.at.profile c.args.at.first c.args.at.also job c.args.candidate.now _ c.if-not-branch.true
+    (c.in_ok-is_same_at.ensures job kept.0)
 
 pub returns-in-Some-Some : goal.returns-in-Some-Some
 returns-in-Some-Some c = λ job kept.

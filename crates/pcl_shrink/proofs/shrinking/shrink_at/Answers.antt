@@ -6,7 +6,8 @@ pub returns-in_ok-as_it_came-in-Some : goal.returns-in_ok-as_it_came-in-Some
 returns-in_ok-as_it_came-in-Some c = λ accepted.
     let measured = c.in_ok-proposed.ensures in
     let left = c.in_ok-as_it_came-in-Some.ensures in
-    left_for c.args.at.profile c.args.at.first c.args.at.also c.args.job.now _ c.args.readers c.heeded.result _ c.heeded.ensures c.in-Some.is left.doubt
+    left_for c.args.at.profile c.args.at.first c.args.at.also c.args.job.now _ c.args.readers c.heeded.result _ c.heeded.ensures
+    c.in-Some.is left.doubt
     (record {
       pages = measured.limit_is.pages;
       meaning = measured.limit_is.meaning;

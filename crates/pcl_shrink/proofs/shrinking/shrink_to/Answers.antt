@@ -10,5 +10,7 @@ returns-clause-shrunk c = λ accepted measured.
     record {
       smaller = s;
       counted = c.in_ok-best_or_input.ensures.pages ∙ measured.counted
-          ∙ ap length ((c.one_meaning.ensures.pages c.args.at.profile) c.args.at.first job measured.limit_is.pages s.pages measured.limit_is.meaning s.meaning);
+          ∙ ap length
+          ((c.one_meaning.ensures.pages c.args.at.profile) c.args.at.first job measured.limit_is.pages s.pages measured.limit_is.meaning
+          s.meaning);
     }
