@@ -4,8 +4,9 @@ ghost use Rattle.pcl_shrink.specs.Outcome.{IsOutcome};
 
 use crate::asking::{append_end, append_page_start, append_page_text};
 use crate::proposals::says_length;
+use crate::reading::ReadJob;
 use crate::shifts::{Shift, shift_at};
-use crate::watching::{Pass, ShrinkWatcher, WatchedJob};
+use crate::watching::{Pass, ShrinkWatcher};
 use pcl_base::JobFault;
 use pcl_lettering::{END_RASTER, Lettering, PageWriter};
 use pcl_page::{Asks, Page, PageSink, perform_by};
@@ -16,25 +17,23 @@ use std::marker::Model;
 /// (docs/GLYPHS.md), and with these texts for the pages and stretches of pages where that takes fewer bytes. Where the dots of the pages
 /// lie at 600 dots per inch is given if that counts. None where no page has letters, or where it has as many bytes as the job. Nothing is
 /// promised of it but that the input is accepted. A refusal is the job's.
-pub fn letter_job<P: ShrinkWatcher>(
-    source: WatchedJob<'_, P>,
-    shifts: &[Shift],
-    asks: &Asks<'_>,
-    texts: &[Vec<u8>],
-    lettering: &Lettering,
+pub fn letter_job<'b, P: ShrinkWatcher>(
+    source: ReadJob<'_>,
+    shifts: &'b [Shift],
+    asks: &'b Asks<'_>,
+    texts: &'b [Vec<u8>],
+    lettering: &'b Lettering,
+    watcher: P,
 ) -> Result<Option<Vec<u8>>, JobFault>
     ensures { IsOutcome source.entry.profile source.entry.dpi source.entry.job.now result }
 {
-    let writer = LetterWriter::new(source, shifts, asks, texts, lettering);
+    let writer = LetterWriter::new(source, shifts, asks, texts, lettering, watcher);
     let writer = after_pages(source, writer)?;
     Ok(writer.finish()?)
 }
 
 /// A sink after the pages of a job.
-fn after_pages<P: ShrinkWatcher, S: PageSink + Drop>(
-    source: WatchedJob<'_, P>,
-    sink: S,
-) -> Result<S, JobFault>
+fn after_pages<S: PageSink + Drop>(source: ReadJob<'_>, sink: S) -> Result<S, JobFault>
     ensures { IsOutcome source.entry.profile source.entry.dpi source.entry.job.now result }
 {
     let mut sink = sink;
@@ -86,11 +85,12 @@ struct LetterWriter<'a, 'b, P> {
 impl<'a, 'b, P: ShrinkWatcher> LetterWriter<'a, 'b, P> {
     /// Before the first page.
     fn new(
-        source: WatchedJob<'_, P>,
+        source: ReadJob<'_>,
         shifts: &'b [Shift],
         asks: &'b Asks<'a>,
         texts: &'b [Vec<u8>],
         lettering: &'b Lettering,
+        watcher: P,
     ) -> LetterWriter<'a, 'b, P> {
         LetterWriter {
             shifts,
@@ -107,7 +107,7 @@ impl<'a, 'b, P: ShrinkWatcher> LetterWriter<'a, 'b, P> {
             out: Vec::new(source.alloc),
             limit: source.job.len(),
             is_too_long: false,
-            watcher: source.watcher,
+            watcher,
         }
     }
 

@@ -13,6 +13,7 @@ mod looking;
 mod proposals;
 mod raster_jobs;
 mod rasters;
+mod reading;
 mod shifts;
 mod shrinking;
 mod squares;

@@ -8,9 +8,10 @@ use crate::candidate::Proposal;
 use crate::letter_jobs::letter_job;
 use crate::raster_jobs::{asked_len, plain_job};
 use crate::rasters::{Text, shortest_texts};
+use crate::reading::ReadJob;
 use crate::shifts::Shift;
 use crate::texts::{Found, page_texts};
-use crate::watching::{ShrinkWatcher, WatchedJob};
+use crate::watching::ShrinkWatcher;
 use pcl_base::JobFault;
 use pcl_lettering::Lettering;
 use pcl_page::{Asks, Doubt};
@@ -32,16 +33,18 @@ pub struct Proposed {
 /// Proposes a job with the pages of a job, which asks for what that asks for: its pages as their shortest rasters, or, where that is
 /// shorter, with letters. Where the dots of its pages lie at 600 dots per inch is given if that counts. A refusal is the job's.
 pub fn propose<P: ShrinkWatcher>(
-    source: WatchedJob<'_, P>,
+    source: ReadJob<'_>,
     shifts: &[Shift],
+    watcher: P,
 ) -> Result<Proposed, JobFault>
     ensures { HasProposed source.entry.profile source.entry.dpi source.entry.job.now result }
 {
-    let (texts, found) = page_texts(source, shifts)?;
+    let alloc = source.alloc;
+    let (texts, found) = page_texts(source, shifts, watcher)?;
     let pages = texts.len();
-    let limit = asked_len(source.alloc, &found.asks, &texts)?;
+    let limit = asked_len(alloc, &found.asks, &texts)?;
     let doubt = found.doubt;
-    let proposal = proposal_of(source, shifts, texts, found)?;
+    let proposal = proposal_of(source, shifts, texts, found, watcher)?;
     Ok(Proposed {
         proposal,
         limit,
@@ -54,25 +57,28 @@ pub fn propose<P: ShrinkWatcher>(
 /// shorter than the job, nor where the job counts on what stays in the printer, so that only the job itself asks for the same, nor where
 /// a page has dots that no page of 300 dots per inch has at 600.
 fn proposal_of<P: ShrinkWatcher>(
-    source: WatchedJob<'_, P>,
+    source: ReadJob<'_>,
     shifts: &[Shift],
     texts: Vec<Text>,
     found: Found<'_>,
+    watcher: P,
 ) -> Result<Option<Proposal>, JobFault>
     ensures { RefusesWith source.entry.profile source.entry.dpi source.entry.job.now result }
 {
+    let alloc = source.alloc;
+    let limit = source.job.len();
     let Found { shapes, asks, .. } = found;
     if asks.lasts || shifts.contains(&Shift::Other) {
         return Ok(None);
     }
     let by = raster_kind(&texts);
-    let plain = shortest_texts(source.alloc, texts, shifts)?;
-    match propose_letters(source, shifts, &asks, &plain, shapes)? {
+    let plain = shortest_texts(alloc, texts, shifts)?;
+    match propose_letters(source, shifts, &asks, &plain, shapes, watcher)? {
         Some(job) => Ok(Some(Proposal {
             job,
             by: Candidate::Glyphs,
         })),
-        None => Ok(proposal_by(by, plain_job(source.alloc, &asks, plain, source.job.len())?)),
+        None => Ok(proposal_by(by, plain_job(alloc, &asks, plain, limit)?)),
     }
 }
 
@@ -92,11 +98,12 @@ fn raster_kind(texts: &[Text]) -> Candidate {
 
 /// A job with letters among these shapes, where that is shorter than these texts of its pages and than the job.
 fn propose_letters<P: ShrinkWatcher>(
-    source: WatchedJob<'_, P>,
+    source: ReadJob<'_>,
     shifts: &[Shift],
     asks: &Asks<'_>,
     plain: &[Vec<u8>],
     shapes: Collection,
+    watcher: P,
 ) -> Result<Option<Vec<u8>>, JobFault>
     ensures { RefusesWith source.entry.profile source.entry.dpi source.entry.job.now result }
 {
@@ -104,7 +111,7 @@ fn propose_letters<P: ShrinkWatcher>(
         return Ok(None);
     }
     let lettering = Lettering::new(source.alloc, shapes)?;
-    lettered(source, shifts, asks, plain, &lettering)
+    lettered(source, shifts, asks, plain, &lettering, watcher)
 }
 
 /// Whether the length of a page is said: in lines, of which pages that lie half a dot lower set the spacing, and line feeds too.
@@ -116,17 +123,18 @@ pub fn says_length(asks: &Asks<'_>) -> bool {
 
 /// A job with these letters, where there are any and it is shorter than these texts of its pages and than the job.
 fn lettered<P: ShrinkWatcher>(
-    source: WatchedJob<'_, P>,
+    source: ReadJob<'_>,
     shifts: &[Shift],
     asks: &Asks<'_>,
     plain: &[Vec<u8>],
     lettering: &Lettering,
+    watcher: P,
 ) -> Result<Option<Vec<u8>>, JobFault>
     ensures { RefusesWith source.entry.profile source.entry.dpi source.entry.job.now result }
 {
     if lettering.is_empty() {
         Ok(None)
     } else {
-        letter_job(source, shifts, asks, plain, lettering)
+        letter_job(source, shifts, asks, plain, lettering, watcher)
     }
 }

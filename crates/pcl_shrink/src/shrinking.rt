@@ -15,9 +15,10 @@ use crate::keeping::{KeptJobs, Reading, keep_jobs};
 use crate::looking::is_same;
 use crate::proposals::{Proposed, propose};
 use crate::raster_jobs::asked_job;
+use crate::reading::ReadJob;
 use crate::shifts::{Fine, look_finely};
 use crate::texts::texts_alone;
-use crate::watching::{NoWatcher, Pass, ShrinkWatcher, WatchedJob};
+use crate::watching::{NoWatcher, Pass, ShrinkWatcher};
 use crate::{Candidate, Shrunk};
 use pcl_base::{Dpi, JobFault, Profile};
 use pcl_meaning::written_jobs_say_copies_and_sizes;
@@ -199,14 +200,13 @@ fn shrink_at<P: ShrinkWatcher>(
 ) -> Result<Shrunk, JobFault>
     ensures { IsAcceptedAlso at.profile at.also job.now → IsShrunkAt readers at.profile at.first at.also job.now result }
 {
-    let source = WatchedJob {
+    let source = ReadJob {
         alloc,
         job,
         profile: at.profile,
         dpi: at.first,
-        watcher,
     };
-    let proposed = propose(source, &fine.shifts)?;
+    let proposed = propose(source, &fine.shifts, watcher)?;
     match heeded(readers, proposed.doubt.or(fine.doubt)) {
         Some(doubt) => Ok(as_it_came(alloc, job, &proposed, doubt)?),
         None => shrink_to(alloc, job, at, proposed, watcher),

@@ -3,8 +3,9 @@
 ghost use Rattle.pcl_shrink.specs.Texts.{HasTexts, HasTextsAlone};
 
 use crate::rasters::{Text, page_text};
+use crate::reading::ReadJob;
 use crate::shifts::{Shift, form_of, shift_at};
-use crate::watching::{NoWatcher, Pass, ShrinkWatcher, WatchedJob};
+use crate::watching::{NoWatcher, Pass, ShrinkWatcher};
 use pcl_base::{Dpi, JobFault, Profile};
 use pcl_page::{Asks, Doubt, Page, PageSink, perform_doubted};
 use pcl_shapes::Collection;
@@ -25,17 +26,17 @@ pub struct Found<'a> {
 /// The texts of the pages of a job as rasters, and what letters are found by of those pages whose dots are whole at 600 dots per inch too,
 /// or half a dot lower there. A refusal is the job's.
 pub fn page_texts<'a, P: ShrinkWatcher>(
-    source: WatchedJob<'a, P>,
+    source: ReadJob<'a>,
     shifts: &[Shift],
+    watcher: P,
 ) -> Result<(Vec<Text>, Found<'a>), JobFault>
     ensures { HasTexts source.entry.profile source.entry.dpi source.entry.job.now result }
 {
-    let WatchedJob {
+    let ReadJob {
         alloc,
         job,
         profile,
         dpi,
-        watcher,
     } = source;
     let mut writer = TextWriter {
         texts: Vec::new(alloc),
@@ -62,14 +63,13 @@ pub fn texts_alone(
 ) -> Result<Vec<Text>, JobFault>
     ensures { HasTextsAlone profile dpi job.now result }
 {
-    let source = WatchedJob {
+    let source = ReadJob {
         alloc,
         job,
         profile,
         dpi,
-        watcher: NoWatcher,
     };
-    match page_texts(source, &[]) {
+    match page_texts(source, &[], NoWatcher) {
         Ok((texts, _)) => Ok(texts),
         Err(fault) => Err(fault),
     }

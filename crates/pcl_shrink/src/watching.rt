@@ -1,8 +1,5 @@
 //! Watchers: how far shrinking a job has come.
 
-use pcl_base::{Dpi, Profile};
-use std::alloc::Global;
-
 /// What is done with the pages of a job that is shrunk, one pass after the other.
 #[derive(Clone, Copy, Debug, PartialEq, Eq)]
 pub enum Pass {
@@ -29,14 +26,4 @@ pub struct NoWatcher;
 
 impl ShrinkWatcher for NoWatcher {
     fn pages_passed(&self, _pass: Pass, _pages: usize) {}
-}
-
-/// A job that is shrunk, how it is read, and who is called meanwhile.
-#[derive(Clone, Copy)]
-pub struct WatchedJob<'a, P> {
-    pub alloc: Global,
-    pub job: &'a [u8],
-    pub profile: Profile,
-    pub dpi: Dpi,
-    pub watcher: P,
 }

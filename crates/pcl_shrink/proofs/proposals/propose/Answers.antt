@@ -3,7 +3,7 @@ use Rattle.pcl_shrink.proofs.Listed.{as_many_texts}
 use Rattle.pcl_shrink.proofs.proposals.propose.Goals as goal
 
 pub returns : goal.returns
-returns c =
+returns g c =
     let found = c.in_ok-texts.ensures in
     let texts = c.in_ok-texts.texts.items in
     record {

@@ -2,5 +2,5 @@ use Rattle.pcl_shrink.proofs.Written.{everywhere_by_stated}
 use Rattle.pcl_shrink.proofs.shrinking.shrink_everywhere_watched.Goals as goal
 
 pub returns-in-Stated : goal.returns-in-Stated
-returns-in-Stated c =
+returns-in-Stated g c =
     rw c.in-Stated.is (everywhere_by_stated c.args.job.now c.args.readers c.everywhere_by.result c.everywhere_by.ensures)

@@ -3,7 +3,7 @@ use Rattle.pcl_shrink.proofs.Listed.{texts_from_none}
 use Rattle.pcl_shrink.proofs.texts.page_texts.Goals as goal
 
 pub returns : goal.returns
-returns c =
+returns g c =
     let h = c.in_ok-asks.ensures.0 in
     let listed = texts_from_none c.args.source.dpi (accepted_pages h) c.perform_doubted.new.sink h.handed.1
     (ap least_of c.new.ensures.items) in (
