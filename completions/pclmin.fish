@@ -29,6 +29,7 @@ complete -c pclmin -n "__fish_seen_subcommand_from same" -l asked -d "Compare wh
 complete -c pclmin -n "__fish_seen_subcommand_from pgm" -l scale -x -d "Dots of a side of a pixel"
 complete -c pclmin -n "__fish_seen_subcommand_from pbm pgm" -l page -x -d "Number of a page, a range or a list"
 complete -c pclmin -n "__fish_seen_subcommand_from pbm pgm" -l drivers -d "Read what drivers send besides"
+complete -c pclmin -n "__fish_seen_subcommand_from shrink batch" -l drivers -d "Read jobs as those of drivers"
 complete -c pclmin -n "__fish_seen_subcommand_from min pbm pgm shrink pages batch explain check same" -F
 complete -c pclmin -n "__fish_seen_subcommand_from min pbm pgm shrink pages explain" -s o -l output -r -F -d "Write to a file"
 complete -c pclmin -n "__fish_seen_subcommand_from same" -l image -r -F -d "Draw the dots that differ"

@@ -23,7 +23,7 @@ in_fish() {
 
 offers bash "$(in_bash pclmin m)" "min"
 offers bash "$(in_bash pclmin pages --o)" "--output"
-offers bash "$(in_bash pclmin batch --)" "--dpi --help --in-place --json --keep-folders --min --output --profile-only --quiet --stated"
+offers bash "$(in_bash pclmin batch --)" "--dpi --drivers --help --in-place --json --keep-folders --min --output --profile-only --quiet --stated"
 offers bash "$(in_bash pclmin check --page examples/p)" "examples/picture.pcl"
 offers bash "$(in_bash pclmin min --dpi "")" "300 600 auto"
 offers bash "$(in_bash pclmin min --f)" "--format"

@@ -21,6 +21,8 @@ enum Argument {
     File(&'static str, &'static str),
     /// An option of this name without a value, which is there or isn't, and its help.
     Flag(&'static str, &'static str),
+    /// The same, beside which none of these others is taken.
+    FlagWithout(&'static str, &'static str, &'static [&'static str]),
     /// An option of this name with a value after it, that value's name in the help, and the help.
     Option(&'static str, &'static str, &'static str),
     /// Where the job is written.
@@ -29,10 +31,6 @@ enum Argument {
     Folder,
     /// That a batch has none, and writes each job in its place.
     InPlace,
-    /// That a batch shrinks jobs too that printers may read otherwise.
-    ProfileOnly,
-    /// That a batch reads jobs as `min` does.
-    Stated,
     /// The format of a certificate.
     Format,
     /// Which pages are shown.
@@ -60,16 +58,25 @@ const ABOUT: &str = "A print filter for HP PCL 5: reads a job, and writes or sho
 const STATUSES: &str =
     "Statuses: 0 done; 1 refused, no such page, not proved or not the same; 2 usage; 3 files or memory.";
 
+/// The option by which a batch writes least raster jobs.
+const MIN: &str = "min";
+
 /// The option by which jobs are shrunk too that printers may read otherwise, and its help.
 const PROFILE_ONLY: &str = "profile-only";
 
 const READ_OTHERWISE: &str =
     "Shrink jobs too that some printers read otherwise, which else go as they came";
 
-/// The option by which what drivers send besides is read too, and its help.
+/// The option by which a job is read by the drivers' profile, and its help where an image is written, and where jobs are shrunk.
 const DRIVERS: &str = "drivers";
 
 const READ_AS_SENT: &str = "Read what drivers send besides too, as shrink does";
+
+const READ_AS_DRIVERS: &str =
+    "Read the job as drivers' jobs are: letters at 600 dots per inch go as fonts";
+
+const READ_ALL_AS_DRIVERS: &str =
+    "Read the jobs as drivers' jobs are: letters at 600 dots per inch go as fonts";
 
 /// The option by which a job is read as `min` reads it, and its help.
 const STATED: &str = "stated";
@@ -123,6 +130,7 @@ const SUBCOMMANDS: [Subcommand; 9] = [
             Argument::ReportJson,
             Argument::Flag(PROFILE_ONLY, READ_OTHERWISE),
             Argument::Flag(STATED, READ_AS_STATED),
+            Argument::FlagWithout(DRIVERS, READ_AS_DRIVERS, &[STATED]),
             Argument::Quiet,
             Argument::Dpi(EACH_RESOLUTION),
         ],
@@ -179,11 +187,12 @@ const SUBCOMMANDS: [Subcommand; 9] = [
             ),
             Argument::InPlace,
             Argument::Flag(
-                "min",
+                MIN,
                 "Write least raster jobs as min does, each with a certificate beside it",
             ),
-            Argument::ProfileOnly,
-            Argument::Stated,
+            Argument::FlagWithout(PROFILE_ONLY, READ_OTHERWISE, &[MIN]),
+            Argument::FlagWithout(STATED, READ_ALL_AS_STATED, &[MIN]),
+            Argument::FlagWithout(DRIVERS, READ_ALL_AS_DRIVERS, &[STATED, MIN]),
             Argument::Flag("json", "Report in JSON, an object on each line"),
             Argument::Quiet,
             Argument::Dpi(EACH_RESOLUTION),
@@ -296,12 +305,11 @@ fn arg<'a>(alloc: Global, argument: Argument) -> Result<Arg<'a>, AllocError> {
         Argument::Jobs => Ok(jobs(alloc)),
         Argument::File(name, help) => Ok(file(alloc, name, help)),
         Argument::Flag(name, help) => Ok(flag(alloc, name, help)),
+        Argument::FlagWithout(name, help, others) => flag_without(alloc, name, help, others),
         Argument::Option(name, value, help) => Ok(option(alloc, name, value, help)),
         Argument::Output => Ok(output(alloc)),
         Argument::Folder => folder(alloc),
         Argument::InPlace => in_place(alloc),
-        Argument::ProfileOnly => profile_only(alloc),
-        Argument::Stated => stated(alloc),
         Argument::Format => format(alloc),
         Argument::Pages => Ok(pages(alloc)),
         Argument::Scale => Ok(scale(alloc)),
@@ -319,6 +327,16 @@ fn flag<'a>(alloc: Global, name: &'a str, help: &'a str) -> Arg<'a> {
         .long(name)
         .action(ArgAction::SetTrue)
         .help(help)
+}
+
+/// The same, beside which none of these others is taken.
+fn flag_without<'a>(
+    alloc: Global,
+    name: &'a str,
+    help: &'a str,
+    others: &[&'a str],
+) -> Result<Arg<'a>, AllocError> {
+    flag(alloc, name, help).conflicts_with_all(others)
 }
 
 /// An option such as `--dpi`, with a value after it.
@@ -383,17 +401,7 @@ fn in_place<'a>(alloc: Global) -> Result<Arg<'a>, AllocError> {
     )
     .conflicts_with("output")?
     .conflicts_with("keep-folders")?
-    .conflicts_with("min")
-}
-
-/// That a batch shrinks jobs too that printers may read otherwise.
-fn profile_only<'a>(alloc: Global) -> Result<Arg<'a>, AllocError> {
-    flag(alloc, PROFILE_ONLY, READ_OTHERWISE).conflicts_with("min")
-}
-
-/// That a batch reads jobs as `min` does.
-fn stated<'a>(alloc: Global) -> Result<Arg<'a>, AllocError> {
-    flag(alloc, STATED, READ_ALL_AS_STATED).conflicts_with("min")
+    .conflicts_with(MIN)
 }
 
 /// The format of a certificate.

@@ -8,8 +8,8 @@ use pcl_cert::Format;
 use pcl_explain::kind_named;
 use pcl_page::Readers;
 use pcl_request::{
-    Batch, Beside, Certificate, CheckedFiles, ComparedFiles, Destination, Layout, Request,
-    Resolution, Rewriting, Run, Source, Target, Task, Work, resolution_named,
+    Batch, Beside, Certificate, CheckedFiles, ComparedFiles, Destination, Layout, Profiles,
+    Request, Resolution, Rewriting, Run, Source, Target, Task, Work, resolution_named,
 };
 use pcl_streams::{ImageForm, PageChoice, PageSet, Scale};
 use std::alloc::{AllocError, Global};
@@ -89,12 +89,12 @@ fn batch_with<'w>(batch: &ArgMatches<'w>) -> Result<Batch<'w>, WrongWord<'w>> {
 
 /// How a batch writes each job again.
 fn rewriting_of(batch: &ArgMatches<'_>, resolution: Resolution) -> Rewriting {
-    let profile = profile_of(batch);
+    let profiles = profiles_of_shrinking(batch);
     let readers = readers_of(batch);
     match resolution {
         _ if batch.get_flag("min") => Rewriting::Certify,
-        Resolution::FirstAccepted => Rewriting::ShrinkEverywhere { profile, readers },
-        Resolution::Given(_) => Rewriting::Shrink { profile, readers },
+        Resolution::FirstAccepted => Rewriting::ShrinkEverywhere { profiles, readers },
+        Resolution::Given(_) => Rewriting::Shrink { profiles, readers },
     }
 }
 
@@ -173,7 +173,7 @@ fn run_of<'w>(name: &str, command: &ArgMatches<'w>) -> Result<Run<'w>, WrongWord
         "pages" => Work::Task(pages_task(command)),
         "shrink" => Work::Task(Task::Shrink {
             report: command.get_flag("report").then_some(layout_of(command)),
-            profile: profile_of(command),
+            profiles: profiles_of_shrinking(command),
             readers: readers_of(command),
         }),
         _ => Work::Task(Task::Preview {
@@ -201,6 +201,17 @@ fn profile_of(command: &ArgMatches<'_>) -> Profile {
         Profile::Stated
     } else {
         Profile::Drivers
+    }
+}
+
+/// By which profiles a job is read that is shrunk.
+fn profiles_of_shrinking(command: &ArgMatches<'_>) -> Profiles {
+    if command.get_flag("stated") {
+        Profiles::Stated
+    } else if command.get_flag("drivers") {
+        Profiles::Drivers
+    } else {
+        Profiles::Either
     }
 }
 

@@ -7,11 +7,11 @@ ghost use Rattle.pcl_batch.specs.inner.Jobs.{FailsByReason, IsFailing};
 use crate::reasons::{Obstacle, Reason};
 use crate::rewriter::Rewriter;
 use crate::writing::write_again;
-use pcl_base::{Dpi, JobFault, Profile};
+use pcl_base::{Dpi, JobFault};
 use pcl_files::{FileKind, JobFiles, read_file, resolve};
 use pcl_page::{Readers, page_count};
 use pcl_report::{Entry, FileSum, Outcome, Paths, Sums, file_name, sums_text};
-use pcl_request::{Batch, Destination, Rewriting};
+use pcl_request::{Batch, Destination, Profiles, Rewriting};
 use pcl_streams::Fault;
 use std::alloc::{AllocError, Global};
 
@@ -183,15 +183,15 @@ fn how_of(alloc: Global, batch: Batch<'_>, dpi: Dpi) -> Result<String, AllocErro
     let version = batch.version;
     let dots = dpi.dots();
     match batch.rewriting {
-        Rewriting::Shrink { profile, readers } => {
+        Rewriting::Shrink { profiles, readers } => {
             let caution = caution_of(readers);
-            let rules = rules_of(profile);
-            format!(in alloc; "pclmin {version} shrink{caution}{rules} --dpi {dots}")
+            let reading = reading_of(profiles);
+            format!(in alloc; "pclmin {version} shrink{caution}{reading} --dpi {dots}")
         }
-        Rewriting::ShrinkEverywhere { profile, readers } => {
+        Rewriting::ShrinkEverywhere { profiles, readers } => {
             let caution = caution_of(readers);
-            let rules = rules_of(profile);
-            format!(in alloc; "pclmin {version} shrink{caution}{rules} --dpi auto")
+            let reading = reading_of(profiles);
+            format!(in alloc; "pclmin {version} shrink{caution}{reading} --dpi auto")
         }
         Rewriting::Certify => format!(in alloc; "pclmin {version} min --cert --dpi {dots}"),
     }
@@ -205,11 +205,12 @@ fn caution_of(readers: Readers) -> &'static str {
     }
 }
 
-/// The option that says by which profile a job is read, as digests name it.
-fn rules_of(profile: Profile) -> &'static str {
-    match profile {
-        Profile::Stated => " --stated",
-        Profile::Drivers => "",
+/// The option that says by which profiles a job is read, as digests name it.
+fn reading_of(profiles: Profiles) -> &'static str {
+    match profiles {
+        Profiles::Stated => " --stated",
+        Profiles::Either => "",
+        Profiles::Drivers => " --drivers",
     }
 }
 

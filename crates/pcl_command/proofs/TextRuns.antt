@@ -1,8 +1,9 @@
 -- What was read and written where a text on a job is.
 use Rattle.std.proofs.Common.{◌≡◌, ◌≤◌, ℕ, List, Option, Result, Ok, Err, length, subst, arith}
-use Rattle.pcl_command.proofs.Names.{Keeps-refl, Dpi, Profile, JobFault, Refusal, IsRefusalBy, fault_of, Fault, WriteFault, IsRead, input_limit, IsWritten, IsDescribed, IsRefusedEverywhere, IsShrunk, IsShrunkEverywhere, IsWrittenEverywhere, IsWrittenFor, Readers, Shrunk, IsTextRun}
+use Rattle.pcl_command.proofs.Names.{Keeps-refl, Dpi, Profile, Stated, Drivers, JobFault, Refusal, IsRefusalBy, fault_of, Fault, WriteFault, IsRead, input_limit, IsWritten, IsDescribed, Readers, Profiles, widest_of, Shrunk, IsShrunkUnder, IsShrunkEverywhereUnder, IsWrittenUnder, IsWrittenEverywhereUnder, IsRefusedEverywhereUnder, IsTextRun}
 use Rattle.pcl_base.specs.declared.fault.JobFault.TheVariants as fault
-use Rattle.pcl_shrink.proofs.Written.{written_for, written_everywhere}
+use Rattle.pcl_request.specs.declared.profiles.Profiles.TheVariants as read_by
+use Rattle.pcl_shrink.proofs.Written.{written_for, written_here_by, written_everywhere, written_there_by}
 
 -- of a job that was read to its end, where its text was written, or a prefix of it
 pub text_run : (Tells : List ℕ → List ℕ → Type 0) (Refuses : List ℕ → Refusal → Type 0) {given left : Option (List ℕ)}
@@ -37,22 +38,39 @@ pub undescribed : (profile : Profile) (dpi : Dpi) (job : List ℕ) (why : JobFau
 undescribed profile dpi job (fault.Refused refusal) d = d
 undescribed profile dpi job fault.Memory d = tt
 
-pub unshrunk : (readers : Readers) (widest : Profile) (dpi : Dpi) (job : List ℕ) (why : JobFault)
-    → IsShrunk readers widest dpi job (Err why) → IsTextless widest dpi job why
-unshrunk readers widest dpi job (fault.Refused refusal) s = s.1
-unshrunk readers widest dpi job fault.Memory s = tt
+pub unshrunk : (readers : Readers) (profiles : Profiles) (dpi : Dpi) (job : List ℕ) (why : JobFault)
+    → IsShrunkUnder readers profiles dpi job (Err why) → IsTextless (widest_of profiles) dpi job why
+unshrunk readers read_by.Stated dpi job (fault.Refused refusal) s = s.1
+unshrunk readers read_by.Either dpi job (fault.Refused refusal) s = s.1
+unshrunk readers read_by.Drivers dpi job (fault.Refused refusal) s = s
+unshrunk readers profiles dpi job fault.Memory s = tt
 
-pub unshrunk_everywhere : (readers : Readers) (widest : Profile) (job : List ℕ) (why : JobFault)
-    → IsShrunkEverywhere readers widest job (Err why) → IsTextlessBy (IsRefusedEverywhere widest) job why
-unshrunk_everywhere readers widest job (fault.Refused refusal) s = s
-unshrunk_everywhere readers widest job fault.Memory s = tt
+pub unshrunk_everywhere : (readers : Readers) (profiles : Profiles) (job : List ℕ) (why : JobFault)
+    → IsShrunkEverywhereUnder readers profiles job (Err why) → IsTextlessBy (IsRefusedEverywhereUnder profiles) job why
+unshrunk_everywhere readers read_by.Stated job (fault.Refused refusal) s = s
+unshrunk_everywhere readers read_by.Either job (fault.Refused refusal) s = s
+unshrunk_everywhere readers read_by.Drivers job (fault.Refused refusal) s = s
+unshrunk_everywhere readers profiles job fault.Memory s = tt
 
-pub written_here : (readers : Readers) (widest : Profile) (dpi : Dpi) {lent job : List ℕ} (shrunk : Shrunk) → lent ≡ job
-    → IsShrunk readers widest dpi lent (Ok shrunk) → IsWrittenFor readers widest dpi job shrunk.job.items
-written_here readers widest dpi {lent} {job} shrunk is s =
-    subst (λ (it : List ℕ). IsWrittenFor readers widest dpi it shrunk.job.items) is (written_for widest dpi lent shrunk readers s)
+pub written_under : (readers : Readers) (profiles : Profiles) (dpi : Dpi) (job : List ℕ) (shrunk : Shrunk)
+    → IsShrunkUnder readers profiles dpi job (Ok shrunk) → IsWrittenUnder readers profiles dpi job shrunk.job.items
+written_under readers read_by.Stated dpi job shrunk s = written_for Stated dpi job shrunk readers s
+written_under readers read_by.Either dpi job shrunk s = written_for Drivers dpi job shrunk readers s
+written_under readers read_by.Drivers dpi job shrunk s = written_here_by Drivers dpi job shrunk readers shrunk.doubt s
 
-pub written_there : (readers : Readers) (widest : Profile) {lent job : List ℕ} (shrunk : Shrunk) → lent ≡ job
-    → IsShrunkEverywhere readers widest lent (Ok shrunk) → IsWrittenEverywhere readers widest job shrunk.job.items
-written_there readers widest {lent} {job} shrunk is s =
-    subst (λ (it : List ℕ). IsWrittenEverywhere readers widest it shrunk.job.items) is (written_everywhere widest lent shrunk readers s)
+pub written_everywhere_under : (readers : Readers) (profiles : Profiles) (job : List ℕ) (shrunk : Shrunk)
+    → IsShrunkEverywhereUnder readers profiles job (Ok shrunk) → IsWrittenEverywhereUnder readers profiles job shrunk.job.items
+written_everywhere_under readers read_by.Stated job shrunk s = written_everywhere Stated job shrunk readers s
+written_everywhere_under readers read_by.Either job shrunk s = written_everywhere Drivers job shrunk readers s
+written_everywhere_under readers read_by.Drivers job shrunk s = written_there_by Drivers s.0 s.1 job shrunk readers shrunk.doubt s.2 s.3
+
+pub written_here : (readers : Readers) (profiles : Profiles) (dpi : Dpi) {lent job : List ℕ} (shrunk : Shrunk) → lent ≡ job
+    → IsShrunkUnder readers profiles dpi lent (Ok shrunk) → IsWrittenUnder readers profiles dpi job shrunk.job.items
+written_here readers profiles dpi {lent} {job} shrunk is s =
+    subst (λ (it : List ℕ). IsWrittenUnder readers profiles dpi it shrunk.job.items) is (written_under readers profiles dpi lent shrunk s)
+
+pub written_there : (readers : Readers) (profiles : Profiles) {lent job : List ℕ} (shrunk : Shrunk) → lent ≡ job
+    → IsShrunkEverywhereUnder readers profiles lent (Ok shrunk) → IsWrittenEverywhereUnder readers profiles job shrunk.job.items
+written_there readers profiles {lent} {job} shrunk is s =
+    subst (λ (it : List ℕ). IsWrittenEverywhereUnder readers profiles it shrunk.job.items) is
+    (written_everywhere_under readers profiles lent shrunk s)

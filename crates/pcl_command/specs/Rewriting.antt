@@ -9,28 +9,29 @@ use Rattle.pcl_cert.specs.declared.format.Format.TheVariants.{One}
 use Rattle.pcl_streams.specs.declared.fault.Fault.{Fault}
 use Rattle.pcl_streams.specs.JobFaults.{RefusedOrMemory, fault_of}
 use Rattle.pcl_tool.specs.Minimizing.{IsCertifiedJobOf}
-use Rattle.pcl_shrink.specs.Shrinking.{IsWrittenFor, IsWrittenEverywhere, IsRefusedEverywhere}
 use Rattle.pcl_files.specs.Failures.{HasFailed}
 use Rattle.pcl_files.specs.Messages.{line_of, status_for}
 use Rattle.pcl_files.specs.declared.failures.Failure.{Failure}
+use Rattle.pcl_request.specs.Requests.{widest_of}
 use Rattle.pcl_request.specs.declared.batch.Rewriting.{Rewriting}
 use Rattle.pcl_request.specs.declared.batch.Rewriting.TheVariants.{Shrink, ShrinkEverywhere, Certify}
 use Rattle.pcl_shrink.specs.declared.candidate.Shrunk.{Shrunk}
+use Rattle.pcl_command.specs.Profiles.{IsWrittenUnder, IsWrittenEverywhereUnder, IsRefusedEverywhereUnder}
 use Rattle.pcl_command.specs.declared.rewriting.Again.{Again}
 
 -- the smallest job that is found, alone, or the least raster job and its certificate
 abbrev pub IsRewrittenTo : Rewriting → Dpi → (job again : List ℕ) → Option (Vec ℕ) → Type 0
-IsRewrittenTo (Shrink profile readers) dpi job again None = IsWrittenFor readers profile dpi job again
-IsRewrittenTo (Shrink profile readers) dpi job again (Some certificate) = ⊥
-IsRewrittenTo (ShrinkEverywhere profile readers) dpi job again None = IsWrittenEverywhere readers profile job again
-IsRewrittenTo (ShrinkEverywhere profile readers) dpi job again (Some certificate) = ⊥
+IsRewrittenTo (Shrink profiles readers) dpi job again None = IsWrittenUnder readers profiles dpi job again
+IsRewrittenTo (Shrink profiles readers) dpi job again (Some certificate) = ⊥
+IsRewrittenTo (ShrinkEverywhere profiles readers) dpi job again None = IsWrittenEverywhereUnder readers profiles job again
+IsRewrittenTo (ShrinkEverywhere profiles readers) dpi job again (Some certificate) = ⊥
 IsRewrittenTo Certify dpi job again (Some certificate) = IsCertifiedJobOf dpi One job again certificate.items
 IsRewrittenTo Certify dpi job again None = ⊥
 
 -- a refusal is the one at the resolution; or at both
 abbrev pub RefusesAgain : Rewriting → Dpi → List ℕ → Refusal → Type 0
-RefusesAgain (ShrinkEverywhere profile readers) dpi job refusal = IsRefusedEverywhere profile job refusal
-RefusesAgain (Shrink profile readers) dpi job refusal = IsRefusalBy profile dpi job refusal
+RefusesAgain (ShrinkEverywhere profiles readers) dpi job refusal = IsRefusedEverywhereUnder profiles job refusal
+RefusesAgain (Shrink profiles readers) dpi job refusal = IsRefusalBy (widest_of profiles) dpi job refusal
 RefusesAgain Certify dpi job refusal = IsRefusal dpi job refusal
 
 -- where it isn't written again it is refused so, or memory ran out

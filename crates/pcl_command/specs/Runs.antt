@@ -15,7 +15,6 @@ use Rattle.pcl_streams.specs.PageImages.{IsPagesPreview}
 use Rattle.pcl_streams.specs.Transfer.{AppendsFront, IsWritten}
 use Rattle.pcl_tool.specs.Minimizing.{IsFiltered, IsRead}
 use Rattle.pcl_explain.specs.Findings.{Explains, ExplainsAsObject, ExplainsKind, ExplainsKindAsObject}
-use Rattle.pcl_shrink.specs.Shrinking.{IsWrittenFor, IsWrittenEverywhere, IsRefusedEverywhere}
 use Rattle.pcl_files.specs.Failures.{HasFailed, HasFailedFile, IsOutcome}
 use Rattle.pcl_files.specs.Files.{FileAct, Opened, Unopened, Begun, Unbegun}
 use Rattle.pcl_files.specs.Messages.{line_of, status_for}
@@ -28,7 +27,7 @@ use Rattle.pcl_answers.specs.Comparisons.{IsCompareRun}
 use Rattle.pcl_answers.specs.declared.comparisons.CompareFault.{CompareFault}
 use Rattle.pcl_answers.specs.declared.endings.Ending.{Ending}
 use Rattle.pcl_answers.specs.declared.endings.Ending.TheVariants.{Done, Checked, Compared, Failed}
-use Rattle.pcl_request.specs.Requests.{task_page, task_profile}
+use Rattle.pcl_request.specs.Requests.{task_page, task_profile, widest_of}
 use Rattle.pcl_request.specs.declared.request.Layout.{Layout}
 use Rattle.pcl_request.specs.declared.request.Layout.TheVariants.{Text, Json}
 use Rattle.pcl_request.specs.declared.request.Task.{Task}
@@ -49,6 +48,7 @@ use Rattle.pcl_request.specs.declared.request.Request.TheVariants as asked
 use Rattle.pcl_command.specs.Certifying.{HasCertified}
 use Rattle.pcl_command.specs.Clashes.{SayIfClash, clash_line}
 use Rattle.pcl_command.specs.Reads.{IsUnread}
+use Rattle.pcl_command.specs.Profiles.{IsWrittenUnder, IsWrittenEverywhereUnder, IsRefusedEverywhereUnder}
 use Rattle.pcl_command.specs.World.{World}
 
 -- what a reader gave and a writer holds after the preview, in a form, of pages of the job that it gives
@@ -102,8 +102,8 @@ HasDoneTask (Explain layout profile) dpi given left old new done =
 HasDoneTask (ExplainKind layout kind) dpi given left old new done = (left ≡ given) × IsKindExplained layout kind old new done
 HasDoneTask (DescribePages layout profile) dpi given left old new done =
     IsTextRun (TellsOfPages profile dpi) (IsRefusalBy profile dpi) given left old new done
-HasDoneTask (Shrink report profile readers) dpi given left old new done =
-    IsTextRun (IsWrittenFor readers profile dpi) (IsRefusalBy profile dpi) given left old new done
+HasDoneTask (Shrink report profiles readers) dpi given left old new done =
+    IsTextRun (IsWrittenUnder readers profiles dpi) (IsRefusalBy (widest_of profiles) dpi) given left old new done
 
 -- the job can't be read, or the task is done with the bytes of the job, at the first resolution at which that is accepted
 abbrev pub HasDoneFirst : Task → (given left old new : Option (List ℕ)) → Result (Unit {0}) Fault → Type 0
@@ -114,8 +114,8 @@ HasDoneFirst task given left old new done =
 
 -- a job is shrunk for each resolution at which it is accepted
 abbrev pub HasDoneAccepted : Task → (given left old new : Option (List ℕ)) → Result (Unit {0}) Fault → Type 0
-HasDoneAccepted (Shrink report profile readers) given left old new done =
-    IsTextRun (IsWrittenEverywhere readers profile) (IsRefusedEverywhere profile) given left old new done
+HasDoneAccepted (Shrink report profiles readers) given left old new done =
+    IsTextRun (IsWrittenEverywhereUnder readers profiles) (IsRefusedEverywhereUnder profiles) given left old new done
 HasDoneAccepted task given left old new done = HasDoneFirst task given left old new done
 
 -- the task at a resolution that is given, or at those at which the job is accepted

@@ -4,6 +4,7 @@
 mod certifying;
 mod clashes;
 mod passes;
+mod profiles;
 mod reporting;
 mod rewriting;
 mod running;

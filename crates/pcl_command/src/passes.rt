@@ -1,10 +1,12 @@
 //! Jobs shrunk, with how far that has come reported.
 
-ghost use Rattle.pcl_shrink.specs.Shrinking.{IsShrunk, IsShrunkEverywhere};
+ghost use Rattle.pcl_command.specs.Profiles.{IsShrunkUnder, IsShrunkEverywhereUnder};
 
-use pcl_base::{Dpi, JobFault, Profile};
+use crate::profiles::{shrink_everywhere_under, shrink_under};
+use pcl_base::{Dpi, JobFault};
 use pcl_files::Reporter;
-use pcl_shrink::{Pass, Readers, ShrinkWatcher, Shrunk, shrink_everywhere_watched, shrink_watched};
+use pcl_request::Profiles;
+use pcl_shrink::{Pass, Readers, ShrinkWatcher, Shrunk};
 use std::alloc::Global;
 
 /// Reports how far each pass over the pages of a job has come.
@@ -27,18 +29,18 @@ fn pass_name(pass: Pass) -> &'static str {
     }
 }
 
-/// Shrinks a job at a resolution, and reports how far that has come.
+/// Shrinks a job at a resolution, by these profiles, and reports how far that has come.
 pub fn shrink_reported<P: Reporter>(
     alloc: Global,
     job: &[u8],
-    widest: Profile,
+    profiles: Profiles,
     dpi: Dpi,
     readers: Readers,
     reporter: P,
 ) -> Result<Shrunk, JobFault>
-    ensures { IsShrunk readers widest dpi job.now result }
+    ensures { IsShrunkUnder readers profiles dpi job.now result }
 {
-    let shrunk = shrink_watched(alloc, job, widest, dpi, readers, Passes(reporter));
+    let shrunk = shrink_under(alloc, job, profiles, dpi, readers, Passes(reporter));
     reporter.ended();
     shrunk
 }
@@ -47,13 +49,13 @@ pub fn shrink_reported<P: Reporter>(
 pub fn shrink_everywhere_reported<P: Reporter>(
     alloc: Global,
     job: &[u8],
-    widest: Profile,
+    profiles: Profiles,
     readers: Readers,
     reporter: P,
 ) -> Result<Shrunk, JobFault>
-    ensures { IsShrunkEverywhere readers widest job.now result }
+    ensures { IsShrunkEverywhereUnder readers profiles job.now result }
 {
-    let shrunk = shrink_everywhere_watched(alloc, job, widest, readers, Passes(reporter));
+    let shrunk = shrink_everywhere_under(alloc, job, profiles, readers, Passes(reporter));
     reporter.ended();
     shrunk
 }

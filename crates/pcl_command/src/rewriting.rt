@@ -2,11 +2,12 @@
 
 ghost use Rattle.pcl_command.specs.Rewriting.{IsRewritten, IsShrunkAgain};
 
+use crate::profiles::{shrink_everywhere_under, shrink_under};
 use pcl_base::{Dpi, JobFault};
 use pcl_cert::Format;
 use pcl_files::Failure;
 use pcl_request::Rewriting;
-use pcl_shrink::{Shrunk, shrink, shrink_everywhere};
+use pcl_shrink::{NoWatcher, Shrunk};
 use pcl_streams::Fault;
 use pcl_tool::minimize;
 use std::alloc::Global;
@@ -24,11 +25,13 @@ pub fn rewrite(alloc: Global, job: &[u8], dpi: Dpi, rewriting: Rewriting) -> Res
     ensures { IsRewritten rewriting dpi job.now result }
 {
     match rewriting {
-        Rewriting::Shrink { profile, readers } => {
-            shrunk_again(alloc, shrink(alloc, job, profile, dpi, readers))
+        Rewriting::Shrink { profiles, readers } => {
+            let shrunk = shrink_under(alloc, job, profiles, dpi, readers, NoWatcher);
+            shrunk_again(alloc, shrunk)
         }
-        Rewriting::ShrinkEverywhere { profile, readers } => {
-            shrunk_again(alloc, shrink_everywhere(alloc, job, profile, readers))
+        Rewriting::ShrinkEverywhere { profiles, readers } => {
+            let shrunk = shrink_everywhere_under(alloc, job, profiles, readers, NoWatcher);
+            shrunk_again(alloc, shrunk)
         }
         Rewriting::Certify => match minimize(alloc, job, dpi, Format::One) {
             Ok(output) => Ok(Again {

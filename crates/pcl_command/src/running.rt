@@ -2,7 +2,8 @@
 
 ghost use Rattle.std.specs.Prelude.{◌≡◌, if◌then◌else◌, None, Some, IfOk};
 ghost use Rattle.pcl_page.specs.Delivering.{IsRefusalBy};
-ghost use Rattle.pcl_shrink.specs.Shrinking.{IsWrittenFor, IsWrittenEverywhere, IsRefusedEverywhere};
+ghost use Rattle.pcl_request.specs.Requests.{widest_of};
+ghost use Rattle.pcl_command.specs.Profiles.{IsWrittenUnder, IsWrittenEverywhereUnder, IsRefusedEverywhereUnder};
 ghost use Rattle.pcl_command.specs.Runs.{ExplainsIn, ExplainsKindIn, HasCarriedOut, HasDone, HasDoneAccepted, HasDoneFirst, HasDoneSeen, HasDoneTask, HasEnded, HasWritten, HasWrittenTo, IsKindExplained, IsPreviewRun, IsTextRun, NeverRefuses, TellsOfPages};
 ghost use Rattle.pcl_command.specs.World.{world};
 
@@ -16,7 +17,7 @@ use pcl_explain::{explanation, explanation_object, kind_explanation, kind_object
 use pcl_files::{Failure, JobFiles, Reporter, outcome, settle};
 use pcl_page::first_accepted;
 use pcl_pages::describe_pages;
-use pcl_request::{Layout, Request, Resolution, Run, Source, Target, Task, Work};
+use pcl_request::{Layout, Profiles, Request, Resolution, Run, Source, Target, Task, Work};
 use pcl_shrink::Readers;
 use pcl_streams::{Fault, ImageForm, PageChoice, preview_pages, read_all, write_all};
 use pcl_tool::{INPUT_LIMIT, filter_watched};
@@ -199,9 +200,9 @@ fn do_accepted<R: Read, W: Write, P: Reporter>(
     match task {
         Task::Shrink {
             report,
-            profile,
+            profiles,
             readers,
-        } => write_smallest(alloc, report, profile, readers, reader, out, watcher),
+        } => write_smallest(alloc, report, profiles, readers, reader, out, watcher),
         Task::Minimize
         | Task::Preview { .. }
         | Task::Explain { .. }
@@ -253,9 +254,9 @@ fn do_task<R: Read, W: Write, P: Reporter>(
         }
         Task::Shrink {
             report,
-            profile,
+            profiles,
             readers,
-        } => write_smaller(alloc, report, profile, readers, dpi, reader, out, watcher),
+        } => write_smaller(alloc, report, profiles, readers, dpi, reader, out, watcher),
     }
 }
 
@@ -354,23 +355,22 @@ fn describe<R: Read, W: Write, P: Reporter>(
 }
 
 /// Writes the smallest job that is found with the pages of the job that a reader gives, which asks for the same, for these readers. That
-/// job is read by the widest profile that is given, but by the stated one where that accepts it. A job without pages is reported, and what
-/// shrinking it did if that is asked for.
+/// job is read by these profiles. A job without pages is reported, and what shrinking it did if that is asked for.
 fn write_smaller<R: Read, W: Write, P: Reporter>(
     alloc: Global,
     report: Option<Layout>,
-    widest: Profile,
+    profiles: Profiles,
     readers: Readers,
     dpi: Dpi,
     reader: &mut R,
     out: &mut W,
     reporter: P,
 ) -> Result<(), Fault>
-    ensures { IsTextRun (IsWrittenFor readers widest dpi) (IsRefusalBy widest dpi) (R.remaining reader.old) (R.remaining reader.new)
-        (W.contents out.old) (W.contents out.new) result }
+    ensures { IsTextRun (IsWrittenUnder readers profiles dpi) (IsRefusalBy (widest_of profiles) dpi) (R.remaining reader.old)
+        (R.remaining reader.new) (W.contents out.old) (W.contents out.new) result }
 {
     let job = read_all(alloc, reader, INPUT_LIMIT)?;
-    let shrunk = shrink_reported(alloc, &job, widest, dpi, readers, reporter)?;
+    let shrunk = shrink_reported(alloc, &job, profiles, dpi, readers, reporter)?;
     report_shrunk(alloc, job.len(), &shrunk, report, reporter)?;
     write_all(out, &shrunk.job)
 }
@@ -379,17 +379,17 @@ fn write_smaller<R: Read, W: Write, P: Reporter>(
 fn write_smallest<R: Read, W: Write, P: Reporter>(
     alloc: Global,
     report: Option<Layout>,
-    widest: Profile,
+    profiles: Profiles,
     readers: Readers,
     reader: &mut R,
     out: &mut W,
     reporter: P,
 ) -> Result<(), Fault>
-    ensures { IsTextRun (IsWrittenEverywhere readers widest) (IsRefusedEverywhere widest) (R.remaining reader.old) (R.remaining reader.new)
-        (W.contents out.old) (W.contents out.new) result }
+    ensures { IsTextRun (IsWrittenEverywhereUnder readers profiles) (IsRefusedEverywhereUnder profiles) (R.remaining reader.old)
+        (R.remaining reader.new) (W.contents out.old) (W.contents out.new) result }
 {
     let job = read_all(alloc, reader, INPUT_LIMIT)?;
-    let shrunk = shrink_everywhere_reported(alloc, &job, widest, readers, reporter)?;
+    let shrunk = shrink_everywhere_reported(alloc, &job, profiles, readers, reporter)?;
     report_shrunk(alloc, job.len(), &shrunk, report, reporter)?;
     write_all(out, &shrunk.job)
 }

@@ -3,7 +3,7 @@ use Rattle.std.specs.Prelude.{◌≡◌, ℕ, Bool, true, false, ◌&&◌, List,
 use Rattle.std.specs.Borrow.{Bor}
 use Rattle.pcl_base.specs.declared.dpi.Dpi.TheVariants.{Dpi300, Dpi600}
 use Rattle.pcl_base.specs.declared.profile.Profile.{Profile}
-use Rattle.pcl_base.specs.declared.profile.Profile.TheVariants.{Stated}
+use Rattle.pcl_base.specs.declared.profile.Profile.TheVariants.{Stated, Drivers}
 use Rattle.pcl_streams.specs.PageImages.{last_page}
 use Rattle.pcl_request.specs.declared.batch.Rewriting.{Rewriting}
 use Rattle.pcl_request.specs.declared.batch.Rewriting.TheVariants as rewriting
@@ -21,18 +21,26 @@ use Rattle.pcl_request.specs.declared.request.Task.{Task}
 use Rattle.pcl_request.specs.declared.request.Task.TheVariants.{Preview, Explain, ExplainKind, DescribePages, Shrink}
 use Rattle.pcl_request.specs.declared.request.Work.{Work}
 use Rattle.pcl_request.specs.declared.request.Work.TheVariants as work
+use Rattle.pcl_request.specs.declared.profiles.Profiles.{Profiles}
+use Rattle.pcl_request.specs.declared.profiles.Profiles.TheVariants as read_by
 
 -- the last page that is asked for by its number, 0 where none is
 abbrev pub task_page : Task → ℕ
 task_page (Preview choice form profile) = last_page choice
 task_page other = 0
 
+-- the widest of the profiles by which a job is read that is shrunk
+abbrev pub widest_of : Profiles → Profile
+widest_of read_by.Stated = Stated
+widest_of read_by.Either = Drivers
+widest_of read_by.Drivers = Drivers
+
 -- by which profile the job is read, the widest where several are tried
 abbrev pub task_profile : Task → Profile
 task_profile (Preview choice form profile) = profile
 task_profile (Explain layout profile) = profile
 task_profile (DescribePages layout profile) = profile
-task_profile (Shrink report profile readers) = profile
+task_profile (Shrink report profiles readers) = widest_of profiles
 task_profile other = Stated
 
 abbrev pub page_of : Work → ℕ
@@ -41,8 +49,8 @@ page_of (work.Certify certificate) = 0
 
 -- the same of a job of a batch
 abbrev pub rewriting_profile : Rewriting → Profile
-rewriting_profile (rewriting.Shrink profile readers) = profile
-rewriting_profile (rewriting.ShrinkEverywhere profile readers) = profile
+rewriting_profile (rewriting.Shrink profiles readers) = widest_of profiles
+rewriting_profile (rewriting.ShrinkEverywhere profiles readers) = widest_of profiles
 rewriting_profile rewriting.Certify = Stated
 
 -- a job or an image is made, and not a text

@@ -3,6 +3,7 @@
 ghost use Rattle.std.specs.Prelude.{◌≡◌};
 ghost use Rattle.pcl_request.specs.Requests.{rewriting_profile};
 
+use crate::profiles::Profiles;
 use crate::request::{Layout, Resolution};
 use pcl_base::Profile;
 use pcl_page::Readers;
@@ -10,10 +11,16 @@ use pcl_page::Readers;
 /// How each job is written again.
 #[derive(Clone, Copy, Debug, PartialEq, Eq)]
 pub enum Rewriting {
-    /// As the smallest job that is found with the same dots, for these readers. This profile is the widest by which it is read.
-    Shrink { profile: Profile, readers: Readers },
+    /// As the smallest job that is found with the same dots, for these readers. It is read by these profiles.
+    Shrink {
+        profiles: Profiles,
+        readers: Readers,
+    },
     /// The same at each resolution at which the job is accepted.
-    ShrinkEverywhere { profile: Profile, readers: Readers },
+    ShrinkEverywhere {
+        profiles: Profiles,
+        readers: Readers,
+    },
     /// As the least raster job, with a certificate of the first format in a file of its own.
     Certify,
 }
@@ -24,8 +31,8 @@ impl Rewriting {
         ensures { result ≡ rewriting_profile self }
     {
         match self {
-            Rewriting::Shrink { profile, .. } | Rewriting::ShrinkEverywhere { profile, .. } => {
-                profile
+            Rewriting::Shrink { profiles, .. } | Rewriting::ShrinkEverywhere { profiles, .. } => {
+                profiles.widest()
             }
             Rewriting::Certify => Profile::Stated,
         }

@@ -2,9 +2,11 @@
 #![tactic(auto)]
 
 mod batch;
+mod profiles;
 mod request;
 
 pub use batch::{Batch, Destination, Rewriting};
+pub use profiles::Profiles;
 pub use request::{
     Beside, Certificate, CheckedFiles, ComparedFiles, Layout, Request, Resolution, Run, Source,
     Target, Task, Work, resolution_named,

@@ -4,6 +4,7 @@ ghost use Rattle.std.specs.Prelude.{◌≡◌, ◌&&◌, MatchOption};
 ghost use Rattle.pcl_request.specs.Requests.{IsWordFor, aside_of, certificate_file, first_job, has_raw, is_standard_output, makes_raw, page_of, performed, second_job, source_file, target_file, task_page, task_profile, writes_raw};
 ghost use Rattle.pcl_request.specs.declared.request.Resolution.{Resolution};
 
+use crate::profiles::Profiles;
 use pcl_base::{Dpi, Kind, Profile};
 use pcl_cert::Format;
 use pcl_page::Readers;
@@ -36,10 +37,10 @@ pub enum Task {
         profile: Profile,
     },
     /// The smallest job that is found with its pages, which asks for the same, for these readers; and a report of its bytes in a layout, if
-    /// that is asked for. This profile is the widest by which it is read.
+    /// that is asked for. It is read by these profiles.
     Shrink {
         report: Option<Layout>,
-        profile: Profile,
+        profiles: Profiles,
         readers: Readers,
     },
 }
@@ -133,8 +134,8 @@ impl Task {
             Task::Minimize | Task::ExplainKind { .. } => Profile::Stated,
             Task::Preview { profile, .. }
             | Task::Explain { profile, .. }
-            | Task::DescribePages { profile, .. }
-            | Task::Shrink { profile, .. } => profile,
+            | Task::DescribePages { profile, .. } => profile,
+            Task::Shrink { profiles, .. } => profiles.widest(),
         }
     }
 

@@ -23,5 +23,8 @@ mod watching;
 pub use candidate::{Candidate, Shrunk};
 pub use laws::shrunk_jobs_have_the_same_pages;
 pub use pcl_page::{Doubt, Readers};
-pub use shrinking::{shrink, shrink_everywhere, shrink_everywhere_watched, shrink_watched};
-pub use watching::{Pass, ShrinkWatcher};
+pub use shrinking::{
+    shrink, shrink_by, shrink_everywhere, shrink_everywhere_by, shrink_everywhere_watched,
+    shrink_watched,
+};
+pub use watching::{NoWatcher, Pass, ShrinkWatcher};

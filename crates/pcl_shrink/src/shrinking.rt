@@ -77,8 +77,8 @@ fn shrink_by_either<P: ShrinkWatcher>(
     }
 }
 
-/// The same by a profile.
-fn shrink_by<P: ShrinkWatcher>(
+/// The same of a job that is read by this profile alone.
+pub fn shrink_by<P: ShrinkWatcher>(
     alloc: Global,
     job: &[u8],
     profile: Profile,
@@ -120,7 +120,7 @@ pub fn shrink_everywhere_watched<P: ShrinkWatcher>(
     ensures { IsShrunkEverywhere readers widest job.now result }
 {
     match widest {
-        Profile::Stated => everywhere_by(alloc, job, Profile::Stated, readers, watcher),
+        Profile::Stated => shrink_everywhere_by(alloc, job, Profile::Stated, readers, watcher),
         Profile::Drivers => everywhere_by_either(alloc, job, readers, watcher),
     }
 }
@@ -134,17 +134,17 @@ fn everywhere_by_either<P: ShrinkWatcher>(
 ) -> Result<Shrunk, JobFault>
     ensures { IsShrunkEverywhere readers Drivers job.now result }
 {
-    match everywhere_by(alloc, job, Profile::Stated, readers, watcher) {
+    match shrink_everywhere_by(alloc, job, Profile::Stated, readers, watcher) {
         Ok(shrunk) => Ok(shrunk),
         Err(JobFault::Refused(_)) => {
-            everywhere_by(alloc, job, Profile::Drivers, readers, watcher)
+            shrink_everywhere_by(alloc, job, Profile::Drivers, readers, watcher)
         }
         Err(JobFault::Memory) => Err(JobFault::Memory),
     }
 }
 
-/// The same by a profile.
-fn everywhere_by<P: ShrinkWatcher>(
+/// The same of a job that is read by this profile alone.
+pub fn shrink_everywhere_by<P: ShrinkWatcher>(
     alloc: Global,
     job: &[u8],
     profile: Profile,

@@ -3,4 +3,4 @@ use Rattle.pcl_shrink.proofs.shrinking.shrink_everywhere_watched.Goals as goal
 
 pub returns-in-Stated : goal.returns-in-Stated
 returns-in-Stated g c =
-    rw c.in-Stated.is (everywhere_by_stated c.args.job.now c.args.readers c.everywhere_by.result c.everywhere_by.ensures)
+    rw c.in-Stated.is (everywhere_by_stated c.args.job.now c.args.readers c.shrink_everywhere_by.result c.shrink_everywhere_by.ensures)

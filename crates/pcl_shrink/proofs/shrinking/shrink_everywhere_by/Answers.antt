@@ -1,5 +1,5 @@
 use Rattle.pcl_shrink.proofs.Everywhere.{coarse_alone}
-use Rattle.pcl_shrink.proofs.shrinking.everywhere_by.Goals as goal
+use Rattle.pcl_shrink.proofs.shrinking.shrink_everywhere_by.Goals as goal
 
 pub returns-in-Err-Refused : goal.returns-in-Err-Refused
 returns-in-Err-Refused g c =

@@ -1,0 +1,29 @@
+//! By which profiles a job is read that is shrunk.
+
+ghost use Rattle.std.specs.Prelude.{◌≡◌};
+ghost use Rattle.pcl_request.specs.Requests.{widest_of};
+
+use pcl_base::Profile;
+
+/// By which profiles a job is read that is shrunk. What is written is accepted by the one by which it was read.
+#[derive(Clone, Copy, Debug, PartialEq, Eq)]
+pub enum Profiles {
+    /// The stated one alone.
+    Stated,
+    /// The stated one where that accepts the job, else the drivers'.
+    Either,
+    /// The drivers' alone, also where the stated one accepts the job.
+    Drivers,
+}
+
+impl Profiles {
+    /// The widest profile by which a job is read.
+    pub fn widest(self) -> Profile
+        ensures { result ≡ widest_of self }
+    {
+        match self {
+            Profiles::Stated => Profile::Stated,
+            Profiles::Either | Profiles::Drivers => Profile::Drivers,
+        }
+    }
+}
