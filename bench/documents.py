@@ -3,7 +3,8 @@
 
     bench/documents.py PROGRAM [WORD..]
 
-PROGRAM is a built pclmin. It prints the rows of the table of bench/README.md, "Smaller jobs". Each result is compared with the job by
+PROGRAM is a built pclmin. It prints the rows of the table of bench/README.md, "Smaller jobs", where `--drivers`
+stands for `shrink` with that option. Each result is compared with the job by
 `same`, what `shrink` writes by `same --asked`; the status is 1 if one isn't the same, or if `shrink` writes more than the job or the
 least raster has. With WORDs only documents are made whose names have all of these. Times are the processor's, the least of RUNS. The
 memory is the peak that GNU time tells of one more run: what wait4 tells of a child has in it what this script holds itself.
@@ -247,36 +248,39 @@ def images(program, folder, dpi, job):
 def fault_of(program, dpi, job, outs):
     """What doesn't hold, if anything."""
     for how, out in outs.items():
-        asked = ["--asked"] if how == "shrink" else []
+        asked = [] if how == "min" else ["--asked"]
         if subprocess.run([program, "same", *asked, "--dpi", str(dpi), job, out], stdout=subprocess.PIPE).stdout != b"same\n":
             return "%s: not the same" % how
-    if os.path.getsize(outs["shrink"]) > min(os.path.getsize(job), os.path.getsize(outs["min"])):
-        return "shrink: longer than the job or its least raster"
+    for how in ("shrink", "drivers"):
+        if os.path.getsize(outs[how]) > min(os.path.getsize(job), os.path.getsize(outs["min"])):
+            return "%s: longer than the job or its least raster" % how
     return None
 
 
 def measured(program, folder, document):
     """The cells of the row of a document, and what doesn't hold, if anything."""
     os.makedirs(own := os.path.join(folder, "own"), exist_ok=True)
-    job, least, smaller = (os.path.join(own, name) for name in ("job.pcl", "least.pcl", "smaller.pcl"))
+    job, least, smaller, drivers = (os.path.join(own, name + ".pcl") for name in ("job", "least", "smaller", "drivers"))
     with open(job, "wb") as out:
         subprocess.run(["bash", "-c", document.command], cwd=own, stdout=out, stderr=subprocess.DEVNULL, check=True)
     outs = {"min": least, "shrink": smaller}
     best = {}
     for how, out in outs.items():
         best[how] = run([program, how, "--dpi", str(document.dpi), "-o", out, job])
-    sizes = packed(job) + packed(least) + [os.path.getsize(smaller)]
+    outs["drivers"] = drivers
+    subprocess.run([program, "shrink", "--drivers", "--dpi", str(document.dpi), "-o", drivers, job], check=True)
+    sizes = packed(job) + packed(least) + [os.path.getsize(smaller), os.path.getsize(drivers)]
     times = ["%.1f" % (getattr(best["shrink"], what) / max(getattr(best["min"], what), 1e-3)) for what in Run._fields]
-    part = "%.1f %%" % (100 * sizes[-1] / sizes[3])
+    part = "%.1f %%" % (100 * sizes[-2] / sizes[3])
     sizes += images(program, own, document.dpi, job)
     return [document.name, str(document.dpi)] + sizes + [part] + times, fault_of(program, document.dpi, job, outs)
 
 
 def main(program, *words):
     program, faults = os.path.realpath(program), []
-    clients.row(["Document", "dpi", "As sent", "`gzip`", "`xz`", "`min`", "`gzip`", "`xz`", "`shrink`", "Group 4", "JB2", "Of `min`",
+    clients.row(["Document", "dpi", "As sent", "`gzip`", "`xz`", "`min`", "`gzip`", "`xz`", "`shrink`", "`--drivers`", "Group 4", "JB2", "Of `min`",
                  "Time", "Memory"])
-    clients.row(["---"] + ["---:"] * 13)
+    clients.row(["---"] + ["---:"] * 14)
     with tempfile.TemporaryDirectory() as folder:
         prepare(folder)
         for document in documents():

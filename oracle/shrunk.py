@@ -4,13 +4,14 @@
     python3 oracle/shrunk.py PCLMIN PLAIN COUNT SEED [--model] [--workers N] [--folder FOLDER]
 
 The jobs are those of random_jobs.py: one to three that are mostly accepted, joined, or one of any kind, by `--dpi 300`, `--dpi 600` or
-`--dpi auto`, which is drawn too; the first of eight that is accepted, or the last. Four of five go by `--profile-only`. What `shrink`
-writes of an accepted one is no longer, has as many pages, each the same by the plain program, and is the same by `same --asked`; by
-`--dpi auto` it has these pages at each resolution at which the plain program accepts the job. With --model both also have the same pages
-by reference.py, and ask the printer for the same. Without `--profile-only` it is the job as it came, or printers don't read it otherwise.
-A job that `shrink` refuses is refused by the plain program in the same line. A job that doesn't hold is kept in FOLDER (build/fuzz) as
-shrunk-SEED-NUMBER.pcl, with a line on standard output, and the status is then 1. The plain program reads by the drivers' profile, as
-`shrink` does, and jobs have what drivers send besides. The number of workers is 1 if it isn't given; the jobs don't depend on it.
+`--dpi auto`, which is drawn too; the first of eight that is accepted, or the last. Four of five go by `--profile-only`, two of five by
+`--drivers`. What `shrink` writes of an accepted one is no longer, has as many pages, each the same by the plain program, and is the same
+by `same --asked`; by `--dpi auto` it has these pages at each resolution at which the plain program accepts the job. With --model both
+also have the same pages by reference.py, and ask the printer for the same. Without `--profile-only` it is the job as it came, or printers
+don't read it otherwise. A job that `shrink` refuses is refused by the plain program in the same line. A job that doesn't hold is kept in
+FOLDER (build/fuzz) as shrunk-SEED-NUMBER.pcl, with a line on standard output, and the status is then 1. The plain program reads by the
+drivers' profile, as `shrink` does, and jobs have what drivers send besides. The number of workers is 1 if it isn't given; the jobs don't
+depend on it.
 """
 
 import argparse
@@ -64,7 +65,8 @@ class Looker:
         for _ in range(TRIES):
             job, dpi = random_job(draw)
             readers = ["--profile-only"] if draw.random() < 0.8 else []
-            status, written, said = self.pclmin.run(["shrink", "--dpi", dpi] + readers, job)
+            profiles = ["--drivers"] if draw.random() < 0.4 else []
+            status, written, said = self.pclmin.run(["shrink", "--dpi", dpi] + readers + profiles, job)
             if status == 0:
                 break
         fault, outcome = self.fault_of(job, dpi, status, written, said)
