@@ -39,10 +39,10 @@ shrunk_here profiles readers dpi job (Err why) (Ok again) s a = absurd a
 
 pub returns-in-Shrink : goal.returns-in-Shrink
 returns-in-Shrink c = rw c.in-Shrink.is
-    (shrunk_here c.in-Shrink.profiles c.in-Shrink.readers c.args.dpi c.args.job.now c.shrink_under.result c.shrunk_again.result
-    c.shrink_under.ensures c.shrunk_again.ensures)
+    (shrunk_here c.in-Shrink.profiles c.in-Shrink.readers c.args.dpi c.args.job.now c.shrink_under-shrunk.result c.shrunk_again.result
+    c.shrink_under-shrunk.ensures c.shrunk_again.ensures)
 
 pub returns-in-ShrinkEverywhere : goal.returns-in-ShrinkEverywhere
 returns-in-ShrinkEverywhere c = rw c.in-ShrinkEverywhere.is
-    (shrunk_again c.in-ShrinkEverywhere.profiles c.in-ShrinkEverywhere.readers c.args.dpi c.args.job.now c.shrink_everywhere_under.result
-    c.shrunk_again-in-ShrinkEverywhere.result c.shrink_everywhere_under.ensures c.shrunk_again-in-ShrinkEverywhere.ensures)
+    (shrunk_again c.in-ShrinkEverywhere.profiles c.in-ShrinkEverywhere.readers c.args.dpi c.args.job.now
+    c.shrink_everywhere_under-shrunk.result c.shrunk_again-in-ShrinkEverywhere.result c.shrink_everywhere_under-shrunk.ensures c.shrunk_again-in-ShrinkEverywhere.ensures)
