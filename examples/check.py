@@ -98,7 +98,7 @@ def check_page(rows, nodes, lists):
 
 def main(output, certificate, *images):
     job, cert, copies = open(output, "rb"), open(certificate, "rb"), []
-    need(take(cert, ">8sI") == (b"PCLCERT2", len(images)) and job.read(2) == RESET, "frame, or no format 2 for so many pages")
+    need(take(cert, ">8sI") == (b"PCLCERT2", len(images)) and job.read(2) == RESET, "frame, or no format 2 for as many pages")
     for page, path in enumerate(images, 1):
         length, height = take(cert, ">IH")
         nodes = take(cert, ">%dI" % (8 * height + 8))

@@ -28,7 +28,8 @@ pub textless_by : (Tells : List ℕ → List ℕ → Type 0) (Refuses : List ℕ
 textless_by Tells Refuses held {job} (fault.Refused refusal) read short u = (job, read, u, Keeps-refl held)
 textless_by Tells Refuses held {job} fault.Memory read short u = ((job, read.given, omega (arith, short)), Keeps-refl held)
 
-pub textless_run : (Tells : List ℕ → List ℕ → Type 0) (profile : Profile) (dpi : Dpi) {given left : Option (List ℕ)} (held : Option (List ℕ)) {job : List ℕ}
+pub textless_run : (Tells : List ℕ → List ℕ → Type 0) (profile : Profile) (dpi : Dpi) {given left : Option (List ℕ)}
+    (held : Option (List ℕ)) {job : List ℕ}
     (why : JobFault) → IsRead given left job → length job ≤ input_limit → IsTextless profile dpi job why
     → IsTextRun Tells (IsRefusalBy profile dpi) given left held held (Err (fault_of why))
 textless_run Tells profile dpi = textless_by Tells (IsRefusalBy profile dpi)

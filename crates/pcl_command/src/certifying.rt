@@ -56,7 +56,8 @@ fn certify_to<F: JobFiles, R: Read, W: Write, P: Watcher>(
     out: &mut W,
     watcher: P,
 ) -> Result<(), Failure>
-    ensures { HasCertifiedTo F.acts certificate.entry (F.Writer.contents aside) resolution target.entry (world files.old (R.remaining reader.old) (W.contents out.old))
+    ensures { HasCertifiedTo F.acts certificate.entry (F.Writer.contents aside) resolution target.entry
+        (world files.old (R.remaining reader.old) (W.contents out.old))
         (world files.new (R.remaining reader.new) (W.contents out.new)) result }
 {
     let Certificate { file: name, format } = certificate;

@@ -1,4 +1,4 @@
-//! Lines that start by a line feed: it puts the cursor at the left margin, so many rows lower, where moves take some twelve bytes.
+//! Lines that start by a line feed: it puts the cursor at the left margin, a number of rows lower, where moves take some twelve bytes.
 
 use crate::spacing::Spacing;
 use indexmap::IndexMap;
@@ -58,7 +58,7 @@ impl Feed {
 /// The starts of lines of a page.
 #[derive(Drop)]
 struct Starts {
-    /// How often the next line stands so many rows lower.
+    /// How often the next line stands a number of rows lower, by that number.
     rows: IndexMap<u32, u32>,
     /// How often a line starts with the cursor at this dot.
     places: IndexMap<u32, u32>,

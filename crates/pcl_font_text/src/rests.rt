@@ -51,7 +51,7 @@ fn lower(bytes: &mut [u32], rest: u32, least: u32) {
     }
 }
 
-/// How many bytes a move of so many dots takes.
+/// How many bytes a move of as many dots takes.
 fn move_bytes(dots: u32) -> u32 {
     let digits = match dots {
         0..=9 => 1,
@@ -83,7 +83,7 @@ pub fn append_rest(
     }
 }
 
-/// The numbers of two blanks that advance so many dots together, if there are such.
+/// The numbers of two blanks that advance as many dots together, if there are such.
 fn two_blanks(blanks: &IndexMap<u32, u32>, dots: u32) -> Option<(usize, usize)> {
     for (number, blank) in blanks.keys().enumerate() {
         if let Some(rest) = dots.checked_sub(*blank) {

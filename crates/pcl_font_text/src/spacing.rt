@@ -355,7 +355,7 @@ fn character_of(gap: Gap) -> Option<Character> {
     })
 }
 
-/// Whether a character of its own for a distance saves more bytes than it takes, where the rest takes so many each time.
+/// Whether a character of its own for a distance saves more bytes than it takes, where the rest takes this many each time.
 fn pays(patterns: &Patterns, found: &Letters, counted: &CountedGap, cost: u32) -> bool {
     match found.glyphs.get_index(counted.gap.glyph as usize) {
         Some(glyph) => {

@@ -61,7 +61,7 @@ impl Manner {
         }
     }
 
-    /// What a person is told to type on a terminal, unless nothing is to be said.
+    /// What a person has to type on a terminal, unless nothing is to be said.
     pub fn typed(self) -> Option<Typed> {
         if self.is_quiet {
             None

@@ -16,7 +16,8 @@ shrunk_again : (profiles : Profiles) (readers : Readers) (dpi : Dpi) (job : List
     → IsRewritten (ShrinkEverywhere profiles readers) dpi job again
 shrunk_again profiles readers dpi job (Ok shrunk) (Ok again) s a =
     let written = written_everywhere_under readers profiles job shrunk s in
-    subst (λ (certificate : Option (Vec ℕ)). IsRewrittenTo (ShrinkEverywhere profiles readers) dpi job again.job.items certificate) (sym a.1)
+    subst (λ (certificate : Option (Vec ℕ)). IsRewrittenTo (ShrinkEverywhere profiles readers) dpi job again.job.items certificate)
+    (sym a.1)
     (subst (IsWrittenEverywhereUnder readers profiles job) (sym a.0) written)
 shrunk_again profiles readers dpi job (Err (fault.Refused refusal)) (Err failure) s a =
     (run.Refused refusal, unshrunk_everywhere readers profiles job (fault.Refused refusal) s, a)
@@ -45,4 +46,5 @@ returns-in-Shrink c = rw c.in-Shrink.is
 pub returns-in-ShrinkEverywhere : goal.returns-in-ShrinkEverywhere
 returns-in-ShrinkEverywhere c = rw c.in-ShrinkEverywhere.is
     (shrunk_again c.in-ShrinkEverywhere.profiles c.in-ShrinkEverywhere.readers c.args.dpi c.args.job.now
-    c.shrink_everywhere_under-shrunk.result c.shrunk_again-in-ShrinkEverywhere.result c.shrink_everywhere_under-shrunk.ensures c.shrunk_again-in-ShrinkEverywhere.ensures)
+    c.shrink_everywhere_under-shrunk.result c.shrunk_again-in-ShrinkEverywhere.result c.shrink_everywhere_under-shrunk.ensures
+    c.shrunk_again-in-ShrinkEverywhere.ensures)

@@ -7,9 +7,11 @@ returns-in_err-text g c =
     let p = err_from_is_err_and c.from_residual-in_err-text.result c.from_residual-in_err-text.ensures.1 in
     let r = c.in_ok-job.ensures in
     rw (p.1, p.2)
-    (textless_run (TellsOfPages c.args.profile c.args.dpi) c.args.profile c.args.dpi _ c.in_err-text.field-0.0 (record { given = r.0; ended = r.1 }) r.2
+    (textless_run (TellsOfPages c.args.profile c.args.dpi) c.args.profile c.args.dpi _ c.in_err-text.field-0.0
+    (record { given = r.0; ended = r.1 }) r.2
     (undescribed c.args.profile c.args.dpi _ c.in_err-text.field-0.0
-    (subst (λ (job : List ℕ). IsDescribed c.args.profile c.args.dpi job (Err c.in_err-text.field-0.0)) c.deref.ensures.value c.in_err-text.ensures)))
+    (subst (λ (job : List ℕ). IsDescribed c.args.profile c.args.dpi job (Err c.in_err-text.field-0.0)) c.deref.ensures.value
+    c.in_err-text.ensures)))
 
 pub returns : goal.returns
 returns g c =

@@ -7,7 +7,8 @@ returns-in_err-shrunk g c =
     let p = err_from_is_err_and c.from_residual-in_err-shrunk.result c.from_residual-in_err-shrunk.ensures.1 in
     let r = c.in_ok-job.ensures in
     rw (p.1, p.2)
-    (textless_run (IsWrittenUnder c.args.readers c.args.profiles c.args.dpi) (widest_of c.args.profiles) c.args.dpi _ c.in_err-shrunk.field-0.0
+    (textless_run (IsWrittenUnder c.args.readers c.args.profiles c.args.dpi) (widest_of c.args.profiles) c.args.dpi _
+    c.in_err-shrunk.field-0.0
     (record { given = r.0; ended = r.1 }) r.2 (unshrunk c.args.readers c.args.profiles c.args.dpi _ c.in_err-shrunk.field-0.0
     (subst (λ (job : List ℕ). IsShrunkUnder c.args.readers c.args.profiles c.args.dpi job (Err c.in_err-shrunk.field-0.0))
     c.deref.ensures.value c.in_err-shrunk.ensures)))
