@@ -102,7 +102,7 @@ impl Lettering {
 
 /// The letters of pages that were collected: none, at once, where these have no shapes.
 fn letters_of(alloc: Global, collection: &mut Collection) -> Result<Letters, AllocError> {
-    if collection.placed.is_empty() {
+    if collection.placed.is_empty() && collection.tiles.is_empty() {
         return Ok(Letters::new(alloc));
     }
     join_shapes(alloc, collection)?;

@@ -12,6 +12,7 @@ pub fn find_letters(alloc: Global, collection: &Collection) -> Result<Letters, A
     let standing = Standing::new(alloc, collection, &frequency)?;
     let mut found = Letters::new(alloc);
     append_letters(collection, &standing, &frequency, &mut found)?;
+    append_tiles(collection, &mut found)?;
     found.letters.sort_unstable();
     Ok(found)
 }
@@ -30,6 +31,15 @@ fn append_letters(
             let top = standing.top_of(shape, line);
             append_letter(shape, top, collection.height_of(shape.page), found)?;
         }
+    }
+    Ok(())
+}
+
+/// Appends the tiles of a job, each of which stands on the row below it.
+fn append_tiles(collection: &Collection, found: &mut Letters) -> Result<(), AllocError> {
+    for tile in collection.tiles.iter() {
+        let top = u32::from(tile.baseline.saturating_sub(tile.top));
+        append_letter(tile, top, collection.height_of(tile.page), found)?;
     }
     Ok(())
 }

@@ -322,7 +322,7 @@ fn add_pattern(
     if let Some(joined) = draw_pair(alloc, collection, pair)? {
         let number = collection
             .patterns
-            .number_of_drawing(&joined, collection.form)?;
+            .number_of_dots(joined.pattern(), collection.form)?;
         if let Some(number) = number {
             numbers.insert(pair, number)?;
         }

@@ -22,7 +22,7 @@ pub use metrics::{Metrics, find_metrics};
 pub use numbers::{
     append_labelled, append_signed, append_word, digit_count, number_of_place, short_number,
 };
-pub use parts::{FINE, Row, in_fine_parts, sum_parts};
+pub use parts::{FINE, ROW_BYTES, Row, in_fine_parts, sum_parts};
 pub use pattern_set::Patterns;
 pub use patterns::{Drawing, Pattern, PatternRows, row_bytes_of, rows_len};
 pub use stamping::{Dot, StampInk, stamp};

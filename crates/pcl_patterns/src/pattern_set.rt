@@ -4,7 +4,7 @@ use crate::forms::Form;
 use crate::lists::quotient;
 use crate::numbers::{number_of_place, short_number};
 use crate::parts::{Row, in_fine_parts, most_in_row};
-use crate::patterns::{Changes, Drawing, Pattern, row_bytes_of};
+use crate::patterns::{Changes, Pattern, row_bytes_of};
 use indexmap::IndexMap;
 use std::alloc::{AllocError, Global};
 use std::hash::{FoldHasher, Hasher};
@@ -139,13 +139,12 @@ impl Patterns {
         Ok(Some(number_of_place(place)))
     }
 
-    /// The number of a pattern that was drawn, which is added if it isn't there: none where there is no room.
-    pub fn number_of_drawing(
+    /// The number of a pattern, which is added with its dots if it isn't there: none where there is no room.
+    pub fn number_of_dots(
         &mut self,
-        drawing: &Drawing,
+        pattern: Pattern<'_>,
         form: Form,
     ) -> Result<Option<u32>, AllocError> {
-        let pattern = drawing.pattern();
         if !self.has_room(1, pattern.rows.len()) {
             return Ok(None);
         }

@@ -1,15 +1,17 @@
 //! The rules and the shapes of all pages of a job.
 
+use crate::bands::TILE_SIDE;
 use crate::baselines::{count_bottoms, guess_baseline};
 use crate::drawing::Drawings;
-use crate::page_rows::Unruled;
+use crate::page_rows::Unpainted;
 use crate::pictures::is_picture;
 use crate::rows::append_rows;
-use crate::rules::{Rules, find_rules};
+use crate::rules::{Rule, Rules, find_rules};
 use crate::runs::{KeptRuns, RowWalk};
 use crate::screening::screen_shapes;
 use crate::shapes::{Extent, Shapes, find_shapes};
-use pcl_bitmap::{Page, PageSink};
+use crate::tiles::{Tile, find_tiles};
+use pcl_bitmap::{Bitmap, Page, PageSink};
 use pcl_patterns::{Form, Pattern, Patterns, Row, number_of_place, short_number};
 use std::alloc::{AllocError, Global};
 use std::marker::Model;
@@ -55,6 +57,8 @@ pub struct Collection {
     /// The patterns of the shapes, each once.
     pub patterns: Patterns,
     pub placed: Vec<PlacedShape>,
+    /// The tiles of pictures that are printed as characters, page by page.
+    pub tiles: Vec<PlacedShape>,
     /// The rows of the pages in turn, each page's with a white one below them. Pages in a row whose rows are the same have them once.
     pub rows: Vec<Row>,
     /// For each page, how many rows come before its own.
@@ -82,6 +86,7 @@ impl Collection {
             rules: Rules::new(alloc),
             patterns: Patterns::new(alloc),
             placed: Vec::new(alloc),
+            tiles: Vec::new(alloc),
             rows: Vec::new(alloc),
             starts: Vec::new(alloc),
             shape_limit: FIRST_SHAPES,
@@ -118,18 +123,80 @@ impl Collection {
         self.heights.get(usize::from(page)).copied().unwrap_or(0)
     }
 
-    /// Collects the rules of a page, and the shapes of what is left of it.
+    /// Collects the tiles of a page, and unless the page is a picture its rules and the shapes of what is left of it.
     fn collect_page(&mut self, page: &Page) -> Result<(), AllocError> {
-        let rules = find_rules(*self.placed.allocator(), &page.bitmap)?;
+        let bitmap = &page.bitmap;
+        if is_picture(bitmap, self.page_bytes) {
+            self.find_tiles(bitmap, &[])?;
+            return Ok(());
+        }
+        let rules = find_rules(*self.placed.allocator(), bitmap)?;
         self.rules.add(&rules)?;
-        self.collect(Unruled {
-            bitmap: &page.bitmap,
+        let tiles = self.find_tiles(bitmap, &rules)?;
+        self.collect(Unpainted {
+            bitmap,
             rules: &rules,
+            tiles: &tiles,
         })
     }
 
+    /// Finds the tiles of a page without these rules that are printed as characters, and collects them: none where letters are macros,
+    /// which take more bytes each.
+    fn find_tiles(&mut self, bitmap: &Bitmap, rules: &[Rule]) -> Result<Vec<Tile>, AllocError> {
+        let alloc = *self.placed.allocator();
+        match self.form {
+            Form::Characters(_) => {
+                let page = Unpainted {
+                    bitmap,
+                    rules,
+                    tiles: &[],
+                };
+                let tiles = find_tiles(alloc, page, self.room_for_shapes())?;
+                self.collect_tiles(&tiles)?;
+                Ok(tiles)
+            }
+            Form::Macros { .. } => Ok(Vec::new(alloc)),
+        }
+    }
+
+    /// How many shapes more may be kept before a page is looked at.
+    fn room_for_shapes(&self) -> usize {
+        let kept = self.placed.len().saturating_add(self.tiles.len());
+        self.shape_limit.saturating_sub(kept)
+    }
+
+    /// Collects tiles of a page.
+    fn collect_tiles(&mut self, tiles: &[Tile]) -> Result<(), AllocError> {
+        for tile in tiles {
+            self.collect_tile(*tile)?;
+        }
+        Ok(())
+    }
+
+    /// Collects a tile of a page.
+    fn collect_tile(&mut self, tile: Tile) -> Result<(), AllocError> {
+        let rows = tile.rows();
+        let bytes = usize::from(tile.width());
+        let pattern = Pattern {
+            width: u32::from(tile.width()),
+            height: u32::from(TILE_SIDE),
+            rows: rows.get(..bytes).unwrap_or(&[]),
+        };
+        let Some(pattern) = self.patterns.number_of_dots(pattern, self.form)? else {
+            return Ok(());
+        };
+        self.tiles.push(PlacedShape {
+            page: short_number(number_of_place(self.heights.len())),
+            baseline: tile.top.saturating_add(TILE_SIDE),
+            x: tile.left,
+            top: tile.top,
+            pattern,
+        })?;
+        Ok(())
+    }
+
     /// Collects the shapes of a page, and what its rows take where it has some.
-    fn collect(&mut self, page: Unruled<'_>) -> Result<(), AllocError> {
+    fn collect(&mut self, page: Unpainted<'_>) -> Result<(), AllocError> {
         let alloc = *self.placed.allocator();
         let first = self.rows.len();
         let placed = self.placed.len();
@@ -159,7 +226,7 @@ impl Collection {
     /// Collects the shapes of a page that were found, unless none of them can be a letter. The first row of the page is in this place.
     fn collect_found(
         &mut self,
-        page: Unruled<'_>,
+        page: Unpainted<'_>,
         shapes: &Shapes,
         first: usize,
     ) -> Result<(), AllocError> {
@@ -180,7 +247,7 @@ impl Collection {
     /// Collects those shapes of a page that don't stay where they are.
     fn collect_shapes(
         &mut self,
-        page: Unruled<'_>,
+        page: Unpainted<'_>,
         shapes: &Shapes,
         stay: &[bool],
         first: usize,
@@ -196,7 +263,7 @@ impl Collection {
     /// each of its rows.
     fn collect_rows(
         &mut self,
-        page: Unruled<'_>,
+        page: Unpainted<'_>,
         runs: &KeptRuns,
         first: usize,
         drawings: &mut Drawings<'_>,
@@ -307,7 +374,7 @@ impl PageSink for Collection {
 
     fn page(&mut self, page: &Page) -> Result<(), AllocError> {
         let first = self.rows.len();
-        if self.placed.len() < self.shape_limit && !is_picture(&page.bitmap, self.page_bytes) {
+        if self.room_for_shapes() > 0 {
             self.collect_page(page)?;
         }
         self.end_page(page, first)

@@ -4,6 +4,7 @@
 //! is kept.
 #![tactic(auto)]
 
+mod bands;
 mod baselines;
 mod collecting;
 mod dots;
@@ -17,6 +18,7 @@ mod rules;
 mod runs;
 mod screening;
 mod shapes;
+mod tiles;
 mod upright_rules;
 mod words;
 

@@ -1,23 +1,39 @@
-//! The rows of a page without its rules.
+//! The rows of a page without its rules, and without the tiles of its pictures.
 
+use crate::bands::TILE_SIDE;
 use crate::dots::{are_equal, dots_of_byte, row_at};
 use crate::rules::Rule;
+use crate::shapes::Extent;
+use crate::tiles::Tile;
 use pcl_base::Dpi;
 use pcl_bitmap::Bitmap;
+use pcl_patterns::short_number;
 use std::alloc::{AllocError, Global};
 use std::mem::swap;
 
-/// A page without the dots of some rules.
+/// A page without the dots of some rules and tiles.
 #[derive(Clone, Copy)]
-pub struct Unruled<'a> {
+pub struct Unpainted<'a> {
     pub bitmap: &'a Bitmap,
     pub rules: &'a [Rule],
+    /// From the topmost ones down.
+    pub tiles: &'a [Tile],
 }
 
-impl<'a> Unruled<'a> {
+impl<'a> Unpainted<'a> {
     /// How many rows it has.
     pub fn height(self) -> u32 {
         self.bitmap.size().height(self.bitmap.dpi())
+    }
+
+    /// Its box.
+    pub fn area(self) -> Extent {
+        Extent {
+            left: 0,
+            top: 0,
+            right: short_number(self.bitmap.size().width(self.bitmap.dpi())),
+            bottom: short_number(self.height()),
+        }
     }
 
     /// Its resolution.
@@ -26,10 +42,12 @@ impl<'a> Unruled<'a> {
     }
 }
 
-/// Reads the rows of a page without the dots of its rules, from the topmost one on. Two rows are held.
+/// Reads the rows of a page without the dots of its rules and tiles, from the topmost one on. Two rows are held.
 #[derive(Drop)]
 pub struct PageRows<'a> {
-    page: Unruled<'a>,
+    page: Unpainted<'a>,
+    /// The tiles that end below the row that was read last.
+    tiles: &'a [Tile],
     /// The row that was read last.
     pub row: Vec<u8>,
     /// The row above it: empty above the topmost one.
@@ -38,9 +56,10 @@ pub struct PageRows<'a> {
 
 impl<'a> PageRows<'a> {
     /// Above the topmost row.
-    pub fn new(alloc: Global, page: Unruled<'a>) -> PageRows<'a> {
+    pub fn new(alloc: Global, page: Unpainted<'a>) -> PageRows<'a> {
         PageRows {
             page,
+            tiles: page.tiles,
             row: Vec::new(alloc),
             above: Vec::new(alloc),
         }
@@ -53,10 +72,22 @@ impl<'a> PageRows<'a> {
         self.row.extend_from_slice(row_at(self.page.bitmap, y))?;
         for rule in self.page.rules {
             if rule.is_in_row(y) {
-                whiten(&mut self.row, *rule);
+                whiten(&mut self.row, rule.left, rule.width);
             }
         }
+        self.whiten_tiles(y);
         Ok(())
+    }
+
+    /// Makes the dots of tiles white in row `y`, which was read.
+    fn whiten_tiles(&mut self, y: u32) {
+        self.tiles = tiles_from(self.tiles, y);
+        for tile in self.tiles {
+            if u32::from(tile.top) > y {
+                break;
+            }
+            whiten(&mut self.row, u32::from(tile.left), u32::from(tile.width()));
+        }
     }
 
     /// Whether the row is the one above once more.
@@ -65,12 +96,23 @@ impl<'a> PageRows<'a> {
     }
 }
 
-/// Makes the dots of a rule white in a row.
-fn whiten(row: &mut [u8], rule: Rule) {
-    let end = rule.left.saturating_add(rule.width);
-    for place in rule.left / 8..end.div_ceil(8) {
+/// The tiles, from the topmost ones down, that end below row `y`.
+fn tiles_from(tiles: &[Tile], y: u32) -> &[Tile] {
+    let above = tiles
+        .iter()
+        .position(|tile| y < u32::from(tile.top.saturating_add(TILE_SIDE)));
+    match above {
+        Some(count) => tiles.get(count..).unwrap_or(&[]),
+        None => &[],
+    }
+}
+
+/// Makes this many dots of a row white, from `left` on.
+fn whiten(row: &mut [u8], left: u32, width: u32) {
+    let end = left.saturating_add(width);
+    for place in left / 8..end.div_ceil(8) {
         if let Some(byte) = row.get_mut(place as usize) {
-            *byte &= !dots_of_byte(place, rule.left, end);
+            *byte &= !dots_of_byte(place, left, end);
         }
     }
 }

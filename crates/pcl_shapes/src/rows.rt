@@ -1,7 +1,7 @@
 //! What the rows of pages take in rasters.
 
 use crate::dots::are_equal;
-use crate::page_rows::{PageRows, Unruled};
+use crate::page_rows::{PageRows, Unpainted};
 use crate::words::{first_bytes, inked_bytes, padded_word};
 use pcl_base::ROW_LIMIT;
 use pcl_patterns::Row;
@@ -10,7 +10,7 @@ use std::alloc::{AllocError, Global};
 /// Appends the rows of a page, and the white one below them.
 pub fn append_rows(
     alloc: Global,
-    page: Unruled<'_>,
+    page: Unpainted<'_>,
     rows: &mut Vec<Row>,
 ) -> Result<(), AllocError> {
     let mut reader = PageRows::new(alloc, page);

@@ -1,7 +1,7 @@
 //! Runs of black dots in the rows of a page, and which of them hang together.
 
 use crate::edges::{append_edges, count_runs};
-use crate::page_rows::{PageRows, Unruled};
+use crate::page_rows::{PageRows, Unpainted};
 use pcl_base::Dpi;
 use pcl_bitmap::trimmed_len;
 use std::alloc::{AllocError, Global};
@@ -111,7 +111,7 @@ pub struct RowWalk<'a> {
 
 impl<'a> RowWalk<'a> {
     /// Above the topmost row of a page.
-    pub fn new(alloc: Global, page: Unruled<'a>) -> RowWalk<'a> {
+    pub fn new(alloc: Global, page: Unpainted<'a>) -> RowWalk<'a> {
         RowWalk {
             rows: PageRows::new(alloc, page),
             dpi: page.dpi(),

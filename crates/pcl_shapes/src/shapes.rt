@@ -1,6 +1,6 @@
 //! Shapes of a page: black dots that hang together, each the neighbour of another in one of eight directions.
 
-use crate::page_rows::Unruled;
+use crate::page_rows::Unpainted;
 use crate::runs::{BlackRun, KeptRuns, Link, RowWalk};
 use pcl_patterns::{number_of_place, short_number};
 use std::alloc::{AllocError, Global};
@@ -26,7 +26,7 @@ impl Extent {
     }
 
     /// The smallest box around both.
-    fn with(self, other: Extent) -> Extent {
+    pub fn with(self, other: Extent) -> Extent {
         Extent {
             left: self.left.min(other.left),
             top: self.top.min(other.top),
@@ -63,7 +63,7 @@ impl Shapes {
 }
 
 /// The shapes of a page. A run that touches one of the row above is of its shape.
-pub fn find_shapes(alloc: Global, page: Unruled<'_>) -> Result<Shapes, AllocError> {
+pub fn find_shapes(alloc: Global, page: Unpainted<'_>) -> Result<Shapes, AllocError> {
     let mut walk = RowWalk::new(alloc, page);
     let mut labels = Labels {
         parents: Vec::new(alloc),
