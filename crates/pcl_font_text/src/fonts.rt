@@ -32,23 +32,9 @@ struct Sent<'a> {
     /// How far its topmost row lies above the cursor, in dots.
     top: u32,
     /// In dots.
-    width: u32,
-    /// In dots.
-    height: u32,
-    /// In dots.
     advance: u32,
-    rows: &'a [u8],
-}
-
-impl<'a> Sent<'a> {
     /// Its dots.
-    fn pattern(self) -> Pattern<'a> {
-        Pattern {
-            width: self.width,
-            height: self.height,
-            rows: self.rows,
-        }
-    }
+    pattern: Pattern<'a>,
 }
 
 /// The resolution along x and along y that ends a header of format 20, in dots per inch; a header of format 0 has none.
@@ -126,10 +112,8 @@ fn sent_of_rank(
         code: code.code,
         left: layout.spacing.metrics.bearing(character.glyph),
         top: layout.letters.top_of(character.glyph),
-        width: pattern.width,
-        height: pattern.height,
         advance: character.advance,
-        rows: pattern.rows,
+        pattern,
     };
     Some((code.font, sent))
 }
@@ -150,10 +134,12 @@ fn append_blanks(layout: &FontLayout, out: &mut Vec<u8>) -> Result<(), AllocErro
             code: blank_code(number),
             left: 0,
             top: 0,
-            width: 1,
-            height: 1,
             advance: *gap,
-            rows: &[0],
+            pattern: Pattern {
+                width: 1,
+                height: 1,
+                rows: &[0],
+            },
         };
         append_character(&sent, layout.kind, out)?;
     }
@@ -164,12 +150,12 @@ fn append_blanks(layout: &FontLayout, out: &mut Vec<u8>) -> Result<(), AllocErro
 fn append_character(sent: &Sent<'_>, kind: FontKind, out: &mut Vec<u8>) -> Result<(), AllocError> {
     if kind.compresses {
         let mut compressed = Vec::new(*out.allocator());
-        append_compressed(sent.pattern(), &mut compressed)?;
-        if compressed.len() < sent.rows.len() {
+        append_compressed(sent.pattern, &mut compressed)?;
+        if compressed.len() < sent.pattern.rows.len() {
             return append_classed(sent, COMPRESSED, &compressed, out);
         }
     }
-    append_classed(sent, PLAIN, sent.rows, out)
+    append_classed(sent, PLAIN, sent.pattern.rows, out)
 }
 
 /// Appends a character: its code, and its descriptor and rows, of this class.
@@ -186,7 +172,8 @@ fn append_classed(
     out.extend_from_slice(&[b'W', 4, 0, 14, class, 0, 0])?;
     let advance = sent.advance.saturating_mul(QUARTERS);
     append_left(sent.left, out)?;
-    append_words(&[sent.top, sent.width, sent.height, advance], out)?;
+    let Pattern { width, height, .. } = sent.pattern;
+    append_words(&[sent.top, width, height, advance], out)?;
     out.extend_from_slice(rows)
 }
 
