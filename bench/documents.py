@@ -10,8 +10,8 @@ least raster has. With WORDs only documents are made whose names have all of the
 memory is the peak that GNU time tells of one more run: what wait4 tells of a child has in it what this script holds itself.
 
 The manual is that of bash, as groff sets it for Letter paper; dvilj prints docs/LANGUAGE.md in groff's fonts for TeX, and the two
-pages of document.tex. The invoice, the table of 40 by 8 cells, the label with a bar code, the spreadsheet and the ten letters are written
-here, other documents by clients.py.
+pages of document.tex. The invoice, the table of 40 by 8 cells, the label with a bar code, the spreadsheet, the ten letters and the
+photograph are written here, other documents by clients.py.
 
 Two columns are of image files of the same pages without loss, a file for each page: TIFF with Group 4 coding, as faxes have it, by
 netpbm, and JB2 by cjb2 of DjVu.
@@ -158,7 +158,30 @@ def letters():
     return lines
 
 
-WRITTEN = {"invoice": invoice, "table": table, "label": label, "spreadsheet": spreadsheet, "letters": letters}
+def height(x, y):
+    """A number from 0 to 255 for a crossing of two lines, the same in each run."""
+    number = (x * 374761393 + y * 668265263) & 0xFFFFFFFF
+    number = (number ^ number >> 13) * 1274126177 & 0xFFFFFFFF
+    return (number ^ number >> 16) & 255
+
+
+def waves(x, y, length):
+    """The height of a point between lines that are so far apart: that of the crossings around it, smoothed."""
+    column, row = x // length, y // length
+    right, down = (part * part * (3 - 2 * part) for part in (x % length / length, y % length / length))
+    upper, lower = (height(column, line) * (1 - right) + height(column + 1, line) * right for line in (row, row + 1))
+    return upper * (1 - down) + lower * down
+
+
+def photograph():
+    """450 by 450 greys in three inches: waves, and on these others, each half as long and half as high."""
+    grey = (sum(waves(x, y, 128 >> octave) / 2 ** (octave + 1) for octave in range(7)) for y in range(450) for x in range(450))
+    return ["gsave 198 400 translate 216 216 scale /shade 450 string def",
+            "450 450 8 [450 0 0 -450 0 450] { currentfile shade readhexstring pop } image",
+            "".join("%02x" % int(shade) for shade in grey), "grestore", "showpage"]
+
+
+WRITTEN = {"invoice": invoice, "table": table, "label": label, "spreadsheet": spreadsheet, "letters": letters, "photograph": photograph}
 
 
 def painted(dpi, document, options=""):
@@ -180,7 +203,7 @@ def documents():
             yield Document(name, dpi, painted(dpi, "manual-%d" % dpi, pages(count)))
         for name, title in (("form", "form with rules"), ("grey", "grey picture"), ("mixed", "mixed page"), ("invoice", "invoice"),
                             ("table", "table of 40 by 8 cells"), ("label", "label with a bar code"), ("spreadsheet", "spreadsheet"),
-                            ("letters", "ten letters"), ("text", "page of text")):
+                            ("letters", "ten letters"), ("photograph", "photograph"), ("text", "page of text")):
             yield Document(title, dpi, painted(dpi, name))
         for name, title in (("text", "text by dvilj"), ("document", "TeX by dvilj")):
             yield Document(title, dpi, "cat ../%s.pcl" % name)
