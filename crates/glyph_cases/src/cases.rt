@@ -47,7 +47,7 @@ const BOXES: [Rectangle; 24] = [
 
 /// Pages of letters, in lines, and of rectangles.
 #[derive(Clone, Copy)]
-pub struct Case {
+pub struct GlyphCase {
     pub name: &'static str,
     /// The resolution of the page, and of the dots of letters.
     pub dpi: Dpi,
@@ -77,7 +77,7 @@ pub struct Case {
 }
 
 /// A line of letters in the middle of a page, which the cases change.
-pub const LINE: Case = Case {
+pub const LINE: GlyphCase = GlyphCase {
     name: "a letter forty times",
     dpi: Dpi::Dpi300,
     start: b"",
@@ -97,7 +97,7 @@ pub const LINE: Case = Case {
 };
 
 /// The same at 600 dots per inch, at odd places.
-const FINE_LINE: Case = Case {
+const FINE_LINE: GlyphCase = GlyphCase {
     name: "a letter forty times, at 600",
     dpi: Dpi::Dpi600,
     x: 101,
@@ -108,7 +108,7 @@ const FINE_LINE: Case = Case {
 
 /// The same on a page that is moved, by 6 bytes: the drivers' profile reads it, so letters are characters of a font of 600 dots per inch.
 /// That takes 11 more than one of 300, 7 for the unit and 4 of the header.
-const MOVED_LINE: Case = Case {
+const MOVED_LINE: GlyphCase = GlyphCase {
     name: "a letter forty times on a moved page, at 600",
     start: b"\x1b&l36Z",
     ..FINE_LINE
@@ -117,7 +117,7 @@ const MOVED_LINE: Case = Case {
 /// A picture: 16 letters stand in turn, 48 in a line, as close as they are wide, so they touch each other. It is cut into tiles from dot
 /// 100 on, 49 in each of 48 rows: 23 pairs, of eight kinds, and three others. So a line has 26 codes, and the font eight characters of 44
 /// bytes and three of 36.
-const PICTURE: Case = Case {
+const PICTURE: GlyphCase = GlyphCase {
     name: "a picture",
     lines: 48,
     letters: 48,
@@ -131,7 +131,7 @@ const PICTURE: Case = Case {
 };
 
 /// A page of a rule. Around its rectangle are 38 bytes: two resets, 33 of the page text, a form feed.
-const RULE: Case = Case {
+const RULE: GlyphCase = GlyphCase {
     name: "a rule",
     lines: 0,
     rectangles: &[[100, 200, 600, 3]],
@@ -139,65 +139,65 @@ const RULE: Case = Case {
 };
 
 /// The same at 600 dots per inch, with 7 more for the unit.
-const FINE_RULE: Case = Case {
+const FINE_RULE: GlyphCase = GlyphCase {
     name: "a rule, at 600",
     dpi: Dpi::Dpi600,
     rectangles: &[[101, 201, 600, 5]],
     ..RULE
 };
 
-pub const CASES: [Case; 73] = [
+pub const CASES: [GlyphCase; 73] = [
     LINE,
-    Case {
+    GlyphCase {
         name: "one letter",
         letters: 1,
         ..LINE
     },
-    Case {
+    GlyphCase {
         name: "two letters in turn",
         kinds: 2,
         ..LINE
     },
-    Case {
+    GlyphCase {
         name: "a dot above each letter",
         dots: 1,
         ..LINE
     },
     // A letter and the dot above it are one character of 17 rows, the other letters one of nine: 2 for the reset, 79 for the font, 45
     // and 37 for its characters, 37 for the white raster, 8 for the selection, six lines of 11 and 40, a form feed, and the reset.
-    Case {
+    GlyphCase {
         name: "a dot above each second letter",
         lines: 6,
         dots: 2,
         ..LINE
     },
     // Four letters are one character, of nine rows of four bytes: 64 after the font's 79, for ten codes.
-    Case {
+    GlyphCase {
         name: "boxes that overlap",
         first: 0,
         step: 6,
         ..LINE
     },
-    Case {
+    GlyphCase {
         name: "letters that touch",
         first: 0,
         step: 4,
         ..LINE
     },
     // Two distances of ten are 23, which is the advance. None of the other rests is there eight times, so these are 31 moves of six bytes.
-    Case {
+    GlyphCase {
         name: "gaps in turn",
         shifts: &[0, 1, 3, 6, 5, 4, 2, 8, 0, 7],
         ..LINE
     },
-    Case {
+    GlyphCase {
         name: "gaps that are frequent",
         lines: 40,
         shifts: &[0, 1, 3, 6, 5, 4, 2, 8, 0, 7],
         ..LINE
     },
     // Eight rests of 5, which the space makes, and eight of 9, with a blank of 29 bytes: these two make three rests of 14.
-    Case {
+    GlyphCase {
         name: "two blanks in turn",
         shifts: &[
             0, 0, 5, 5, 14, 14, 19, 19, 28, 28, 33, 33, 42, 42, 47, 47, 56, 56, 61, 61, 70, 70, 75,
@@ -205,7 +205,7 @@ pub const CASES: [Case; 73] = [
         ],
         ..LINE
     },
-    Case {
+    GlyphCase {
         name: "advances that are no whole dots",
         lines: 40,
         letters: 20,
@@ -214,7 +214,7 @@ pub const CASES: [Case; 73] = [
         ..LINE
     },
     // The first letter of a line stands at the edge, so its glyph has no bearing to the right.
-    Case {
+    GlyphCase {
         name: "such advances from the left edge on",
         lines: 40,
         letters: 20,
@@ -224,7 +224,7 @@ pub const CASES: [Case; 73] = [
         shifts: &[0, 0, 0, 1, 1, 2, 2, 2, 3, 3, 4, 4, 4, 5, 5, 6, 6, 6, 7, 7],
         ..LINE
     },
-    Case {
+    GlyphCase {
         name: "a gap now and then",
         letters: 50,
         shifts: &[
@@ -232,7 +232,7 @@ pub const CASES: [Case; 73] = [
         ],
         ..LINE
     },
-    Case {
+    GlyphCase {
         name: "more letters than a font has codes",
         lines: 24,
         letters: 64,
@@ -240,7 +240,7 @@ pub const CASES: [Case; 73] = [
         first: 0,
         ..LINE
     },
-    Case {
+    GlyphCase {
         name: "more letters than all fonts have codes",
         pages: 4,
         lines: 78,
@@ -252,12 +252,12 @@ pub const CASES: [Case; 73] = [
         x: 40,
         ..LINE
     },
-    Case {
+    GlyphCase {
         name: "at the upper edge",
         y: 0,
         ..LINE
     },
-    Case {
+    GlyphCase {
         name: "at the left edge",
         lines: 40,
         letters: 1,
@@ -265,24 +265,24 @@ pub const CASES: [Case; 73] = [
         x: 0,
         ..LINE
     },
-    Case {
+    GlyphCase {
         name: "cut by the right edge",
         lines: 40,
         letters: 1,
         x: 2388,
         ..LINE
     },
-    Case {
+    GlyphCase {
         name: "a line up to the right edge",
         letters: 97,
         ..LINE
     },
-    Case {
+    GlyphCase {
         name: "cut by the lower edge",
         y: 3295,
         ..LINE
     },
-    Case {
+    GlyphCase {
         name: "lines that are near",
         lines: 40,
         leading: 11,
@@ -291,7 +291,7 @@ pub const CASES: [Case; 73] = [
     // Most shapes of the second line are the boxes, which end a row lower than the letters: it seems to stand there, and the first line
     // where its letters end. There are more letters than boxes, so both lines stand where these end: 2, 79, 37 and 38 for the
     // characters, 33, 8, twice 11 for the lines, 34 for their codes, twice 6 for a move back to the first box, which is nearer, and 3.
-    Case {
+    GlyphCase {
         name: "boxes that end lower than letters",
         lines: 2,
         letters: 10,
@@ -315,7 +315,7 @@ pub const CASES: [Case; 73] = [
     },
     // The last eight boxes stand seven rows higher than the others. They are a character of 34 bytes twice, and 28 codes more than the 213
     // of the letters. A box is nearer than the next letter, so eleven spaces stand between letters.
-    Case {
+    GlyphCase {
         name: "boxes that stand high too",
         rectangles: &[
             [164, 104, 4, 6],
@@ -351,7 +351,7 @@ pub const CASES: [Case; 73] = [
     },
     // Line feeds start 38 lines. They are set by 7 bytes for the margin, 9 for the spacing of 12.80 and 5 for the termination: with 162
     // around the lines, 51 for the first line, 41 for each of these, and 51 for the last one, which is in the last half inch.
-    Case {
+    GlyphCase {
         name: "lines down to the lower edge",
         lines: 40,
         leading: 80,
@@ -359,7 +359,7 @@ pub const CASES: [Case; 73] = [
     },
     // The font and what is around the pages take 128, the termination 5, a page text 36, its settings 7 and 8, its lines 21 and nine
     // times 11, the spacing that is set again 5, and a form feed.
-    Case {
+    GlyphCase {
         name: "lines of two pages with a length",
         start: b"\x1b&l66P",
         pages: 2,
@@ -367,7 +367,7 @@ pub const CASES: [Case; 73] = [
         letters: 10,
         ..LINE
     },
-    Case {
+    GlyphCase {
         name: "lines of two pages with a reset between",
         start: b"\x1bE",
         pages: 2,
@@ -375,31 +375,31 @@ pub const CASES: [Case; 73] = [
         letters: 10,
         ..LINE
     },
-    Case {
+    GlyphCase {
         name: "three pages",
         pages: 3,
         lines: 3,
         kinds: 5,
         ..LINE
     },
-    Case {
+    GlyphCase {
         name: "another size, and copies",
         start: b"\x1b&l26a2X",
         pages: 2,
         ..LINE
     },
     FINE_LINE,
-    Case {
+    GlyphCase {
         name: "one letter, at 600",
         letters: 1,
         ..FINE_LINE
     },
-    Case {
+    GlyphCase {
         name: "two letters in turn, at 600",
         kinds: 2,
         ..FINE_LINE
     },
-    Case {
+    GlyphCase {
         name: "a dot above each letter, at 600",
         dots: 1,
         ..FINE_LINE
@@ -407,38 +407,38 @@ pub const CASES: [Case; 73] = [
     // A letter and the dot above it are one macro of 126 bytes, the other letters one of 105. The two in turn are a phrase of 23, four
     // of these one of 31, and eight one of 47, so a line is 11 for its start and 15 for three macros: six lines after 37 for the white
     // raster and 5 for the method, between 9 for the reset and the unit, and 3 for the form feed and the reset.
-    Case {
+    GlyphCase {
         name: "a dot above each second letter, at 600",
         lines: 6,
         dots: 2,
         ..FINE_LINE
     },
     // Four letters are one macro here too, which is run ten times.
-    Case {
+    GlyphCase {
         name: "boxes that overlap, at 600",
         first: 0,
         step: 6,
         ..FINE_LINE
     },
-    Case {
+    GlyphCase {
         name: "letters that touch, at 600",
         first: 0,
         step: 4,
         ..FINE_LINE
     },
-    Case {
+    GlyphCase {
         name: "gaps in turn, at 600",
         shifts: &[0, 1, 3, 6, 5, 4, 2, 8, 0, 7],
         ..FINE_LINE
     },
-    Case {
+    GlyphCase {
         name: "gaps that are frequent, at 600",
         lines: 40,
         kinds: 3,
         shifts: &[0, 1, 3, 6, 5, 4, 2, 8, 0, 7],
         ..FINE_LINE
     },
-    Case {
+    GlyphCase {
         name: "advances that are no whole dots, at 600",
         lines: 40,
         letters: 20,
@@ -446,13 +446,13 @@ pub const CASES: [Case; 73] = [
         shifts: &[0, 0, 0, 1, 1, 2, 2, 2, 3, 3, 4, 4, 4, 5, 5, 6, 6, 6, 7, 7],
         ..FINE_LINE
     },
-    Case {
+    GlyphCase {
         name: "letters that go back, at 600",
         kinds: 4,
         shifts: &[0, 80, 7],
         ..FINE_LINE
     },
-    Case {
+    GlyphCase {
         name: "many letters, at 600",
         lines: 140,
         letters: 64,
@@ -460,12 +460,12 @@ pub const CASES: [Case; 73] = [
         first: 0,
         ..FINE_LINE
     },
-    Case {
+    GlyphCase {
         name: "at the upper edge, at 600",
         y: 0,
         ..FINE_LINE
     },
-    Case {
+    GlyphCase {
         name: "at the left edge, at 600",
         lines: 40,
         letters: 2,
@@ -474,30 +474,30 @@ pub const CASES: [Case; 73] = [
         shifts: &[0, 1, 3],
         ..FINE_LINE
     },
-    Case {
+    GlyphCase {
         name: "cut by the right edge, at 600",
         lines: 40,
         letters: 2,
         x: 4763,
         ..FINE_LINE
     },
-    Case {
+    GlyphCase {
         name: "a line up to the right edge, at 600",
         letters: 188,
         ..FINE_LINE
     },
-    Case {
+    GlyphCase {
         name: "cut by the lower edge, at 600",
         y: 6595,
         ..FINE_LINE
     },
-    Case {
+    GlyphCase {
         name: "lines that are near, at 600",
         lines: 40,
         leading: 11,
         ..FINE_LINE
     },
-    Case {
+    GlyphCase {
         name: "three pages, at 600",
         pages: 3,
         lines: 3,
@@ -506,13 +506,13 @@ pub const CASES: [Case; 73] = [
     },
     // The rule is wider than a letter may be. The one of page 1 takes 20 bytes as a rectangle and 25 in the raster, the one of page 2,
     // which stands further right and is half as wide, 22 and 21. Around them are 341.
-    Case {
+    GlyphCase {
         name: "a rule on each of two pages, at 600",
         start: b"\x1b*c2250a1b0P",
         pages: 2,
         ..FINE_LINE
     },
-    Case {
+    GlyphCase {
         name: "another size, and copies, at 600",
         start: b"\x1b&l26a2X",
         pages: 2,
@@ -522,13 +522,13 @@ pub const CASES: [Case; 73] = [
     RULE,
     FINE_RULE,
     // Twice 11 and 10: each rule is whole.
-    Case {
+    GlyphCase {
         name: "a cross",
         rectangles: &[[100, 300, 800, 3], [498, 100, 4, 400]],
         ..RULE
     },
     // 11 and 11, 7 and 4 for the lower side; 7 and 10 for the left one, which is as high as the frame, and 8 and 4 for the right one.
-    Case {
+    GlyphCase {
         name: "a frame",
         rectangles: &[
             [200, 200, 1000, 4],
@@ -539,7 +539,7 @@ pub const CASES: [Case; 73] = [
         ..RULE
     },
     // 11 and 10, a macro of 28 and its four runs of 11; 7 and 10, twice 7 and 4, and 8 and 4.
-    Case {
+    GlyphCase {
         name: "a table",
         rectangles: &[
             [300, 300, 900, 2],
@@ -555,19 +555,19 @@ pub const CASES: [Case; 73] = [
         ..RULE
     },
     // 213 for the letters, as without the rule, which is right below them; 10 and 11.
-    Case {
+    GlyphCase {
         name: "letters on a rule",
         rectangles: &[[90, 109, 1000, 2]],
         ..LINE
     },
     // 249 for the letters.
-    Case {
+    GlyphCase {
         name: "letters on a rule, at 600",
         rectangles: &[[90, 110, 1000, 3]],
         ..FINE_LINE
     },
     // 7 and 11, 8 and 4; 5 and 11, 8 and 4.
-    Case {
+    GlyphCase {
         name: "a rule at each edge",
         rectangles: &[
             [0, 0, 2400, 3],
@@ -578,30 +578,30 @@ pub const CASES: [Case; 73] = [
         ..RULE
     },
     // Twice 11 and 10.
-    Case {
+    GlyphCase {
         name: "rules of one dot",
         rectangles: &[[100, 500, 300, 1], [700, 100, 1, 300]],
         ..RULE
     },
     // 11 and 10, a macro of 27, and seven runs of it in 17.
-    Case {
+    GlyphCase {
         name: "a series of rules",
         rectangles: &SERIES,
         ..RULE
     },
-    Case {
+    GlyphCase {
         name: "a series of rules, at 600",
         rectangles: &SERIES,
         ..FINE_RULE
     },
     // 249 for the letters, whose macros have the highest IDs.
-    Case {
+    GlyphCase {
         name: "letters and a series of rules, at 600",
         rectangles: &SERIES,
         ..FINE_LINE
     },
     // 9 and 10, a macro of 27 and five runs in 13; 10 for the second bar, and five runs in 13. In the raster they would take 199.
-    Case {
+    GlyphCase {
         name: "bars",
         rectangles: &[
             [0, 100, 8, 150],
@@ -621,7 +621,7 @@ pub const CASES: [Case; 73] = [
     },
     // As rectangles they would take 338. The raster has 12 bytes before the 76 of its first row, in method 3 one for each bar and its own
     // one or two, and 202 for the 199 rows like it.
-    Case {
+    GlyphCase {
         name: "more bars than pay",
         rectangles: &[
             [0, 101, 16, 200],
@@ -659,7 +659,7 @@ pub const CASES: [Case; 73] = [
     },
     // 22 as a rectangle. A raster that starts at the rule takes five bytes more than the white one there, and 11 for its row: 16 beside
     // the 213 of the letters.
-    Case {
+    GlyphCase {
         name: "letters, and a short rule far from them",
         rectangles: &[[2000, 3000, 70, 1]],
         ..LINE
@@ -667,21 +667,21 @@ pub const CASES: [Case; 73] = [
     // 213 as at 300 dots per inch, and 17.
     MOVED_LINE,
     // As at 300 dots per inch, with 17 more; the last line takes 52.
-    Case {
+    GlyphCase {
         name: "lines down to the lower edge of a moved page, at 600",
         lines: 40,
         leading: 160,
         ..MOVED_LINE
     },
     // 230 for the letters.
-    Case {
+    GlyphCase {
         name: "letters on a rule of a moved page, at 600",
         rectangles: &[[90, 110, 1000, 3]],
         ..MOVED_LINE
     },
     // A box is a character of 3 bytes, a row that is repeated and two runs, in place of 60: 6 for the offset and 156 around the lines, of 11
     // and 8 codes.
-    Case {
+    GlyphCase {
         name: "boxes on a moved page",
         start: b"\x1b&l36Z",
         rectangles: &BOXES,
@@ -691,24 +691,24 @@ pub const CASES: [Case; 73] = [
     // margin, 11 to the first line, 1,248 codes, 47 line feeds, a form feed, and the reset.
     PICTURE,
     // As letters, like the next one, which has too few tiles side by side.
-    Case {
+    GlyphCase {
         name: "a picture of few tiles",
         lines: 8,
         ..PICTURE
     },
-    Case {
+    GlyphCase {
         name: "a narrow picture",
         lines: 96,
         letters: 12,
         ..PICTURE
     },
-    Case {
+    GlyphCase {
         name: "a picture, at 600",
         dpi: Dpi::Dpi600,
         ..PICTURE
     },
     // 17 more than at 300 dots per inch, as for letters.
-    Case {
+    GlyphCase {
         name: "a picture on a moved page, at 600",
         dpi: Dpi::Dpi600,
         start: b"\x1b&l36Z",

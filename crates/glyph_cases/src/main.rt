@@ -8,7 +8,7 @@
 
 mod cases;
 
-use cases::{CASES, Case, LINE, Rectangle};
+use cases::{CASES, GlyphCase, LINE, Rectangle};
 use itoa::Buffer;
 use pcl_base::{Dpi, JobFault, Profile};
 use pcl_shrink::{Readers, shrink};
@@ -50,7 +50,7 @@ fn print_outcome<R: Print + AllocGlobal>(
 }
 
 /// The job of a case.
-fn job_of(alloc: Global, case: &Case) -> Result<Vec<u8>, AllocError> {
+fn job_of(alloc: Global, case: &GlyphCase) -> Result<Vec<u8>, AllocError> {
     let mut job = Vec::new(alloc);
     for _ in 0..case.pages {
         job.extend_from_slice(case.start)?;
@@ -100,7 +100,7 @@ fn append_black_row(width: u32, job: &mut Vec<u8>) -> Result<(), AllocError> {
 }
 
 /// Appends the letters of a line.
-fn append_line(case: &Case, line: u32, job: &mut Vec<u8>) -> Result<(), AllocError> {
+fn append_line(case: &GlyphCase, line: u32, job: &mut Vec<u8>) -> Result<(), AllocError> {
     let y = case.y.saturating_add(line.saturating_mul(case.leading));
     let mut number = line.saturating_mul(case.letters);
     let mut x = case.x;
@@ -118,12 +118,12 @@ fn append_line(case: &Case, line: u32, job: &mut Vec<u8>) -> Result<(), AllocErr
 }
 
 /// Whether a dot stands above a letter of a line.
-fn is_dotted(case: &Case, place: u32) -> bool {
+fn is_dotted(case: &GlyphCase, place: u32) -> bool {
     place.checked_rem(case.dots) == Some(0)
 }
 
 /// How many dots a letter of a line stands further right.
-fn shift_of(case: &Case, place: u32) -> u32 {
+fn shift_of(case: &GlyphCase, place: u32) -> u32 {
     let turn = place as usize % case.shifts.len().max(1);
     case.shifts.get(turn).copied().unwrap_or(0)
 }

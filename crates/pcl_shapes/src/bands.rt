@@ -11,7 +11,7 @@ use std::alloc::{AllocError, Global};
 /// How many rows a tile has. It is as many dots wide: a byte.
 pub const TILE_SIDE: u16 = 8;
 
-/// Where the tiles of a page lie: so many dots right of its bytes, and so many below each eighth row.
+/// Where the tiles of a page lie: how many dots right of its bytes, and how many below each eighth row.
 #[derive(Clone, Copy, PartialEq, Eq)]
 pub struct Grid {
     pub right: u16,
@@ -46,7 +46,7 @@ impl Stretch {
         self.end.saturating_sub(self.start)
     }
 
-    /// What is in its places, as far as there are so many.
+    /// What is in its places, as far as they are there.
     pub fn of<T>(self, all: &[T]) -> &[T] {
         let front = all.get(..self.end).unwrap_or(all);
         front.get(self.start..).unwrap_or(&[])
@@ -180,7 +180,7 @@ impl<'a> Band<'a> {
     }
 }
 
-/// Appends the bytes of a part of a row, whose dots lie so many further left, fewer than eight.
+/// Appends the bytes of a part of a row, whose dots lie by this many further left, fewer than eight.
 fn append_shifted(
     row: &[u8],
     columns: Stretch,
