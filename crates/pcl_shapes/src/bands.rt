@@ -1,10 +1,10 @@
 //! Rows of a page, eight at a time, and the tiles in them.
 
-use crate::dots::row_at;
+use crate::dots::{are_equal, row_at};
 use crate::edges::count_runs;
 use crate::page_rows::{PageRows, Unpainted};
 use crate::shapes::Extent;
-use pcl_bitmap::trimmed_len;
+use pcl_bitmap::{Bitmap, trimmed_len};
 use pcl_patterns::{ROW_BYTES, short_number};
 use std::alloc::{AllocError, Global};
 
@@ -91,13 +91,17 @@ impl<'a> Band<'a> {
         }
     }
 
-    /// Reads eight rows from row `top` on, which come after those that were read. White ones have no tiles.
+    /// Reads eight rows from row `top` on, which come after those that were read. White ones have no tiles. Nor have those that are each
+    /// the row above once more: they take next to nothing in a raster.
     pub fn read(&mut self, top: u32) -> Result<(), AllocError> {
         let bottom = top.saturating_add(u32::from(TILE_SIDE));
         self.top = short_number(top);
         self.tiles.clear();
         if (top..bottom).all(|y| trimmed_len(row_at(self.page.bitmap, y)) == 0) {
             self.row.clear();
+            return Ok(());
+        }
+        if (top..bottom).all(|y| is_again(self.page.bitmap, y)) {
             return Ok(());
         }
         let count = self.columns.len();
@@ -178,6 +182,11 @@ impl<'a> Band<'a> {
         left.saturating_mul(TILE_SIDE)
             .saturating_add(self.grid.right)
     }
+}
+
+/// Whether row `y` of a page is the row above once more.
+fn is_again(bitmap: &Bitmap, y: u32) -> bool {
+    y > 0 && are_equal(row_at(bitmap, y), row_at(bitmap, y.saturating_sub(1)))
 }
 
 /// Appends the bytes of a part of a row, whose dots lie by this many further left, fewer than eight.
