@@ -26,6 +26,15 @@ const PAIR_USES: u16 = 96;
 /// About how many bytes lead to the first of some tiles side by side.
 const START_BYTES: usize = 6;
 
+/// About how many characters have their codes in one font.
+const FONT_CODES: usize = 160;
+
+/// About how many bytes select a font, where it isn't one of the first two.
+const SELECTION_BYTES: usize = 9;
+
+/// What is used more often than this is counted as if it were used as often as this.
+const MOST_USES: usize = 1_024;
+
 /// A picture is as wide as this many tiles.
 const LEAST_WIDTH: usize = 16;
 
@@ -35,8 +44,8 @@ const LEAST_RUNS: usize = 5;
 /// Fewer tiles than these on a page are no picture.
 const LEAST_TILES: usize = 512;
 
-/// Characters surely take fewer bytes where they do so by one part in this many: what rows take is known about.
-const MARGIN: i64 = 8;
+/// Of this many tiles below each other one is looked at where the grid is chosen.
+const SAMPLING: u16 = 4;
 
 /// How far right and down tiles may lie from the corner of the page.
 const SHIFTS: [u16; 4] = [0, 2, 4, 6];
@@ -106,19 +115,47 @@ fn tiles_in(
     grid: Grid,
     limit: usize,
 ) -> Result<Vec<Tile>, AllocError> {
-    let counts = TileCounts::of(alloc, page, grid)?;
-    let mut band = Band::new(alloc, page, grid, page.area());
-    let mut tiles = Vec::new(alloc);
-    for number in numbers_of(page, grid, page.area()) {
-        if tiles.len() < limit {
-            band.read(grid.top_of(number))?;
-            append_tiles(&band, &counts, &mut tiles)?;
-        }
+    let counts = TileCounts::of_page(alloc, page, grid)?;
+    let Pictures {
+        mut tiles,
+        stretches,
+    } = Pictures::of(alloc, page, grid, &counts, limit)?;
+    if tiles.len() >= LEAST_TILES {
+        let characters = Characters::of(alloc, counts, &tiles)?;
+        keep_shorter(&mut tiles, &stretches, &characters);
     }
     if tiles.len() < LEAST_TILES {
         tiles.clear();
     }
     Ok(tiles)
+}
+
+/// Keeps the tiles of the stretches that take fewer bytes as characters than in the raster.
+fn keep_shorter(tiles: &mut Vec<Tile>, stretches: &[PictureStretch], characters: &Characters) {
+    let mut kept: usize = 0;
+    let mut start: usize = 0;
+    for stretch in stretches {
+        let of_stretch = tiles.get(start..stretch.end).unwrap_or(&[]);
+        if characters.bytes_of(of_stretch) < in_fine_parts(stretch.raster_bytes) {
+            move_to(tiles, start..stretch.end, kept);
+            kept = kept.saturating_add(stretch.end.saturating_sub(start));
+        }
+        start = stretch.end;
+    }
+    tiles.truncate(kept);
+}
+
+/// Moves some tiles to an earlier place.
+fn move_to(tiles: &mut [Tile], places: Range<usize>, mut to: usize) {
+    for from in places {
+        let Some(tile) = tiles.get(from).copied() else {
+            break;
+        };
+        if let Some(place) = tiles.get_mut(to) {
+            *place = tile;
+        }
+        to = to.saturating_add(1);
+    }
 }
 
 /// The smallest box around tiles: none where there are none.
@@ -181,8 +218,10 @@ impl<'a> GridSearch<'a> {
         let alloc = *self.counts.counts.allocator();
         let mut band = Band::new(alloc, self.page, grid, self.area);
         for number in numbers_of(self.page, grid, self.area) {
-            band.read(grid.top_of(number))?;
-            self.counts.add_tiles(&band.tiles);
+            if number % SAMPLING == 0 {
+                band.read(grid.top_of(number))?;
+                self.counts.add_tiles(&band.tiles);
+            }
         }
         let bytes = self.counts.bytes();
         if bytes < self.least {
@@ -199,45 +238,69 @@ fn numbers_of(page: Unpainted<'_>, grid: Grid, area: Extent) -> Range<u16> {
     area.top / TILE_SIDE..end.min(area.bottom / TILE_SIDE)
 }
 
-/// Appends the tiles of a band that take fewer bytes as characters than in the raster.
-fn append_tiles(
-    band: &Band<'_>,
-    counts: &TileCounts,
-    tiles: &mut Vec<Tile>,
-) -> Result<(), AllocError> {
-    let mut place: usize = 0;
-    for _ in 0..band.tiles.len() {
-        let Some(stretch) = band.stretch_from(place) else {
-            break;
+/// The tiles of the pictures of a page, those of each stretch after the others.
+#[derive(Drop)]
+struct Pictures {
+    tiles: Vec<Tile>,
+    stretches: Vec<PictureStretch>,
+}
+
+/// A stretch of a picture.
+#[derive(Clone, Copy)]
+struct PictureStretch {
+    /// The place after its last tile.
+    end: usize,
+    /// About how many bytes its rows take in the raster.
+    raster_bytes: usize,
+}
+
+impl Pictures {
+    /// Those that lie so, up to about this many tiles.
+    fn of(
+        alloc: Global,
+        page: Unpainted<'_>,
+        grid: Grid,
+        counts: &TileCounts,
+        limit: usize,
+    ) -> Result<Pictures, AllocError> {
+        let mut band = Band::new(alloc, page, grid, page.area());
+        let mut pictures = Pictures {
+            tiles: Vec::new(alloc),
+            stretches: Vec::new(alloc),
         };
-        place = stretch.end;
-        if is_of_picture(band, stretch) {
-            append_stretch(band, counts, stretch, tiles)?;
+        for number in numbers_of(page, grid, page.area()) {
+            if pictures.tiles.len() < limit {
+                band.read(grid.top_of(number))?;
+                pictures.append(&band, counts)?;
+            }
         }
+        Ok(pictures)
     }
-    Ok(())
+
+    /// Appends the tiles of a band that are of pictures.
+    fn append(&mut self, band: &Band<'_>, counts: &TileCounts) -> Result<(), AllocError> {
+        let mut place: usize = 0;
+        for _ in 0..band.tiles.len() {
+            let Some(stretch) = band.stretch_from(place) else {
+                break;
+            };
+            place = stretch.end;
+            if is_of_picture(band, stretch) {
+                append_joined(band, counts, stretch, &mut self.tiles)?;
+                self.stretches.push(PictureStretch {
+                    end: self.tiles.len(),
+                    raster_bytes: band.raster_bytes(stretch),
+                })?;
+            }
+        }
+        Ok(())
+    }
 }
 
 /// Whether a stretch is of a picture.
 fn is_of_picture(band: &Band<'_>, stretch: Stretch) -> bool {
     let count = stretch.len();
     count >= LEAST_WIDTH && band.runs(stretch) >= count.saturating_mul(LEAST_RUNS)
-}
-
-/// Appends the tiles of a stretch where they surely take fewer bytes as characters.
-fn append_stretch(
-    band: &Band<'_>,
-    counts: &TileCounts,
-    stretch: Stretch,
-    tiles: &mut Vec<Tile>,
-) -> Result<(), AllocError> {
-    let before = tiles.len();
-    append_joined(band, counts, stretch, tiles)?;
-    let bytes = counts.bytes_of_all(tiles.get(before..).unwrap_or(&[]));
-    if bytes >= in_fine_parts(band.raster_bytes(stretch)) {
-        tiles.truncate(before);
-    }
-    Ok(())
 }
 
 /// Appends the tiles of a stretch that aren't white, two as one where they are often side by side.
@@ -267,7 +330,7 @@ fn append_joined(
     Ok(())
 }
 
-/// How often tiles are on a page, and two side by side.
+/// How often tiles are there, and two side by side.
 #[derive(Drop)]
 struct TileCounts {
     tiles: Counts,
@@ -275,12 +338,9 @@ struct TileCounts {
 }
 
 impl TileCounts {
-    /// How often those of a page are there that lie so.
-    fn of(alloc: Global, page: Unpainted<'_>, grid: Grid) -> Result<TileCounts, AllocError> {
-        let mut counts = TileCounts {
-            tiles: Counts::new(alloc)?,
-            pairs: Counts::new(alloc)?,
-        };
+    /// How often those of a page are there that lie so: two side by side and each of them.
+    fn of_page(alloc: Global, page: Unpainted<'_>, grid: Grid) -> Result<TileCounts, AllocError> {
+        let mut counts = TileCounts::new(alloc)?;
         let mut band = Band::new(alloc, page, grid, page.area());
         for number in numbers_of(page, grid, page.area()) {
             band.read(grid.top_of(number))?;
@@ -288,6 +348,26 @@ impl TileCounts {
             counts.pairs.add_pairs(&band.tiles);
         }
         Ok(counts)
+    }
+
+    /// How often those are there that are characters: two side by side, or one.
+    fn of_characters(alloc: Global, tiles: &[Tile]) -> Result<TileCounts, AllocError> {
+        let mut counts = TileCounts::new(alloc)?;
+        for tile in tiles {
+            match tile.next {
+                None => counts.tiles.add(hash_of(tile.dots)),
+                Some(next) => counts.pairs.add(hash_of_pair(tile.dots, next)),
+            }
+        }
+        Ok(counts)
+    }
+
+    /// None are there.
+    fn new(alloc: Global) -> Result<TileCounts, AllocError> {
+        Ok(TileCounts {
+            tiles: Counts::new(alloc)?,
+            pairs: Counts::new(alloc)?,
+        })
     }
 
     /// The tile right of the first of some, if the two are one character.
@@ -300,22 +380,134 @@ impl TileCounts {
         is_joined.then_some(second)
     }
 
-    /// About how many bytes a tile takes as a character, in fine parts: its code, and its part of what the character takes.
-    fn bytes_of(&self, tile: Tile) -> i64 {
-        let (bytes, count) = match tile.next {
-            None => (CHARACTER_BYTES, self.tiles.of(hash_of(tile.dots))),
-            Some(next) => (PAIR_BYTES, self.pairs.of(hash_of_pair(tile.dots, next))),
-        };
-        quotient(in_fine_parts(bytes), i64::from(count)).saturating_add(FINE)
+    /// How often the character of a tile is there.
+    fn uses_of(&self, tile: Tile) -> u16 {
+        match tile.next {
+            None => self.tiles.of(hash_of(tile.dots)),
+            Some(next) => self.pairs.of(hash_of_pair(tile.dots, next)),
+        }
+    }
+}
+
+/// The font in which a character has its code.
+#[derive(Clone, Copy, PartialEq, Eq)]
+enum CodeFont {
+    First,
+    Second,
+    Later,
+}
+
+impl CodeFont {
+    /// About how many bytes stand before a code of another font: SI or SO, or a selection.
+    fn bytes_to(self, next: CodeFont) -> usize {
+        if next == CodeFont::Later || self == CodeFont::Later {
+            return SELECTION_BYTES;
+        }
+        usize::from(self != next)
+    }
+}
+
+/// The characters of tiles: the more often they are used, the earlier are the fonts in which they have their codes.
+#[derive(Drop)]
+struct Characters {
+    /// How often tiles are on the page, as characters or not.
+    on_page: TileCounts,
+    counts: TileCounts,
+    /// How often each of the first font is used, at least.
+    first_uses: u16,
+    /// The same of the first two fonts.
+    second_uses: u16,
+}
+
+impl Characters {
+    /// Those of some tiles.
+    fn of(alloc: Global, on_page: TileCounts, tiles: &[Tile]) -> Result<Characters, AllocError> {
+        let counts = TileCounts::of_characters(alloc, tiles)?;
+        let mut uses = Uses::new(alloc)?;
+        uses.add(&counts.tiles);
+        uses.add(&counts.pairs);
+        Ok(Characters {
+            on_page,
+            counts,
+            first_uses: uses.least_of(FONT_CODES),
+            second_uses: uses.least_of(FONT_CODES.saturating_mul(2)),
+        })
     }
 
-    /// About how many bytes tiles side by side take as characters, with a margin, in fine parts.
-    fn bytes_of_all(&self, tiles: &[Tile]) -> i64 {
-        let mut bytes = in_fine_parts(START_BYTES);
-        for tile in tiles {
-            bytes = bytes.saturating_add(self.bytes_of(*tile));
+    /// The font in which what is used as often as this has its code.
+    fn font_of(&self, uses: u16) -> CodeFont {
+        if uses >= self.first_uses {
+            CodeFont::First
+        } else if uses >= self.second_uses {
+            CodeFont::Second
+        } else {
+            CodeFont::Later
         }
-        bytes.saturating_add(quotient(bytes, MARGIN))
+    }
+
+    /// About how many bytes tiles side by side take as characters, in fine parts: for each its code, what leads to its font,
+    /// and its part of what the character takes.
+    fn bytes_of(&self, tiles: &[Tile]) -> i64 {
+        let mut bytes = in_fine_parts(START_BYTES);
+        let mut last = CodeFont::First;
+        for tile in tiles {
+            let uses = self.on_page.uses_of(*tile);
+            let font = self.font_of(self.counts.uses_of(*tile));
+            let part = quotient(in_fine_parts(character_bytes(*tile)), i64::from(uses));
+            bytes = bytes
+                .saturating_add(in_fine_parts(last.bytes_to(font)))
+                .saturating_add(part)
+                .saturating_add(FINE);
+            last = font;
+        }
+        bytes
+    }
+}
+
+/// About how many bytes the character of a tile takes, once for the job.
+fn character_bytes(tile: Tile) -> usize {
+    match tile.next {
+        None => CHARACTER_BYTES,
+        Some(_) => PAIR_BYTES,
+    }
+}
+
+/// How many characters are used as often as each number says.
+#[derive(Drop)]
+struct Uses {
+    numbers: Vec<usize>,
+}
+
+impl Uses {
+    /// None are used.
+    fn new(alloc: Global) -> Result<Uses, AllocError> {
+        Ok(Uses {
+            numbers: vec![in alloc; 0usize; MOST_USES]?,
+        })
+    }
+
+    /// Adds those that are used as often as the counts say.
+    fn add(&mut self, counts: &Counts) {
+        for count in counts.counts.iter() {
+            let place = usize::from(*count).min(MOST_USES.saturating_sub(1));
+            if let Some(number) = self.numbers.get_mut(place) {
+                *number = number.saturating_add(1);
+            }
+        }
+    }
+
+    /// How often each of this many is used at least, the most frequent ones.
+    fn least_of(&self, count: usize) -> u16 {
+        let mut rest = count;
+        for passed in 1..MOST_USES {
+            let uses = MOST_USES.saturating_sub(passed);
+            let number = self.numbers.get(uses).copied().unwrap_or(0);
+            if number > rest {
+                return u16::try_from(uses).unwrap_or(u16::MAX).saturating_add(1);
+            }
+            rest = rest.saturating_sub(number);
+        }
+        0
     }
 }
 
@@ -370,12 +562,12 @@ impl Counts {
         self.counts.get(hash).copied().unwrap_or(0)
     }
 
-    /// About how many bytes all tiles take: each as a character, or eight where that is less.
+    /// About how many bytes all tiles take, of a sample of which the counts are: each as a character, or eight where that is less.
     fn bytes(&self) -> usize {
         let mut bytes: usize = 0;
         for count in self.counts.iter() {
             if *count != 0 {
-                let count = usize::from(*count);
+                let count = usize::from(count.saturating_mul(SAMPLING));
                 let character = count.saturating_add(CHARACTER_BYTES);
                 let rows = count.saturating_mul(usize::from(TILE_SIDE));
                 bytes = bytes.saturating_add(character.min(rows));
