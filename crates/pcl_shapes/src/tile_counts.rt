@@ -1,0 +1,156 @@
+//! How often tiles are on a page.
+
+use crate::bands::{Band, Grid, TILE_SIDE};
+use crate::page_rows::Unpainted;
+use crate::tile_characters::CHARACTER_BYTES;
+use crate::tile_grids::{SAMPLING, numbers_of};
+use crate::tiles::Tile;
+use std::alloc::{AllocError, Global};
+
+/// How many counts of tiles there are: each is of those that have one hash.
+const COUNTS: usize = 65_536;
+
+/// Two tiles are one character where they are side by side as often as this: then it takes fewer bytes than it saves.
+const PAIR_USES: u16 = 96;
+
+/// An odd number without a pattern, by which hashes are made.
+const HASH_FACTOR: u64 = 0x9E37_79B9_7F4A_7C15;
+
+/// How often tiles are there, and two side by side.
+#[derive(Drop)]
+pub struct TileCounts {
+    pub tiles: Counts,
+    pub pairs: Counts,
+}
+
+impl TileCounts {
+    /// How often those of a page are there that lie so: two side by side and each of them.
+    pub fn of_page(
+        alloc: Global,
+        page: Unpainted<'_>,
+        grid: Grid,
+    ) -> Result<TileCounts, AllocError> {
+        let mut counts = TileCounts::new(alloc)?;
+        let mut band = Band::new(alloc, page, grid, page.area());
+        for number in numbers_of(page, grid, page.area()) {
+            band.read(grid.top_of(number))?;
+            counts.tiles.add_tiles(&band.tiles);
+            counts.pairs.add_pairs(&band.tiles);
+        }
+        Ok(counts)
+    }
+
+    /// How often those are there that are characters: two side by side, or one.
+    pub fn of_characters(alloc: Global, tiles: &[Tile]) -> Result<TileCounts, AllocError> {
+        let mut counts = TileCounts::new(alloc)?;
+        for tile in tiles {
+            match tile.next {
+                None => counts.tiles.add(hash_of(tile.dots)),
+                Some(next) => counts.pairs.add(hash_of_pair(tile.dots, next)),
+            }
+        }
+        Ok(counts)
+    }
+
+    /// None are there.
+    fn new(alloc: Global) -> Result<TileCounts, AllocError> {
+        Ok(TileCounts {
+            tiles: Counts::new(alloc)?,
+            pairs: Counts::new(alloc)?,
+        })
+    }
+
+    /// The tile right of the first of some, if the two are one character.
+    pub fn next_of(&self, tiles: &[u64]) -> Option<u64> {
+        let first = *tiles.first()?;
+        let second = *tiles.get(1)?;
+        let is_joined = first != 0
+            && second != 0
+            && self.pairs.of(hash_of_pair(first, second)) >= PAIR_USES;
+        is_joined.then_some(second)
+    }
+
+    /// How often the character of a tile is there.
+    pub fn uses_of(&self, tile: Tile) -> u16 {
+        match tile.next {
+            None => self.tiles.of(hash_of(tile.dots)),
+            Some(next) => self.pairs.of(hash_of_pair(tile.dots, next)),
+        }
+    }
+}
+
+/// How often what has each hash is there.
+#[derive(Drop)]
+pub struct Counts {
+    pub counts: Vec<u16>,
+}
+
+impl Counts {
+    /// Nothing is there.
+    pub fn new(alloc: Global) -> Result<Counts, AllocError> {
+        Ok(Counts {
+            counts: vec![in alloc; 0u16; COUNTS]?,
+        })
+    }
+
+    /// Forgets what was counted.
+    pub fn clear(&mut self) {
+        self.counts.fill(0);
+    }
+
+    /// Counts those of some tiles that aren't white.
+    pub fn add_tiles(&mut self, tiles: &[u64]) {
+        for dots in tiles {
+            if *dots != 0 {
+                self.add(hash_of(*dots));
+            }
+        }
+    }
+
+    /// Counts two tiles side by side that aren't white.
+    fn add_pairs(&mut self, tiles: &[u64]) {
+        let mut left: u64 = 0;
+        for dots in tiles {
+            if left != 0 && *dots != 0 {
+                self.add(hash_of_pair(left, *dots));
+            }
+            left = *dots;
+        }
+    }
+
+    /// Counts what has a hash.
+    fn add(&mut self, hash: usize) {
+        if let Some(count) = self.counts.get_mut(hash) {
+            *count = count.saturating_add(1);
+        }
+    }
+
+    /// How often what has a hash is there.
+    fn of(&self, hash: usize) -> u16 {
+        self.counts.get(hash).copied().unwrap_or(0)
+    }
+
+    /// About how many bytes all tiles take, of a sample of which the counts are: each as a character, or eight where that is less.
+    pub fn bytes(&self) -> usize {
+        let mut bytes: usize = 0;
+        for count in self.counts.iter() {
+            if *count != 0 {
+                let count = usize::from(count.saturating_mul(SAMPLING));
+                let character = count.saturating_add(CHARACTER_BYTES);
+                let rows = count.saturating_mul(usize::from(TILE_SIDE));
+                bytes = bytes.saturating_add(character.min(rows));
+            }
+        }
+        bytes
+    }
+}
+
+/// A hash of the dots of a tile, below the number of counts.
+fn hash_of(dots: u64) -> usize {
+    (dots.wrapping_mul(HASH_FACTOR) >> 48) as usize
+}
+
+/// A hash of two tiles side by side.
+fn hash_of_pair(left: u64, right: u64) -> usize {
+    hash_of(left.wrapping_mul(HASH_FACTOR) ^ right)
+}
