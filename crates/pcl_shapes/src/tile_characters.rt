@@ -41,12 +41,10 @@ impl CodeFont {
     }
 }
 
-/// The characters of tiles: the more often they are used, the earlier are the fonts in which they have their codes.
+/// Which font the characters of tiles have their codes in: the more often one is used, the earlier.
 #[derive(Drop)]
-pub struct Characters {
-    /// How often tiles are on the page, as characters or not.
-    on_page: TileCounts,
-    /// How often they are used.
+pub struct CodeFonts {
+    /// How often the characters are used.
     counts: TileCounts,
     /// How often each of the first font is used, at least.
     first_uses: u16,
@@ -54,26 +52,21 @@ pub struct Characters {
     second_uses: u16,
 }
 
-impl Characters {
-    /// Those of some tiles.
-    pub fn of(
-        alloc: Global,
-        on_page: TileCounts,
-        tiles: &[Tile],
-    ) -> Result<Characters, AllocError> {
+impl CodeFonts {
+    /// Those of the characters of these tiles.
+    pub fn of(alloc: Global, tiles: &[Tile]) -> Result<CodeFonts, AllocError> {
         let counts = TileCounts::of_characters(alloc, tiles)?;
         let mut uses = Uses::new(alloc)?;
         uses.add(&counts.tiles);
         uses.add(&counts.pairs);
-        Ok(Characters {
-            on_page,
+        Ok(CodeFonts {
             counts,
             first_uses: uses.least_of(FONT_CODES),
             second_uses: uses.least_of(FONT_CODES.saturating_mul(2)),
         })
     }
 
-    /// The font in which what is used as often as this has its code.
+    /// The font of what is used as often as this.
     fn font_of(&self, uses: u16) -> CodeFont {
         if uses >= self.first_uses {
             CodeFont::First
@@ -84,23 +77,29 @@ impl Characters {
         }
     }
 
-    /// About how many bytes tiles side by side take as characters, in fine parts: for each its code, what leads to its font,
-    /// and its part of what the character takes.
-    pub fn bytes_of(&self, tiles: &[Tile]) -> i64 {
-        let mut bytes = in_fine_parts(START_BYTES);
+    /// About how many bytes lead from font to font where tiles are side by side, in fine parts.
+    pub fn bytes_between(&self, tiles: &[Tile]) -> i64 {
+        let mut bytes: usize = 0;
         let mut last = CodeFont::First;
         for tile in tiles {
-            let uses = self.on_page.uses_of(*tile);
             let font = self.font_of(self.counts.uses_of(*tile));
-            let part = quotient(in_fine_parts(character_bytes(*tile)), i64::from(uses));
-            bytes = bytes
-                .saturating_add(in_fine_parts(last.bytes_to(font)))
-                .saturating_add(part)
-                .saturating_add(FINE);
+            bytes = bytes.saturating_add(last.bytes_to(font));
             last = font;
         }
-        bytes
+        in_fine_parts(bytes)
     }
+}
+
+/// About how many bytes tiles side by side take as characters of one font, in fine parts: for each its code, and its part of what the
+/// character takes.
+pub fn bytes_in_one_font(counts: &TileCounts, tiles: &[Tile]) -> i64 {
+    let mut bytes = in_fine_parts(START_BYTES);
+    for tile in tiles {
+        let uses = i64::from(counts.uses_of(*tile));
+        let part = quotient(in_fine_parts(character_bytes(*tile)), uses);
+        bytes = bytes.saturating_add(part).saturating_add(FINE);
+    }
+    bytes
 }
 
 /// About how many bytes the character of a tile takes, once for the job.

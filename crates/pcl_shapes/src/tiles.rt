@@ -7,7 +7,7 @@
 use crate::bands::{Band, Grid, Stretch, TILE_SIDE};
 use crate::page_rows::Unpainted;
 use crate::shapes::Extent;
-use crate::tile_characters::Characters;
+use crate::tile_characters::{CodeFonts, bytes_in_one_font};
 use crate::tile_counts::TileCounts;
 use crate::tile_grids::{best_grid, numbers_of};
 use pcl_patterns::in_fine_parts;
@@ -88,14 +88,13 @@ fn tiles_in(
     grid: Grid,
     limit: usize,
 ) -> Result<Vec<Tile>, AllocError> {
-    let counts = TileCounts::of_page(alloc, page, grid)?;
     let Pictures {
         mut tiles,
         stretches,
-    } = Pictures::of(alloc, page, grid, &counts, limit)?;
+    } = Pictures::of(alloc, page, grid, limit)?;
     if tiles.len() >= LEAST_TILES {
-        let characters = Characters::of(alloc, counts, &tiles)?;
-        keep_shorter(&mut tiles, &stretches, &characters);
+        let fonts = CodeFonts::of(alloc, &tiles)?;
+        keep_shorter(&mut tiles, &stretches, &fonts);
     }
     if tiles.len() < LEAST_TILES {
         tiles.clear();
@@ -103,13 +102,13 @@ fn tiles_in(
     Ok(tiles)
 }
 
-/// Keeps the tiles of the stretches that take fewer bytes as characters than in the raster.
-fn keep_shorter(tiles: &mut Vec<Tile>, stretches: &[PictureStretch], characters: &Characters) {
+/// Keeps the tiles of the stretches that take fewer bytes as characters of these fonts than in the raster.
+fn keep_shorter(tiles: &mut Vec<Tile>, stretches: &[PictureStretch], fonts: &CodeFonts) {
     let mut kept: usize = 0;
     let mut start: usize = 0;
     for stretch in stretches {
         let of_stretch = tiles.get(start..stretch.end).unwrap_or(&[]);
-        if characters.bytes_of(of_stretch) < in_fine_parts(stretch.raster_bytes) {
+        if fonts.bytes_between(of_stretch) < stretch.gain {
             move_to(tiles, start..stretch.end, kept);
             kept = kept.saturating_add(stretch.end.saturating_sub(start));
         }
@@ -164,19 +163,19 @@ struct Pictures {
 struct PictureStretch {
     /// The place after its last tile.
     end: usize,
-    /// About how many bytes its rows take in the raster.
-    raster_bytes: usize,
+    /// About how many bytes less it takes as characters of one font than in the raster, in fine parts.
+    gain: i64,
 }
 
 impl Pictures {
-    /// Those that lie so, up to about this many tiles.
+    /// Those that lie so, up to about this many tiles. Stretches that would gain nothing in one font are left out.
     fn of(
         alloc: Global,
         page: Unpainted<'_>,
         grid: Grid,
-        counts: &TileCounts,
         limit: usize,
     ) -> Result<Pictures, AllocError> {
+        let counts = TileCounts::of_page(alloc, page, grid)?;
         let mut band = Band::new(alloc, page, grid, page.area());
         let mut pictures = Pictures {
             tiles: Vec::new(alloc),
@@ -185,7 +184,7 @@ impl Pictures {
         for number in numbers_of(page, grid, page.area()) {
             if pictures.tiles.len() < limit {
                 band.read(grid.top_of(number))?;
-                pictures.append(&band, counts)?;
+                pictures.append(&band, &counts)?;
             }
         }
         Ok(pictures)
@@ -200,12 +199,28 @@ impl Pictures {
             };
             place = stretch.end;
             if is_of_picture(band, stretch) {
-                append_joined(band, counts, stretch, &mut self.tiles)?;
-                self.stretches.push(PictureStretch {
-                    end: self.tiles.len(),
-                    raster_bytes: band.raster_bytes(stretch),
-                })?;
+                self.append_stretch(band, counts, stretch)?;
             }
+        }
+        Ok(())
+    }
+
+    /// Appends the tiles of a stretch, if it gains.
+    fn append_stretch(
+        &mut self,
+        band: &Band<'_>,
+        counts: &TileCounts,
+        stretch: Stretch,
+    ) -> Result<(), AllocError> {
+        let start = self.tiles.len();
+        append_joined(band, counts, stretch, &mut self.tiles)?;
+        let bytes = bytes_in_one_font(counts, self.tiles.get(start..).unwrap_or(&[]));
+        let gain = in_fine_parts(band.raster_bytes(stretch)).saturating_sub(bytes);
+        if gain > 0 {
+            let end = self.tiles.len();
+            self.stretches.push(PictureStretch { end, gain })?;
+        } else {
+            self.tiles.truncate(start);
         }
         Ok(())
     }
