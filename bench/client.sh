@@ -17,12 +17,12 @@
 #   ippevepcl    cups-ipp-utils                 (0, 100): `&a120V`, 50 dots, below `&l2E` at 12 lines an inch, 50 more
 #   Gutenprint   printer-driver-gutenprint      (0, 50): `&a120V` below the top margin 0
 #   hp2xx        hp2xx                          (0, 0) of A4: `&l26A`, `&l0E`, `&a0V`; without them the first line, (0, 187)
-#   barcode      barcode                        rectangles: as decode.py paints them
-#   dvilj        texlive-binaries,              text in soft fonts, and rectangles: as decode.py paints them, and as dvips and
-#                texlive-base                   gs paint the same document: (0, 0) lies on (83, -1) of their sheet, since
+#   barcode      barcode                        rectangles: as oracle/plain paints them
+#   dvilj        texlive-binaries,              text in soft fonts, and rectangles: as oracle/plain paints them, and as dvips
+#                texlive-base                   and gs paint the same document: (0, 0) lies on (83, -1) of their sheet, since
 #                                               dvilj counts from an inch less 84 dots, and the two round otherwise
 #
-# PCLMIN names another build of pclmin. Needs Python 3; the packages are installed where they are missing.
+# PCLMIN names another build of pclmin. Needs Python 3 and rustc; the packages are installed where they are missing.
 set -euo pipefail
 cd "$(dirname "$0")/.."
 source bench/program.sh
@@ -90,11 +90,11 @@ shows() {
     write_again "$job" "$dpi"
 }
 
-# Page 1 has to be what decode.py makes of the job, which knows nothing of pclmin.
+# Page 1 has to be what the plain program paints, which shares no line with pclmin.
 says() {
     local job=$1 dpi=$2
     preview "$job" "$dpi"
-    python3 bench/decode.py "$job" "$dpi" | cmp -s - "$job.preview" || wrong="WRONG: $job isn't previewed as decode.py paints it"
+    "$PLAIN" pbm --page 1 --dpi "$dpi" < "$job" | cmp -s - "$job.preview" || wrong="WRONG: $job isn't previewed as oracle/plain paints it"
     write_again "$job" "$dpi"
 }
 
@@ -126,12 +126,12 @@ pbmtolj_jobs() {
     done
 }
 
-# A white row that pbmtolj means otherwise than it says: the preview is what the job says, and decode.py finds the bitmap
+# A white row that pbmtolj means otherwise than it says: the preview is what the job says, and meant.py finds the bitmap
 # in it where a white row is read as pbmtolj means it.
 says_otherwise() {
     local job=$1 dpi=$2 bitmap=$3
     says "$job" "$dpi"
-    python3 bench/decode.py "$job" "$bitmap" | cmp -s - "$bitmap" || wrong="WRONG: $job isn't $bitmap in any way"
+    python3 bench/meant.py "$job" "$bitmap" | cmp -s - "$bitmap" || wrong="WRONG: $job isn't $bitmap in any way"
 }
 
 pbmtolj_rows() {
@@ -378,6 +378,7 @@ if ! dpkg-query -W $PACKAGES > /dev/null 2>&1; then
     apt-get update -qq && DEBIAN_FRONTEND=noninteractive apt-get install -y -qq --no-install-recommends $PACKAGES > /dev/null
 fi
 mkdir -p "$work"
+build_plain
 python3 bench/bitmaps.py "$work"
 python3 examples/draw.py "$work/picture.pbm"
 

@@ -8,6 +8,6 @@ source bench/program.sh
 if [ ! -x /usr/bin/time ]; then
     apt-get update -qq && apt-get install -y -qq time > /dev/null
 fi
-rustc -O -C codegen-units=1 --edition 2024 -o build/bench/plain oracle/plain/main.rs
+build_plain
 python3 bench/make_jobs.py build/bench
-python3 bench/measure.py "$PCLMIN" build/bench/plain build/bench
+python3 bench/measure.py "$PCLMIN" "$PLAIN" build/bench
