@@ -1,5 +1,5 @@
 -- The resolution at which two jobs are compared that are accepted at 300 dots per inch, or at neither.
-use Rattle.std.proofs.Common.{◌≡◌, ◌≢◌, ℕ, List, Bool, Result, Ok, Err, IfOk, inl, inr}
+use Rattle.std.proofs.Common.{◌≢◌, ℕ, List, Bool, Result, Ok, Err, IfOk, inl, inr}
 use Rattle.pcl_answers.proofs.Names.{AskedComparison, AreComparedAt, IsComparisonFor, IsFiner}
 use Rattle.pcl_base.specs.declared.dpi.Dpi.{Dpi}
 use Rattle.pcl_base.specs.declared.dpi.Dpi.TheVariants.{Dpi300, Dpi600}
