@@ -18,7 +18,8 @@ const REFUSED: &str = "pclmin: refused: ";
 /// How the line ends of a raster whose resolution isn't known at the run's.
 const RESOLUTION: &str = " *tR\n";
 
-/// Prints the line of a run that failed, which these words asked for. What standard error doesn't take is lost.
+/// Prints the line of a run that failed, which these words asked for: none where standard output isn't read to its end. What standard
+/// error doesn't take is lost.
 pub(crate) fn print_fault(
     rt: &HostRuntime,
     line: &str,
@@ -28,6 +29,7 @@ pub(crate) fn print_fault(
 ) {
     match troubles.take() {
         Some(trouble) => print_trouble(rt, line, words, &trouble),
+        None if troubles.is_unread() && line.starts_with(UNWRITTEN) => {}
         None => {
             let _ = rt.eprint(line);
         }

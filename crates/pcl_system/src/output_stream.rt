@@ -21,8 +21,8 @@ impl<'a, W: Write> OutputStream<'a, W> {
     fn came<T>(&self, done: io::Result<T>) -> io::Result<T>
         ensures { result ≡ done }
     {
-        if done.is_err() {
-            self.troubles.forget();
+        if let Err(error) = &done {
+            self.troubles.note_output(error);
         }
         done
     }

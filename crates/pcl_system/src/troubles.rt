@@ -1,4 +1,5 @@
-//! What stood in the way of a run: the file that couldn't be read or written, and why; and how the job begins that was read.
+//! What stood in the way of a run: the file that couldn't be read or written, and why, or a reader of standard output that went away; and
+//! how the job begins that was read.
 
 use std::cell::Cell;
 use std::io::{self, ErrorKind};
@@ -56,6 +57,7 @@ impl Trouble {
 #[derive(Drop)]
 pub struct Troubles {
     last: Cell<Option<Trouble>>,
+    is_unread: Cell<bool>,
     start: Cell<[u8; START_LENGTH]>,
 }
 
@@ -63,6 +65,7 @@ impl Troubles {
     pub fn new() -> Troubles {
         Troubles {
             last: Cell::new(None),
+            is_unread: Cell::new(false),
             start: Cell::new([0; START_LENGTH]),
         }
     }
@@ -70,6 +73,11 @@ impl Troubles {
     /// The trouble that came last. It is forgotten then.
     pub fn take(&self) -> Option<Trouble> {
         self.last.replace(None)
+    }
+
+    /// Whether nobody reads standard output any more, as where it goes to `head`.
+    pub fn is_unread(&self) -> bool {
+        self.is_unread.get()
     }
 
     /// The first bytes of the job that was read last, zeros after it where it is shorter.
@@ -80,6 +88,13 @@ impl Troubles {
     /// Forgets what came: what fails now is no file that is named.
     pub(crate) fn forget(&self) {
         let _ = self.last.replace(None);
+    }
+
+    /// Keeps whether an error of standard output, which is no named file, is that nobody reads it.
+    pub(crate) fn note_output(&self, error: &io::Error) {
+        self.forget();
+        self.is_unread
+            .set(matches!(error.kind(), ErrorKind::BrokenPipe));
     }
 
     /// Keeps how a job begins.
