@@ -1,11 +1,11 @@
 //! Fonts and codes of characters.
 
-/// How many codes a font of type 1 has for characters: 33 to 126 and 161 to 255. 127 and 160 are left out, which symbol
-/// sets give to a filled box and to a hard space.
-const CODES: usize = 189;
+use pcl_patterns::FONT_CODES;
+use std::ops::Range;
 
-/// The codes up to 126.
-const LOW_CODES: usize = 94;
+/// The codes that fonts have for characters, which are of type 2. What symbol sets give to control codes, to a filled box and to a hard
+/// space is left out: the codes below 32, 127 and 160.
+const CODES: [Range<usize>; 3] = [33..127, 128..160, 161..256];
 
 /// The fonts of a job. A page uses no more of them, and a printer has to hold 16 fonts on a page.
 const FONT_LIMIT: usize = 16;
@@ -20,7 +20,7 @@ pub struct Code {
     pub code: u8,
 }
 
-/// The code of the blank of this number, which is the same in each font.
+/// The code of the blank of this number. The first is the space; the others are characters of the first font.
 pub fn blank_code(number: usize) -> u8 {
     match number.checked_sub(1) {
         None => SPACE,
@@ -28,15 +28,13 @@ pub fn blank_code(number: usize) -> u8 {
     }
 }
 
-/// The font and the code of the character of this rank, where each font has this many blanks. None is left for those of
-/// too high a rank.
+/// The font and the code of the character of this rank, after those of as many blanks. None is left for those of too high a rank.
 pub fn code_of_rank(rank: usize, blanks: usize) -> Option<Code> {
-    let first = blanks.saturating_sub(1);
-    let count = CODES.saturating_sub(first).max(1);
-    let font = rank / count;
+    let place = blanks.saturating_sub(1).saturating_add(rank);
+    let font = place / FONT_CODES;
     (font < FONT_LIMIT).then_some(Code {
         font,
-        code: nth_code(first.saturating_add(rank % count)),
+        code: nth_code(place % FONT_CODES),
     })
 }
 
@@ -47,10 +45,12 @@ pub fn font_id(font: usize) -> u32 {
 
 /// The code in this place, from 0, of those that a font has.
 fn nth_code(place: usize) -> u8 {
-    let code = if place < LOW_CODES {
-        place.saturating_add(33)
-    } else {
-        place.saturating_sub(LOW_CODES).saturating_add(161)
-    };
-    u8::try_from(code).unwrap_or(u8::MAX)
+    let mut rest = place;
+    for range in CODES {
+        if rest < range.len() {
+            return u8::try_from(range.start.saturating_add(rest)).unwrap_or(u8::MAX);
+        }
+        rest = rest.saturating_sub(range.len());
+    }
+    u8::MAX
 }

@@ -29,8 +29,8 @@ struct Sent<'a> {
     code: u8,
     /// How far right of the cursor its left edge stands, in dots.
     left: i32,
-    /// How far its topmost row lies above the cursor, in dots.
-    top: u32,
+    /// How far its topmost row lies above the cursor, in dots, or below it under 0.
+    top: i32,
     /// In dots.
     advance: u32,
     /// Its dots.
@@ -118,23 +118,26 @@ fn sent_of_rank(
     Some((code.font, sent))
 }
 
-/// Appends a font and its blanks.
+/// Appends a font, the first one with the blanks.
 fn append_font(layout: &FontLayout, font: usize, out: &mut Vec<u8>) -> Result<(), AllocError> {
     append_labelled(b"\x1b*c", font_id(font), out)?;
     append_labelled(b"D\x1b)s", header_bytes(layout.kind), out)?;
     out.extend_from_slice(b"W")?;
     append_header(layout, out)?;
-    append_blanks(layout, out)
+    if font == 0 {
+        append_blanks(layout, out)?;
+    }
+    Ok(())
 }
 
-/// Appends the blanks of a font but the first, which is its pitch.
+/// Appends the blanks but the space.
 fn append_blanks(layout: &FontLayout, out: &mut Vec<u8>) -> Result<(), AllocError> {
-    for (number, gap) in layout.spacing.blanks.keys().enumerate().skip(1) {
+    for (number, advance) in layout.spacing.blanks.advances().iter().enumerate().skip(1) {
         let sent = Sent {
             code: blank_code(number),
             left: 0,
             top: 0,
-            advance: *gap,
+            advance: *advance,
             pattern: Pattern {
                 width: 1,
                 height: 1,
@@ -171,15 +174,16 @@ fn append_classed(
     // Format 4, no continuation, a descriptor of 14 bytes, the class, portrait.
     out.extend_from_slice(&[b'W', 4, 0, 14, class, 0, 0])?;
     let advance = sent.advance.saturating_mul(QUARTERS);
-    append_left(sent.left, out)?;
+    append_offset(sent.left, out)?;
+    append_offset(sent.top, out)?;
     let Pattern { width, height, .. } = sent.pattern;
-    append_words(&[sent.top, width, height, advance], out)?;
+    append_words(&[width, height, advance], out)?;
     out.extend_from_slice(rows)
 }
 
-/// Appends a left offset, a field of two bytes with a sign.
-fn append_left(left: i32, out: &mut Vec<u8>) -> Result<(), AllocError> {
-    out.extend_from_slice(&i16::try_from(left).unwrap_or(0).to_be_bytes())
+/// Appends a left or a top offset, a field of two bytes with a sign.
+fn append_offset(offset: i32, out: &mut Vec<u8>) -> Result<(), AllocError> {
+    out.extend_from_slice(&i16::try_from(offset).unwrap_or(0).to_be_bytes())
 }
 
 /// Appends fields of two bytes.
@@ -195,8 +199,8 @@ fn append_header(layout: &FontLayout, out: &mut Vec<u8>) -> Result<(), AllocErro
     let kind = layout.kind;
     let cell = Cell::of(layout);
     append_word(header_bytes(kind), out)?;
-    // The format, type 1, and two bytes that aren't used.
-    out.extend_from_slice(&[format_of(kind), 1, 0, 0])?;
+    // The format, type 2, and two bytes that aren't used.
+    out.extend_from_slice(&[format_of(kind), 2, 0, 0])?;
     append_words(&[cell.baseline, cell.width, cell.height], out)?;
     append_style(layout, cell, out)?;
     // The first and the last code, the parts of pitch and height below quarter dots, the height of capitals, a number.
@@ -205,17 +209,14 @@ fn append_header(layout: &FontLayout, out: &mut Vec<u8>) -> Result<(), AllocErro
     append_words(resolution_of(kind), out)
 }
 
-/// Appends the part of a header that says how its font looks. The pitch is the first blank.
+/// Appends the part of a header that says how its font looks.
 fn append_style(layout: &FontLayout, cell: Cell, out: &mut Vec<u8>) -> Result<(), AllocError> {
-    let pitch = layout.spacing.blanks.keys().next().copied().unwrap_or(1);
+    let pitch = layout.spacing.blanks.pitch().saturating_mul(QUARTERS);
     let height = cell.height.saturating_mul(QUARTERS);
     let half_baseline = cell.baseline.saturating_mul(QUARTERS / 2);
-    // Portrait, proportional, and the symbol set Roman-8.
-    out.extend_from_slice(&[0, 1, 1, 21])?;
-    append_words(
-        &[pitch.saturating_mul(QUARTERS), height, half_baseline],
-        out,
-    )?;
+    // Portrait, proportional, and the symbol set PC-8.
+    out.extend_from_slice(&[0, 1, 1, 85])?;
+    append_words(&[pitch, height, half_baseline], out)?;
     // Width, style, weight, typeface, serifs, quality, placement, and no underline.
     out.extend_from_slice(&[0, 0, 0, 0, 0, 0, 2, 0, 0, 0])?;
     append_words(&[height, cell.width.saturating_mul(QUARTERS)], out)
@@ -250,10 +251,13 @@ impl Cell {
     fn with(self, pattern: Pattern<'_>, letters: &Letters, glyph: u32) -> Cell {
         let top = letters.top_of(glyph);
         let below = self.height.saturating_sub(self.baseline);
-        let baseline = self.baseline.max(top);
+        let bottom = i32::try_from(pattern.height)
+            .unwrap_or(0)
+            .saturating_sub(top);
+        let baseline = self.baseline.max(u32::try_from(top).unwrap_or(0));
         Cell {
             width: self.width.max(pattern.width),
-            height: baseline.saturating_add(below.max(pattern.height.saturating_sub(top))),
+            height: baseline.saturating_add(below.max(u32::try_from(bottom).unwrap_or(0))),
             baseline,
         }
     }

@@ -1,13 +1,14 @@
 //! Letters as characters of soft fonts (docs/GLYPHS.md): the fonts that a job brings along, and its text. Nothing is promised of either.
 #![tactic(auto)]
 
+mod blanks;
 mod codes;
 mod feeds;
 mod fonts;
+mod gaps;
 mod layout;
 mod pen;
 mod permanence;
-mod rests;
 mod spacing;
 
 pub use fonts::{append_fonts, append_unit};

@@ -3,7 +3,6 @@
 use crate::codes::font_id;
 use crate::feeds::{Feed, find_feed};
 use crate::layout::FontLayout;
-use crate::rests::append_rest;
 use pcl_patterns::{Letter, append_labelled, digit_count};
 use std::alloc::{AllocError, Global};
 
@@ -12,6 +11,9 @@ const SHIFT_IN: u8 = 15;
 
 /// The line feed.
 const LINE_FEED: u8 = 10;
+
+/// The carriage return, which puts the cursor at the left margin.
+const CARRIAGE_RETURN: u8 = 13;
 
 /// The secondary font is in use from here on.
 const SHIFT_OUT: u8 = 14;
@@ -183,7 +185,7 @@ fn append_letter(
         return Ok(pen);
     };
     let place = layout.spacing.metrics.place_of(letter);
-    append_move(layout, letter, place, pen, out)?;
+    let pen = append_move(layout, letter, place, pen, out)?;
     let pen = select_font(code.font, pen, out)?;
     out.push(code.code)?;
     Ok(pen.at(place.saturating_add_unsigned(advance), letter.baseline))
@@ -196,53 +198,81 @@ fn append_move(
     place: i32,
     pen: Pen,
     out: &mut Vec<u8>,
-) -> Result<(), AllocError> {
-    if pen.line != Some(letter.baseline) {
-        return append_line_start(layout, letter, place, pen, out);
+) -> Result<Pen, AllocError> {
+    if pen.line == Some(letter.baseline) {
+        append_rest(layout, place.saturating_sub(pen.x), pen, out)
+    } else {
+        append_line_start(layout, letter, place, pen, out)
     }
-    if place == pen.x {
-        return Ok(());
-    }
-    append_rest(&layout.spacing.blanks, place.saturating_sub(pen.x), out)
 }
 
-/// Appends what starts another line with the cursor in this place: a move, or line feeds and what leads from the margin where they take
-/// fewer bytes.
+/// Appends what moves the cursor by a rest, with the first font in use where blanks of it do so.
+fn append_rest(
+    layout: &FontLayout,
+    rest: i32,
+    pen: Pen,
+    out: &mut Vec<u8>,
+) -> Result<Pen, AllocError> {
+    let blanks = &layout.spacing.blanks;
+    let pen = if blanks.needs_first_font(rest) {
+        select_font(0, pen, out)?
+    } else {
+        pen
+    };
+    blanks.append_rest(rest, out)?;
+    Ok(pen)
+}
+
+/// Appends what starts another line with the cursor in this place: a move, or where it takes fewer bytes what leads to the left margin
+/// and from there on.
 fn append_line_start(
     layout: &FontLayout,
     letter: &Letter,
     place: i32,
     pen: Pen,
     out: &mut Vec<u8>,
-) -> Result<(), AllocError> {
+) -> Result<Pen, AllocError> {
     let alloc = *out.allocator();
     let mut moved = Vec::new(alloc);
     append_place(letter, place, pen, &mut moved)?;
-    if let Some((feed, count)) = feeds_to(letter, pen) {
-        let mut fed = vec![in alloc; LINE_FEED; count as usize]?;
+    if let Some(feed) = pen.feed {
+        let mut returned = Vec::new(alloc);
+        append_return(feed, letter, pen, &mut returned)?;
         let margin = i32::try_from(feed.margin).unwrap_or(0);
-        if place != margin {
-            append_rest(
-                &layout.spacing.blanks,
-                place.saturating_sub(margin),
-                &mut fed,
-            )?;
-        }
-        if fed.len() < moved.len() {
-            return out.extend_from_slice(&fed);
+        let rest = place.saturating_sub(margin);
+        let returned_pen = append_rest(layout, rest, pen, &mut returned)?;
+        if returned.len() < moved.len() {
+            out.extend_from_slice(&returned)?;
+            return Ok(returned_pen);
         }
     }
-    out.extend_from_slice(&moved)
+    out.extend_from_slice(&moved)?;
+    Ok(pen)
 }
 
-/// The line feed that is set, and how many of them go to the line of a letter, if they do.
-fn feeds_to(letter: &Letter, pen: Pen) -> Option<(Feed, u32)> {
-    let feed = pen.feed?;
-    let count = feed.count(pen.line?, letter.baseline)?;
-    Some((feed, count))
+/// Appends what puts the cursor at the left margin, on the line of a letter: line feeds, or a carriage return and a move down.
+fn append_return(
+    feed: Feed,
+    letter: &Letter,
+    pen: Pen,
+    out: &mut Vec<u8>,
+) -> Result<(), AllocError> {
+    let feeds = pen.line.and_then(|line| feed.count(line, letter.baseline));
+    match feeds {
+        Some(count) => {
+            for _ in 0..count {
+                out.push(LINE_FEED)?;
+            }
+            Ok(())
+        }
+        None => {
+            out.extend_from_slice(&[CARRIAGE_RETURN])?;
+            append_row(b"\x1b*p", letter, pen, out)
+        }
+    }
 }
 
-/// Appends a move to the start of another line. It is counted from the line above where that takes fewer bytes.
+/// Appends a move to the start of another line.
 fn append_place(
     letter: &Letter,
     place: i32,
@@ -250,14 +280,25 @@ fn append_place(
     out: &mut Vec<u8>,
 ) -> Result<(), AllocError> {
     append_labelled(b"\x1b*p", u32::try_from(place).unwrap_or(0), out)?;
+    append_row(b"x", letter, pen, out)
+}
+
+/// Appends a label and the row of a letter after it. It is counted from the line above where that takes fewer bytes.
+fn append_row(
+    label: &[u8],
+    letter: &Letter,
+    pen: Pen,
+    out: &mut Vec<u8>,
+) -> Result<(), AllocError> {
     let below = pen
         .line
         .and_then(|line| letter.baseline.checked_sub(line))
         .unwrap_or(u32::MAX);
+    out.extend_from_slice(label)?;
     if digit_count(below).saturating_add(1) < digit_count(letter.baseline) {
-        append_labelled(b"x+", below, out)?;
+        append_labelled(b"+", below, out)?;
     } else {
-        append_labelled(b"x", letter.baseline, out)?;
+        append_labelled(b"", letter.baseline, out)?;
     }
     out.extend_from_slice(b"Y")
 }

@@ -193,9 +193,7 @@ fn paint_without(
 fn whiten(bytes: &mut [u8], row_bytes: usize, top: u32, taken: Taken<'_>) {
     let end = top.saturating_add(BAND_ROWS);
     for letter in taken.letters {
-        let first = letter
-            .baseline
-            .saturating_sub(taken.found.top_of(letter.glyph));
+        let first = taken.found.first_row_of(letter);
         if first < end {
             if let Some(pattern) = taken.found.pattern_of(taken.patterns, letter.glyph) {
                 let rows = pattern.rows_from(top.saturating_sub(first));

@@ -38,21 +38,22 @@ fn append_letters(
 /// Appends the tiles of a job, each of which stands on the row below it.
 fn append_tiles(collection: &Collection, found: &mut Letters) -> Result<(), AllocError> {
     for tile in collection.tiles.iter() {
-        let top = u32::from(tile.baseline.saturating_sub(tile.top));
+        let top = i32::from(tile.baseline.saturating_sub(tile.top));
         append_letter(tile, top, collection.height_of(tile.page), found)?;
     }
     Ok(())
 }
 
-/// Appends a shape as a letter whose topmost row lies so far above the baseline, if that is on its page, which has this height.
+/// Appends a shape as a letter whose topmost row lies so far above the baseline, or below it under 0, if that is on its page, which has
+/// this height.
 fn append_letter(
     shape: &PlacedShape,
-    top: u32,
+    top: i32,
     height: u32,
     found: &mut Letters,
 ) -> Result<(), AllocError> {
     let pattern = shape.pattern;
-    let baseline = u32::from(shape.top).saturating_add(top);
+    let baseline = u32::from(shape.top).saturating_add_signed(top);
     if baseline <= height {
         let (glyph, _) = found.glyphs.insert_full(LetterGlyph { pattern, top })?;
         found

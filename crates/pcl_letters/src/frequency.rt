@@ -3,15 +3,22 @@
 //! What shapes take in a row depends on what else is in it: they share the bytes around its data, and many small ones share each byte of
 //! these. So each row is taken to cost what its data take, and each shape its part of that. A row from which letters went costs those
 //! that are left more, which is why patterns are looked at in rounds.
+//!
+//! At last all letters are looked at together, by what the rows save that they leave: a row of a picture saves nothing where others fill
+//! the same bytes. Characters past the first two fonts take a selection each time.
 
 use pcl_patterns::{
-    FINE, Row, add, in_fine_parts, number_of, number_of_place, quotient, short_number, sum_parts,
+    FINE, Row, RowParts, SELECTION_BYTES, Uses, add, in_fine_parts, number_of, number_of_place,
+    quotient, short_number, sum_parts, sum_saved,
 };
 use pcl_shapes::{Collection, PlacedShape};
 use std::alloc::{AllocError, Global};
 
 /// How often all patterns are looked at.
 const ROUNDS: u32 = 4;
+
+/// How often all letters are looked at together.
+const LETTER_ROUNDS: u32 = 3;
 
 /// What the shapes of each pattern take.
 #[derive(Drop)]
@@ -46,10 +53,54 @@ impl Frequency {
         collection: &Collection,
         uses: &[usize],
     ) -> Result<(), AllocError> {
-        self.costs = raster_costs(alloc, collection, self)?;
+        self.costs = shape_bytes(alloc, collection, self, Side::Raster)?;
         self.are_letters = find_cheaper(alloc, collection, uses, self)?;
         Ok(())
     }
+
+    /// Looks at all letters together: those of a pattern that save too little are none. Whether there are such is told.
+    fn look_at_letters(
+        &mut self,
+        alloc: Global,
+        collection: &Collection,
+        uses: &[usize],
+    ) -> Result<bool, AllocError> {
+        let saved = shape_bytes(alloc, collection, self, Side::Letters)?;
+        let near = self.near_uses(alloc, uses)?;
+        let mut is_left = false;
+        for (place, count) in uses.iter().enumerate() {
+            let selections = if *count < near {
+                count.saturating_mul(SELECTION_BYTES)
+            } else {
+                0
+            };
+            let bytes = letter_bytes(collection, place, *count).saturating_add(selections);
+            if let Some(is_letter) = self.are_letters.get_mut(place) {
+                if *is_letter && number_of(&saved, place) < in_fine_parts(bytes) {
+                    *is_letter = false;
+                    is_left = true;
+                }
+            }
+        }
+        Ok(is_left)
+    }
+
+    /// How many shapes each pattern of letters has at least that has its code in the first two fonts.
+    fn near_uses(&self, alloc: Global, uses: &[usize]) -> Result<usize, AllocError> {
+        let mut letters = Uses::new(alloc)?;
+        for (place, count) in uses.iter().enumerate() {
+            if self.is_letter(number_of_place(place)) {
+                letters.add(*count);
+            }
+        }
+        Ok(letters.least_of_fonts(2))
+    }
+}
+
+/// About how many bytes as many shapes of a pattern take as letters.
+fn letter_bytes(collection: &Collection, place: usize, count: usize) -> usize {
+    let definition = collection.patterns.definition_bytes(number_of_place(place));
+    collection.form.bytes_of_letters(definition, count)
 }
 
 /// What the shapes of each pattern take.
@@ -62,6 +113,12 @@ pub fn find_frequency(alloc: Global, collection: &Collection) -> Result<Frequenc
     for _ in 0..ROUNDS {
         frequency.look_again(alloc, collection, &uses)?;
     }
+    for _ in 0..LETTER_ROUNDS {
+        if !frequency.look_at_letters(alloc, collection, &uses)? {
+            return Ok(frequency);
+        }
+    }
+    frequency.costs = shape_bytes(alloc, collection, &frequency, Side::Raster)?;
     Ok(frequency)
 }
 
@@ -94,77 +151,117 @@ impl<'a> PageShapes<'a> {
             rows: collection.rows.get(start..).unwrap_or(&[]),
         }
     }
+
+    /// The rows of the page, which has this height.
+    fn rows_of(self, height: u32) -> &'a [Row] {
+        let count = (height as usize).saturating_add(1);
+        self.rows.get(..count).unwrap_or(self.rows)
+    }
 }
 
-/// For each pattern, about how many bytes its shapes take in rasters, in fine parts.
-fn raster_costs(
+/// Which shapes are looked at.
+#[derive(Clone, Copy, PartialEq, Eq)]
+enum Side {
+    /// Those that aren't letters, by what they take.
+    Raster,
+    /// The letters, by what the rows save that all of them leave.
+    Letters,
+}
+
+impl Side {
+    /// Whether a shape is one of those.
+    fn has(self, frequency: &Frequency, shape: &PlacedShape) -> bool {
+        frequency.is_letter(shape.pattern) == (self == Side::Letters)
+    }
+}
+
+/// For each pattern, about how many bytes its shapes of this side take in rasters, or save there, in fine parts.
+fn shape_bytes(
     alloc: Global,
     collection: &Collection,
     frequency: &Frequency,
+    side: Side,
 ) -> Result<Vec<i64>, AllocError> {
-    let mut costs = vec![in alloc; 0i64; collection.patterns.len()]?;
+    let mut bytes = vec![in alloc; 0i64; collection.patterns.len()]?;
     let mut place: usize = 0;
     for page in 0..collection.starts.len() {
         let shapes = PageShapes::of(collection, page, place);
         place = place.saturating_add(shapes.placed.len());
         if !shapes.placed.is_empty() {
             let height = collection.height_of(short_number(number_of_place(page)));
-            let sums = sums_on_page(alloc, collection, frequency, shapes, height)?;
-            add_costs(collection, frequency, shapes, &sums, &mut costs);
+            let rows = shapes.rows_of(height);
+            let sums = sums_on_page(alloc, collection, frequency, shapes, rows, side)?;
+            add_bytes(collection, frequency, shapes, side, &sums, &mut bytes);
         }
     }
-    Ok(costs)
+    Ok(bytes)
 }
 
-/// What a byte of weight costs in all rows of a page of this height before each one together, in fine parts.
+/// What all rows of a page before each one together take or save.
 fn sums_on_page(
     alloc: Global,
     collection: &Collection,
     frequency: &Frequency,
     shapes: PageShapes<'_>,
-    height: u32,
-) -> Result<Vec<i64>, AllocError> {
-    let count = (height as usize).saturating_add(1);
-    let rows = shapes.rows.get(..count).unwrap_or(shapes.rows);
-    let mut changes = vec![in alloc; 0i64; rows.len().saturating_add(1)]?;
-    add_weights(collection, frequency, shapes, &mut changes);
-    sum_parts(alloc, rows, &changes)
+    rows: &[Row],
+    side: Side,
+) -> Result<Vec<RowParts>, AllocError> {
+    let raster = changes_of(
+        alloc,
+        collection,
+        frequency,
+        shapes,
+        rows.len(),
+        Side::Raster,
+    )?;
+    match side {
+        Side::Raster => sum_parts(alloc, rows, &raster),
+        Side::Letters => {
+            let letters = changes_of(alloc, collection, frequency, shapes, rows.len(), side)?;
+            sum_saved(alloc, rows, &raster, &letters)
+        }
+    }
 }
 
-/// Adds by how much the weights of the shapes of a page that are in rasters are more in a row together than in the row before it.
-fn add_weights(
+/// By how much the weights of the shapes of a page of this side are more in each of its rows together than in the row before it.
+fn changes_of(
+    alloc: Global,
     collection: &Collection,
     frequency: &Frequency,
     shapes: PageShapes<'_>,
-    changes: &mut [i64],
-) {
+    rows: usize,
+    side: Side,
+) -> Result<Vec<i64>, AllocError> {
+    let mut changes = vec![in alloc; 0i64; rows.saturating_add(1)]?;
     for shape in shapes.placed {
-        if !frequency.is_letter(shape.pattern) {
+        if side.has(frequency, shape) {
             let weight = collection.patterns.weight(shape.pattern);
-            add(changes, usize::from(shape.top), weight);
+            add(&mut changes, usize::from(shape.top), weight);
             add(
-                changes,
+                &mut changes,
                 row_past(collection, shape),
                 0i64.saturating_sub(weight),
             );
         }
     }
+    Ok(changes)
 }
 
-/// Adds about how many bytes the shapes of a page take in rasters to those of their patterns, in fine parts.
-fn add_costs(
+/// Adds about how many bytes the shapes of a page of this side take or save to those of their patterns, in fine parts.
+fn add_bytes(
     collection: &Collection,
     frequency: &Frequency,
     shapes: PageShapes<'_>,
-    sums: &[i64],
-    costs: &mut [i64],
+    side: Side,
+    sums: &[RowParts],
+    bytes: &mut [i64],
 ) {
     for shape in shapes.placed {
-        if !frequency.is_letter(shape.pattern) {
-            let start = number_of(sums, usize::from(shape.top));
-            let parts = number_of(sums, row_past(collection, shape)).saturating_sub(start);
-            let cost = parts.saturating_mul(collection.patterns.weight(shape.pattern));
-            add(costs, shape.pattern as usize, quotient(cost, FINE));
+        if side.has(frequency, shape) {
+            let weight = collection.patterns.weight(shape.pattern);
+            let top = usize::from(shape.top);
+            let parts = RowParts::between(sums, top, row_past(collection, shape), weight);
+            add(bytes, shape.pattern as usize, parts);
         }
     }
 }
@@ -185,8 +282,7 @@ fn find_cheaper(
     for (place, count) in uses.iter().enumerate() {
         let number = number_of_place(place);
         let cost = number_of(&frequency.costs, place);
-        let definition = collection.patterns.definition_bytes(number);
-        let bytes = collection.form.bytes_of_letters(definition, *count);
+        let bytes = letter_bytes(collection, place, *count);
         let is_cheaper = cost > in_fine_parts(bytes) && collection.patterns.get(number).is_some();
         are_letters.push(frequency.is_letter(number) || is_cheaper)?;
     }

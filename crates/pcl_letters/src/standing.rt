@@ -23,8 +23,8 @@ struct LetterShape {
     line: u32,
     /// Its topmost row.
     top: u32,
-    /// How far that seems to lie above the row of its line.
-    stand: u32,
+    /// How far that seems to lie above the row of its line, or below it under 0.
+    stand: i32,
 }
 
 /// The rows on which lines stand, as far as they are known.
@@ -34,23 +34,23 @@ struct Lines {
 }
 
 impl Lines {
-    /// How far a row lies above that of the line of this number, if that is known.
-    fn top_of(&self, line: u32, row: u32) -> Option<u32> {
+    /// How far a row lies above that of the line of this number, or below it under 0, if that is known.
+    fn top_of(&self, line: u32, row: u32) -> Option<i32> {
         let stands = *self.rows.get(line as usize)?;
-        stands?.checked_sub(row)
+        Some(rows_above(stands?, row))
     }
 
     /// Has the line of a shape stand where that shape does, whose topmost row lies so far above, unless it is known.
-    fn add(&mut self, shape: &LetterShape, top: u32) {
+    fn add(&mut self, shape: &LetterShape, top: i32) {
         if let Some(row) = self.rows.get_mut(shape.line as usize) {
             if row.is_none() {
-                *row = Some(shape.top.saturating_add(top));
+                *row = Some(shape.top.saturating_add_signed(top));
             }
         }
     }
 
     /// Has the lines of shapes stand where these do, unless they are known.
-    fn add_all(&mut self, shapes: &[LetterShape], top: u32) {
+    fn add_all(&mut self, shapes: &[LetterShape], top: i32) {
         for shape in shapes {
             self.add(shape, top);
         }
@@ -60,7 +60,7 @@ impl Lines {
     fn count_tops(
         &self,
         shapes: &[LetterShape],
-        counts: &mut IndexMap<u32, u32>,
+        counts: &mut IndexMap<i32, u32>,
     ) -> Result<(), AllocError> {
         for shape in shapes {
             if let Some(top) = self.top_of(shape.line, shape.top) {
@@ -71,7 +71,7 @@ impl Lines {
     }
 
     /// How far the topmost rows of shapes mostly lie above the rows of their lines, or seem to where none of these is known.
-    fn usual_top(&self, alloc: Global, shapes: &[LetterShape]) -> Result<u32, AllocError> {
+    fn usual_top(&self, alloc: Global, shapes: &[LetterShape]) -> Result<i32, AllocError> {
         let mut counts = IndexMap::new(alloc);
         self.count_tops(shapes, &mut counts)?;
         if counts.is_empty() {
@@ -84,8 +84,8 @@ impl Lines {
 /// How shapes that are letters stand on their lines.
 #[derive(Drop)]
 pub struct Standing {
-    /// For each pattern, how far its topmost row mostly lies above the row of its line.
-    tops: Vec<u32>,
+    /// For each pattern, how far its topmost row mostly lies above the row of its line, or below it under 0.
+    tops: Vec<i32>,
     lines: Lines,
     /// The glyphs that stand otherwise than their patterns mostly do, and how often they do.
     others: IndexMap<LetterGlyph, u32>,
@@ -111,8 +111,8 @@ impl Standing {
         })
     }
 
-    /// How far the topmost row of a shape on the line of this number lies above the baseline.
-    pub fn top_of(&self, shape: &PlacedShape, line: u32) -> u32 {
+    /// How far the topmost row of a shape on the line of this number lies above the baseline, or below it under 0.
+    pub fn top_of(&self, shape: &PlacedShape, line: u32) -> i32 {
         let pattern = shape.pattern;
         if let Some(top) = self.lines.top_of(line, u32::from(shape.top)) {
             if self.others.contains_key(&LetterGlyph { pattern, top }) {
@@ -124,7 +124,7 @@ impl Standing {
 }
 
 /// How far the topmost row of a pattern mostly lies above the row of its line.
-fn usual_top(tops: &[u32], pattern: u32) -> u32 {
+fn usual_top(tops: &[i32], pattern: u32) -> i32 {
     tops.get(pattern as usize).copied().unwrap_or(0)
 }
 
@@ -133,7 +133,7 @@ fn find_others(
     alloc: Global,
     letters: &[LetterShape],
     patterns: &Patterns,
-    tops: &[u32],
+    tops: &[i32],
     lines: &Lines,
 ) -> Result<IndexMap<LetterGlyph, u32>, AllocError> {
     let mut others = IndexMap::new(alloc);
@@ -159,8 +159,8 @@ fn find_tops(
     letters: &[LetterShape],
     patterns: usize,
     lines: &mut Lines,
-) -> Result<Vec<u32>, AllocError> {
-    let mut tops = vec![in alloc; 0u32; patterns]?;
+) -> Result<Vec<i32>, AllocError> {
+    let mut tops = vec![in alloc; 0i32; patterns]?;
     let mut rest = letters;
     for _ in 0..tops.len() {
         let Some(first) = rest.first() else {
@@ -178,7 +178,7 @@ fn find_tops(
 }
 
 /// Sets the number of a pattern.
-fn set_top(tops: &mut [u32], pattern: u32, top: u32) {
+fn set_top(tops: &mut [i32], pattern: u32, top: i32) {
     if let Some(number) = tops.get_mut(pattern as usize) {
         *number = top;
     }
@@ -237,6 +237,12 @@ fn is_on_line(before: Option<&PlacedShape>, shape: &PlacedShape) -> bool {
     }
 }
 
+/// How far a row lies above that of a line, or below it under 0.
+fn rows_above(line: u32, row: u32) -> i32 {
+    let line = i32::try_from(line).unwrap_or(0);
+    line.saturating_sub_unsigned(row)
+}
+
 /// A shape that is a letter on the line of this number, where this many shapes have other patterns.
 fn letter_of(shape: &PlacedShape, line: u32, others: usize) -> LetterShape {
     LetterShape {
@@ -244,12 +250,12 @@ fn letter_of(shape: &PlacedShape, line: u32, others: usize) -> LetterShape {
         pattern: shape.pattern,
         line,
         top: u32::from(shape.top),
-        stand: u32::from(shape.baseline.saturating_sub(shape.top)),
+        stand: rows_above(u32::from(shape.baseline), u32::from(shape.top)),
     }
 }
 
 /// How often the topmost rows of shapes seem to lie so far above the rows of their lines.
-fn count_stands(shapes: &[LetterShape], counts: &mut IndexMap<u32, u32>) -> Result<(), AllocError> {
+fn count_stands(shapes: &[LetterShape], counts: &mut IndexMap<i32, u32>) -> Result<(), AllocError> {
     for shape in shapes {
         count(shape.stand, counts)?;
     }
@@ -257,16 +263,16 @@ fn count_stands(shapes: &[LetterShape], counts: &mut IndexMap<u32, u32>) -> Resu
 }
 
 /// Counts a number.
-fn count(number: u32, counts: &mut IndexMap<u32, u32>) -> Result<(), AllocError> {
+fn count(number: i32, counts: &mut IndexMap<i32, u32>) -> Result<(), AllocError> {
     let count = counts.entry(number)?.or_insert(0u32);
     *count = count.saturating_add(1);
     Ok(())
 }
 
 /// The number that is there most often, or 0 where there is none.
-fn most_frequent(counts: &IndexMap<u32, u32>) -> u32 {
+fn most_frequent(counts: &IndexMap<i32, u32>) -> i32 {
     let mut most: u32 = 0;
-    let mut found: u32 = 0;
+    let mut found: i32 = 0;
     for (number, count) in counts.iter() {
         if *count > most {
             most = *count;

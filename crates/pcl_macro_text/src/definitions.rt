@@ -102,7 +102,7 @@ fn append_raster(
     pattern: Pattern<'_>,
     out: &mut Vec<u8>,
 ) -> Result<(), AllocError> {
-    let up = signed(layout.letters.top_of(glyph));
+    let up = layout.letters.top_of(glyph);
     append_way(layout.plan.metrics.bearing(glyph), up.saturating_neg(), out)?;
     append_labelled(b"\x1b*r", pattern.width, out)?;
     out.extend_from_slice(b"s1A")?;
@@ -121,7 +121,8 @@ fn append_advance(
     let right = metrics
         .advance(glyph)
         .saturating_sub(metrics.bearing(glyph));
-    let down = signed(layout.letters.top_of(glyph)).saturating_sub(signed(rows));
+    let rows = i32::try_from(rows).unwrap_or(0);
+    let down = layout.letters.top_of(glyph).saturating_sub(rows);
     match blanks.code(right) {
         Some(code) => {
             append_way(0, down, out)?;
@@ -130,11 +131,6 @@ fn append_advance(
         }
         None => append_way(right, down, out),
     }
-}
-
-/// A number of dots with a sign; each place on a page has one.
-fn signed(dots: u32) -> i32 {
-    i32::try_from(dots).unwrap_or(0)
 }
 
 /// Appends the ID that the macro of a glyph leaves set, where that isn't its own.

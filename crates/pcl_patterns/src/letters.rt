@@ -10,8 +10,8 @@ use std::alloc::Global;
 pub struct LetterGlyph {
     /// The number of the pattern.
     pub pattern: u32,
-    /// How far its topmost row lies above the baseline, in dots.
-    pub top: u32,
+    /// How far its topmost row lies above the baseline, in dots; below it under 0, as that of an underscore.
+    pub top: i32,
 }
 
 /// A shape that is printed as a letter. Their order is that of printing: by pages, by lines, and from left to right.
@@ -56,11 +56,18 @@ impl Letters {
         }
     }
 
-    /// How far the topmost row of a glyph lies above the baseline.
-    pub fn top_of(&self, glyph: u32) -> u32 {
+    /// How far the topmost row of a glyph lies above the baseline, or below it under 0.
+    pub fn top_of(&self, glyph: u32) -> i32 {
         self.glyphs
             .get_index(glyph as usize)
             .map_or(0, |glyph| glyph.top)
+    }
+
+    /// The topmost dot row of a letter.
+    pub fn first_row_of(&self, letter: &Letter) -> u32 {
+        letter
+            .baseline
+            .saturating_sub_signed(self.top_of(letter.glyph))
     }
 
     /// The letters of a page, of those from this place on, which are of this page and later ones.

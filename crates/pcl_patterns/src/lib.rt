@@ -13,6 +13,7 @@ mod parts;
 mod pattern_set;
 mod patterns;
 mod stamping;
+mod uses;
 
 pub use compression::append_compressed;
 pub use forms::{FontKind, Form};
@@ -22,7 +23,8 @@ pub use metrics::{Metrics, find_metrics};
 pub use numbers::{
     append_labelled, append_signed, append_word, digit_count, number_of_place, short_number,
 };
-pub use parts::{FINE, ROW_BYTES, Row, in_fine_parts, sum_parts};
+pub use parts::{FINE, ROW_BYTES, Row, RowParts, in_fine_parts, sum_parts, sum_saved};
 pub use pattern_set::Patterns;
 pub use patterns::{Drawing, Pattern, PatternRows, row_bytes_of, rows_len};
 pub use stamping::{Dot, StampInk, stamp};
+pub use uses::{FONT_CODES, SELECTION_BYTES, Uses};

@@ -31,16 +31,81 @@ impl Row {
     }
 }
 
-/// What a byte of weight costs in all rows before each one together, in fine parts. `changes` are by how much the weights of the shapes
-/// that may be letters are more in each row than in the row before it, in fine parts too.
-pub fn sum_parts(alloc: Global, rows: &[Row], changes: &[i64]) -> Result<Vec<i64>, AllocError> {
+/// What some rows together cost or save for a shape that is in them.
+#[derive(Clone, Copy)]
+pub struct RowParts {
+    /// For each byte of its weight, in fine parts.
+    of_weight: i64,
+    /// However little it weighs, in fine parts.
+    of_any: i64,
+}
+
+impl RowParts {
+    /// Those of no rows.
+    const NONE: RowParts = RowParts {
+        of_weight: 0,
+        of_any: 0,
+    };
+
+    /// What these rows cost or save, past those of `start`, for a shape of this weight; in fine parts.
+    pub fn since(self, start: RowParts, weight: i64) -> i64 {
+        let parts = self.of_weight.saturating_sub(start.of_weight);
+        quotient(parts.saturating_mul(weight), FINE).saturating_add(
+            self.of_any.saturating_sub(start.of_any),
+        )
+    }
+
+    /// What the rows before that of `end` cost or save from that of `start` on, for a shape of this weight; in fine parts. Those of all
+    /// rows before each one are given.
+    pub fn between(sums: &[RowParts], start: usize, end: usize, weight: i64) -> i64 {
+        match (sums.get(start), sums.get(end)) {
+            (Some(start), Some(end)) => end.since(*start, weight),
+            _ => 0,
+        }
+    }
+
+    /// With a row more, in which shapes weigh so much.
+    fn with_row(self, row: &Row, weight: i64) -> RowParts {
+        RowParts {
+            of_weight: self.of_weight.saturating_add(part_of(row, weight)),
+            of_any: self.of_any,
+        }
+    }
+
+    /// With a row more, which shapes of so much weight leave, where so much stays.
+    fn with_left_row(self, row: &Row, staying: i64, leaving: i64) -> RowParts {
+        let bytes = in_fine_parts(usize::from(row.bytes));
+        let staying = staying.saturating_add(in_fine_parts(usize::from(row.others)));
+        let before = bytes.min(staying.saturating_add(leaving));
+        let data = before.saturating_sub(bytes.min(staying));
+        let around = if staying > 0 {
+            0
+        } else {
+            in_fine_parts(ROW_BYTES)
+        };
+        RowParts {
+            of_weight: self
+                .of_weight
+                .saturating_add(quotient(data.saturating_mul(FINE), leaving)),
+            of_any: self.of_any.saturating_add(around),
+        }
+    }
+}
+
+/// What all rows before each one together cost shapes. `changes` are by how much the weights of the shapes that may be letters are more in
+/// each row than in the row before it, in fine parts.
+pub fn sum_parts(
+    alloc: Global,
+    rows: &[Row],
+    changes: &[i64],
+) -> Result<Vec<RowParts>, AllocError> {
     let mut sums = Vec::new(alloc);
     let mut weight: i64 = 0;
-    let mut sum: i64 = 0;
+    let mut sum = RowParts::NONE;
     for (place, row) in rows.iter().enumerate() {
         sums.push(sum)?;
         weight = weight.saturating_add(number_of(changes, place));
-        sum = sum.saturating_add(part_of(row, weight));
+        sum = sum.with_row(row, weight);
     }
     sums.push(sum)?;
     Ok(sums)
@@ -53,6 +118,28 @@ fn part_of(row: &Row, weight: i64) -> i64 {
     let data = weight.min(in_fine_parts(usize::from(row.bytes)));
     let cost = data.saturating_add(in_fine_parts(ROW_BYTES));
     quotient(cost.saturating_mul(FINE), weight)
+}
+
+/// What all rows before each one together save that letters leave. The changes are by how much the weights of the shapes that stay, and of
+/// the letters, are more in each row than in the row before it, in fine parts.
+pub fn sum_saved(
+    alloc: Global,
+    rows: &[Row],
+    stays: &[i64],
+    leaves: &[i64],
+) -> Result<Vec<RowParts>, AllocError> {
+    let mut sums = Vec::new(alloc);
+    let mut staying: i64 = 0;
+    let mut leaving: i64 = 0;
+    let mut sum = RowParts::NONE;
+    for (place, row) in rows.iter().enumerate() {
+        sums.push(sum)?;
+        staying = staying.saturating_add(number_of(stays, place));
+        leaving = leaving.saturating_add(number_of(leaves, place));
+        sum = sum.with_left_row(row, staying, leaving);
+    }
+    sums.push(sum)?;
+    Ok(sums)
 }
 
 /// No more than this, in fine parts, does a shape cost in a row that weighs so much, in fine parts too: what the row takes, or its part of

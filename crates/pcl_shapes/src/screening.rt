@@ -4,7 +4,7 @@
 //! often its pattern is there: so its dots needn't be looked at.
 
 use crate::shapes::Extent;
-use pcl_patterns::{FINE, Row, add, number_of, quotient, sum_parts};
+use pcl_patterns::{FINE, Row, RowParts, add, in_fine_parts, number_of, quotient, sum_parts};
 use std::alloc::{AllocError, Global};
 
 /// How often the shapes of a page are looked at, at most.
@@ -56,7 +56,7 @@ fn row_past(extent: &Extent) -> usize {
 }
 
 /// Shapes that may take a byte stay no longer, and weigh nothing in the rows. Says whether there are some.
-fn release(extents: &[Extent], sums: &[i64], stay: &mut [bool], changes: &mut [i64]) -> bool {
+fn release(extents: &[Extent], sums: &[RowParts], stay: &mut [bool], changes: &mut [i64]) -> bool {
     let mut is_any = false;
     for (extent, stays) in extents.iter().zip(stay.iter_mut()) {
         if *stays && most_bytes(extent, sums) >= FINE {
@@ -75,11 +75,14 @@ fn release(extents: &[Extent], sums: &[i64], stay: &mut [bool], changes: &mut [i
 }
 
 /// No more bytes than these, in fine parts, does a shape take in its rows: all bytes of each differ from those of the row above.
-fn most_bytes(extent: &Extent, sums: &[i64]) -> i64 {
-    let start = number_of(sums, usize::from(extent.top));
-    let parts = number_of(sums, row_past(extent)).saturating_sub(start);
-    let weight = i64::from(extent.width().div_ceil(8)).saturating_add(1);
-    parts.saturating_mul(weight)
+fn most_bytes(extent: &Extent, sums: &[RowParts]) -> i64 {
+    let weight = (extent.width().div_ceil(8) as usize).saturating_add(1);
+    RowParts::between(
+        sums,
+        usize::from(extent.top),
+        row_past(extent),
+        in_fine_parts(weight),
+    )
 }
 
 /// Adds the weight of shapes to that of the others in each row.

@@ -1,9 +1,8 @@
 //! How often tiles are on a page.
 
-use crate::bands::{Band, Grid, TILE_SIDE};
+use crate::bands::{Band, Grid};
 use crate::page_rows::Unpainted;
-use crate::tile_characters::CHARACTER_BYTES;
-use crate::tile_grids::{SAMPLING, numbers_of};
+use crate::tile_grids::numbers_of;
 use crate::tiles::Tile;
 use std::alloc::{AllocError, Global};
 
@@ -128,20 +127,6 @@ impl Counts {
     /// How often what has a hash is there.
     fn of(&self, hash: usize) -> u16 {
         self.counts.get(hash).copied().unwrap_or(0)
-    }
-
-    /// About how many bytes all tiles take, of a sample of which the counts are: each as a character, or eight where that is less.
-    pub fn bytes(&self) -> usize {
-        let mut bytes: usize = 0;
-        for count in self.counts.iter() {
-            if *count != 0 {
-                let count = usize::from(count.saturating_mul(SAMPLING));
-                let character = count.saturating_add(CHARACTER_BYTES);
-                let rows = count.saturating_mul(usize::from(TILE_SIDE));
-                bytes = bytes.saturating_add(character.min(rows));
-            }
-        }
-        bytes
     }
 }
 

@@ -3,15 +3,16 @@
 use crate::bands::{Band, Grid, TILE_SIDE};
 use crate::page_rows::Unpainted;
 use crate::shapes::Extent;
+use crate::tile_characters::CHARACTER_BYTES;
 use crate::tile_counts::Counts;
 use std::alloc::{AllocError, Global};
 use std::ops::Range;
 
 /// Of this many tiles below each other one is looked at where the grid is chosen.
-pub const SAMPLING: u16 = 4;
+const SAMPLING: u16 = 4;
 
-/// How far right and down tiles may lie from the corner of the page.
-const SHIFTS: [u16; 4] = [0, 2, 4, 6];
+/// How far right and down tiles may lie from the corner of the page, besides not at all.
+const SHIFTS: [u16; 3] = [2, 4, 6];
 
 /// How the tiles lie that take the fewest bytes in a part of a page: first how far right, then how far down.
 pub fn best_grid(alloc: Global, page: Unpainted<'_>, area: Extent) -> Result<Grid, AllocError> {
@@ -22,6 +23,7 @@ pub fn best_grid(alloc: Global, page: Unpainted<'_>, area: Extent) -> Result<Gri
         best: Grid::CORNER,
         least: usize::MAX,
     };
+    search.look_at(Grid::CORNER)?;
     for right in SHIFTS.iter() {
         search.look_at(Grid {
             right: *right,
@@ -57,13 +59,27 @@ impl<'a> GridSearch<'a> {
                 self.counts.add_tiles(&band.tiles);
             }
         }
-        let bytes = self.counts.bytes();
+        let bytes = bytes_of_sample(&self.counts);
         if bytes < self.least {
             self.best = grid;
             self.least = bytes;
         }
         Ok(())
     }
+}
+
+/// About how many bytes all tiles take, of a sample of which the counts are: each as a character, or eight where that is less.
+fn bytes_of_sample(counts: &Counts) -> usize {
+    let mut bytes: usize = 0;
+    for count in counts.counts.iter() {
+        if *count != 0 {
+            let count = usize::from(count.saturating_mul(SAMPLING));
+            let character = count.saturating_add(CHARACTER_BYTES);
+            let rows = count.saturating_mul(usize::from(TILE_SIDE));
+            bytes = bytes.saturating_add(character.min(rows));
+        }
+    }
+    bytes
 }
 
 /// The numbers of the tiles below each other in a part of a page.

@@ -12,7 +12,6 @@ use crate::tile_counts::TileCounts;
 use crate::tile_grids::{best_grid, numbers_of};
 use pcl_patterns::in_fine_parts;
 use std::alloc::{AllocError, Global};
-use std::ops::Range;
 
 /// A picture is as wide as this many tiles.
 const LEAST_WIDTH: usize = 16;
@@ -88,46 +87,16 @@ fn tiles_in(
     grid: Grid,
     limit: usize,
 ) -> Result<Vec<Tile>, AllocError> {
-    let Pictures {
-        mut tiles,
-        stretches,
-    } = Pictures::of(alloc, page, grid, limit)?;
-    if tiles.len() >= LEAST_TILES {
-        let fonts = CodeFonts::of(alloc, &tiles)?;
-        keep_shorter(&mut tiles, &stretches, &fonts);
+    let mut pictures = Pictures::of(alloc, page, grid, limit)?;
+    if pictures.tiles.len() >= LEAST_TILES {
+        let fonts = CodeFonts::of(alloc, &pictures.tiles)?;
+        pictures = pictures.shorter(alloc, &fonts)?;
     }
-    if tiles.len() < LEAST_TILES {
-        tiles.clear();
+    if pictures.tiles.len() < LEAST_TILES || !pictures.pay(alloc)? {
+        return Ok(Vec::new(alloc));
     }
+    let Pictures { tiles, .. } = pictures;
     Ok(tiles)
-}
-
-/// Keeps the tiles of the stretches that take fewer bytes as characters of these fonts than in the raster.
-fn keep_shorter(tiles: &mut Vec<Tile>, stretches: &[PictureStretch], fonts: &CodeFonts) {
-    let mut kept: usize = 0;
-    let mut start: usize = 0;
-    for stretch in stretches {
-        let of_stretch = tiles.get(start..stretch.end).unwrap_or(&[]);
-        if fonts.bytes_between(of_stretch) < stretch.gain {
-            move_to(tiles, start..stretch.end, kept);
-            kept = kept.saturating_add(stretch.end.saturating_sub(start));
-        }
-        start = stretch.end;
-    }
-    tiles.truncate(kept);
-}
-
-/// Moves some tiles to an earlier place.
-fn move_to(tiles: &mut [Tile], places: Range<usize>, mut to: usize) {
-    for from in places {
-        let Some(tile) = tiles.get(from).copied() else {
-            break;
-        };
-        if let Some(place) = tiles.get_mut(to) {
-            *place = tile;
-        }
-        to = to.saturating_add(1);
-    }
 }
 
 /// The smallest box around tiles: none where there are none.
@@ -163,11 +132,21 @@ struct Pictures {
 struct PictureStretch {
     /// The place after its last tile.
     end: usize,
-    /// About how many bytes less it takes as characters of one font than in the raster, in fine parts.
+    /// About how many bytes it takes in the raster, in fine parts.
+    raster_bytes: i64,
+    /// About how many bytes less it takes as characters of one font, where all tiles of the page are such, in fine parts.
     gain: i64,
 }
 
 impl Pictures {
+    /// None.
+    fn none(alloc: Global) -> Pictures {
+        Pictures {
+            tiles: Vec::new(alloc),
+            stretches: Vec::new(alloc),
+        }
+    }
+
     /// Those that lie so, up to about this many tiles. Stretches that would gain nothing in one font are left out.
     fn of(
         alloc: Global,
@@ -177,10 +156,7 @@ impl Pictures {
     ) -> Result<Pictures, AllocError> {
         let counts = TileCounts::of_page(alloc, page, grid)?;
         let mut band = Band::new(alloc, page, grid, page.area());
-        let mut pictures = Pictures {
-            tiles: Vec::new(alloc),
-            stretches: Vec::new(alloc),
-        };
+        let mut pictures = Pictures::none(alloc);
         for number in numbers_of(page, grid, page.area()) {
             if pictures.tiles.len() < limit {
                 band.read(grid.top_of(number))?;
@@ -215,14 +191,54 @@ impl Pictures {
         let start = self.tiles.len();
         append_joined(band, counts, stretch, &mut self.tiles)?;
         let bytes = bytes_in_one_font(counts, self.tiles.get(start..).unwrap_or(&[]));
-        let gain = in_fine_parts(band.raster_bytes(stretch)).saturating_sub(bytes);
+        let raster_bytes = in_fine_parts(band.raster_bytes(stretch));
+        let gain = raster_bytes.saturating_sub(bytes);
         if gain > 0 {
-            let end = self.tiles.len();
-            self.stretches.push(PictureStretch { end, gain })?;
+            self.stretches.push(PictureStretch {
+                end: self.tiles.len(),
+                raster_bytes,
+                gain,
+            })?;
         } else {
             self.tiles.truncate(start);
         }
         Ok(())
+    }
+
+    /// Those of the stretches that gain more than what leads from font to font takes.
+    fn shorter(&self, alloc: Global, fonts: &CodeFonts) -> Result<Pictures, AllocError> {
+        let mut kept = Pictures::none(alloc);
+        let mut start: usize = 0;
+        for stretch in self.stretches.iter() {
+            let tiles = self.tiles.get(start..stretch.end).unwrap_or(&[]);
+            if fonts.bytes_between(tiles) < stretch.gain {
+                kept.tiles.extend_from_slice(tiles)?;
+                kept.stretches.push(PictureStretch {
+                    end: kept.tiles.len(),
+                    raster_bytes: stretch.raster_bytes,
+                    gain: stretch.gain,
+                })?;
+            }
+            start = stretch.end;
+        }
+        Ok(kept)
+    }
+
+    /// Whether all stretches together take fewer bytes as characters than in the raster: where others of the page are none, each of these
+    /// characters is used less.
+    fn pay(&self, alloc: Global) -> Result<bool, AllocError> {
+        let fonts = CodeFonts::of(alloc, &self.tiles)?;
+        let mut gain: i64 = 0;
+        let mut start: usize = 0;
+        for stretch in self.stretches.iter() {
+            let tiles = self.tiles.get(start..stretch.end).unwrap_or(&[]);
+            let bytes = fonts.bytes_of(tiles);
+            gain = gain
+                .saturating_add(stretch.raster_bytes)
+                .saturating_sub(bytes);
+            start = stretch.end;
+        }
+        Ok(gain > 0)
     }
 }
 
