@@ -1,8 +1,8 @@
 -- Faults that come of an image.
-use Rattle.pcl_same.specs.declared.comparison.Comparison.TheVariants.{Same, PageCount, Page}
+use Rattle.pcl_same.specs.declared.comparison.PageComparison.TheVariants.{Same, PageCount, Page}
 use Rattle.pcl_same.specs.declared.comparison.Difference.TheVariants.{Size, Copies, Dot}
 use Rattle.std.specs.Prelude.{◌≡◌}
-use Rattle.pcl_answers.proofs.Names.{Comparison, IsComparison, DifferInDots, dotted_page, List, ℕ, Option, Some, Err, inl, refl, arith, Bor, Profile, Dpi, Picture, Fault, Memory, WriteFault, IsImageWritten, FileFault, FileAct, write_fault_of, IsDifferingPage, IsImageMade, IsImageDrawnTo}
+use Rattle.pcl_answers.proofs.Names.{PageComparison, IsComparison, DifferInDots, dotted_page, List, ℕ, Option, Some, Err, inl, refl, arith, Bor, Profile, Dpi, Picture, Fault, Memory, WriteFault, IsImageWritten, FileFault, FileAct, write_fault_of, IsDifferingPage, IsImageMade, IsImageDrawnTo}
 
 -- a fault that an image can have
 abbrev pub IsImageFault : Fault → Type 0
@@ -34,7 +34,7 @@ undrawn acts name number widest dpi first second files Memory d = inl (refl, ref
 undrawn acts name number widest dpi first second files other d = absurd d
 
 -- jobs that differ first in a dot of this page
-pub differ_in_dots : (widest : Profile) (dpi : Dpi) (first second : List ℕ) (comparison : Comparison) (number : ℕ)
+pub differ_in_dots : (widest : Profile) (dpi : Dpi) (first second : List ℕ) (comparison : PageComparison) (number : ℕ)
     → IsComparison widest dpi first second comparison → dotted_page comparison ≡ Some number
     → DifferInDots widest dpi first second number
 differ_in_dots widest dpi first second (Page n (Dot x y)) number is e =

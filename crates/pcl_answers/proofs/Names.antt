@@ -13,7 +13,7 @@ pub use Rattle.pcl_streams.specs.declared.{fault.Fault.Fault, fault.Fault.TheVar
 pub use Rattle.pcl_tool.specs.declared.{job_verdict.CheckAnswer.CheckAnswer, job_verdict.JobVerdict.JobVerdict, job_verdict.JobVerdict.TheVariants.Proved}
 pub use Rattle.pcl_same.proofs.Names.{AreReadBy, IsAskedComparison, IsCompared, IsComparison, of_pages}
 pub use Rattle.pcl_same.proofs.{OneAnswer.alike_count}
-pub use Rattle.pcl_same.specs.declared.{comparison.AskedComparison.AskedComparison, comparison.AskedComparison.TheVariants.Asks, comparison.AskedComparison.TheVariants.Pages, comparison.AskedComparison.TheVariants.Same, comparison.Comparison.Comparison, fault.SameFault.SameFault}
+pub use Rattle.pcl_same.specs.declared.{comparison.AskedComparison.AskedComparison, comparison.AskedComparison.TheVariants.Asks, comparison.AskedComparison.TheVariants.Pages, comparison.AskedComparison.TheVariants.Same, comparison.PageComparison.PageComparison, fault.SameFault.SameFault}
 pub use Rattle.pcl_request.specs.{Requests.performed}
 pub use Rattle.pcl_request.specs.declared.{request.CheckedFiles.CheckedFiles, request.ComparedFiles.ComparedFiles}
 pub use Rattle.pcl_answers.specs.{Checks.AreRead, Checks.IsAnswer, Checks.IsCheckRun, Checks.IsCheckedBeside, Checks.IsFileUnread, Checks.verdict_status_for, ComparisonLines.comparison_line_of, Comparisons.AreComparedAt, Comparisons.AreFilesSeen, Comparisons.AreUnlike, Comparisons.IsFiner, Comparisons.IsCompareRun, Comparisons.IsComparedAndDrawn, Comparisons.IsComparisonFor, Comparisons.IsOneUnread, Comparisons.compare_fault_of, DifferenceImages.DifferInDots, DifferenceImages.IsDifferingPage, DifferenceImages.IsImageDrawn, DifferenceImages.IsImageDrawnTo, DifferenceImages.IsImageMade, DifferenceImages.dotted_page, Verdicts.answer_line_of, Verdicts.numbers_text, Verdicts.openness_text, Verdicts.verdict_text}

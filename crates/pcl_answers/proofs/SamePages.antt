@@ -1,7 +1,7 @@
 -- The pages of this number that two jobs have, which the comparison of the jobs speaks of.
 use Rattle.std.proofs.Common.{◌≡◌, ◌∙◌, ℕ, ◌+◌, ◌-◌, List, [], ◌∷◌, ◌++◌, length, Some, Err, inl, inr, refl, sym, ap, subst, arith}
 use Rattle.pcl_same.specs.Comparing.{IsComparisonBy}
-use Rattle.pcl_same.specs.declared.comparison.Comparison.TheVariants.{Page}
+use Rattle.pcl_same.specs.declared.comparison.PageComparison.TheVariants.{Page}
 use Rattle.pcl_same.specs.declared.comparison.Difference.TheVariants.{Dot}
 use Rattle.pcl_answers.proofs.Names.{Profile, Stated, Drivers, slice_get, length-append, Dpi, Refusal, Picture, Said, IsReading, reading_again, fault_found_of, Sheet, HasPagesBy, IsRefusalBy, Fault, Refused, Memory, NoSuchPage, HasPage, HasNoPage, IsPageDots, alike_count, DifferInDots, IsDifferingPage, AreReadBy}
 

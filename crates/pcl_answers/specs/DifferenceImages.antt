@@ -8,8 +8,8 @@ use Rattle.pcl_streams.specs.declared.fault.Fault.{Fault}
 use Rattle.pcl_streams.specs.declared.fault.Fault.TheVariants.{Refused, Memory, ReadFault, TooLong, CertificateTooLong, WriteFault, NoSuchPage}
 use Rattle.pcl_streams.specs.Image.{IsImageWritten}
 use Rattle.pcl_streams.specs.Preview.{HasPage}
-use Rattle.pcl_same.specs.declared.comparison.Comparison.{Comparison}
-use Rattle.pcl_same.specs.declared.comparison.Comparison.TheVariants.{Page}
+use Rattle.pcl_same.specs.declared.comparison.PageComparison.{PageComparison}
+use Rattle.pcl_same.specs.declared.comparison.PageComparison.TheVariants.{Page}
 use Rattle.pcl_same.specs.declared.comparison.Difference.TheVariants.{Dot}
 use Rattle.pcl_same.specs.Comparing.{AreReadBy, IsComparison}
 use Rattle.pcl_same.specs.DifferingDots.{IsDifference}
@@ -18,7 +18,7 @@ use Rattle.pcl_files.specs.WholeFiles.{IsSettled}
 use Rattle.pcl_files.specs.declared.files.FileFault.{FileFault}
 
 -- the page where the first difference is one of dots
-abbrev pub dotted_page : Comparison → Option ℕ
+abbrev pub dotted_page : PageComparison → Option ℕ
 dotted_page (Page number (Dot x y)) = Some number
 dotted_page other = None
 
@@ -64,6 +64,6 @@ IsImageDrawnTo acts name number widest dpi first second files kept done = (kept 
 
 -- what becomes of the image of a comparison
 abbrev pub IsImageDrawn : {F : Type 0} → (F → FileAct → F → Type 0) → Option (Bor (List ℕ)) → (widest : Profile) → Dpi
-    → (first second : List ℕ) → Comparison → (files kept : F) → Result (Unit {0}) Fault → Type 0
+    → (first second : List ℕ) → PageComparison → (files kept : F) → Result (Unit {0}) Fault → Type 0
 IsImageDrawn acts name widest dpi first second comparison files kept done =
     IsImageDrawnTo acts name (dotted_page comparison) widest dpi first second files kept done

@@ -7,7 +7,7 @@ ghost use Rattle.pcl_answers.specs.DifferenceImages.{dotted_page, DifferInDots, 
 use pcl_base::{Dpi, Profile};
 use pcl_bitmap::Bitmap;
 use pcl_files::{JobFiles, settle};
-use pcl_same::{Comparison, Difference, differing_dots, read_by};
+use pcl_same::{Difference, PageComparison, differing_dots, read_by};
 use pcl_streams::{Fault, page_dots, write_image};
 use std::alloc::Global;
 
@@ -21,7 +21,7 @@ pub fn draw_difference<F: JobFiles>(
     second: &[u8],
     widest: Profile,
     dpi: Dpi,
-    comparison: &Comparison,
+    comparison: &PageComparison,
 ) -> Result<(), Fault>
     requires { IsComparison widest dpi first.now second.now comparison.now }
     ensures { IsImageDrawn F.acts image.entry widest dpi first.now second.now comparison.now files.old files.new result }
@@ -36,11 +36,11 @@ pub fn draw_difference<F: JobFiles>(
 }
 
 /// The number of the page where the first difference is one of dots.
-fn dotted_page(comparison: &Comparison) -> Option<usize>
+fn dotted_page(comparison: &PageComparison) -> Option<usize>
     ensures { result ≡ dotted_page comparison.now }
 {
     match comparison {
-        Comparison::Page {
+        PageComparison::Page {
             number,
             difference: Difference::Dot { .. },
         } => Some(*number),

@@ -12,7 +12,7 @@ use crate::rewriter::Rewriter;
 use indexmap::IndexSet;
 use itoa::Buffer;
 use pcl_files::{Failure, FileFault, JobFiles, Reporter};
-use pcl_report::{Entry, Paths, Totals, header};
+use pcl_report::{Paths, ReportEntry, Totals, header};
 use pcl_request::{Batch, Destination, Rewriting};
 use pcl_streams::{Fault, write_all};
 use std::alloc::{AllocError, Global};
@@ -33,7 +33,7 @@ impl Tally {
     };
 
     /// With one job more.
-    fn with(self, entry: &Entry<'_>) -> Tally
+    fn with(self, entry: &ReportEntry<'_>) -> Tally
         ensures { IsHonestTally self → IsHonest entry.now → IsHonestTally result }
     {
         Tally {
@@ -107,14 +107,14 @@ fn entry_of<'w, F: JobFiles, R: Rewriter>(
     job: Name<'w>,
     names: &mut IndexSet<String>,
     rewriter: R,
-) -> Result<Entry<'w>, AllocError>
+) -> Result<ReportEntry<'w>, AllocError>
     ensures { IfOk result IsHonest }
 {
     match job {
         Name::Path(path) => entry_of_file(files, alloc, batch, path, names, rewriter),
         Name::NoText(line) => {
             let Reason { status, said } = Reason::of_no_text(alloc, line)?;
-            Ok(Entry::failed(None, status, said))
+            Ok(ReportEntry::failed(None, status, said))
         }
     }
 }
@@ -127,7 +127,7 @@ fn entry_of_file<'w, F: JobFiles, R: Rewriter>(
     path: &'w str,
     names: &mut IndexSet<String>,
     rewriter: R,
-) -> Result<Entry<'w>, AllocError>
+) -> Result<ReportEntry<'w>, AllocError>
     ensures { IfOk result IsHonest }
 {
     let obstacle = match Paths::new(alloc, batch.place, path)? {
@@ -138,7 +138,7 @@ fn entry_of_file<'w, F: JobFiles, R: Rewriter>(
         None => Obstacle::LeadsOut,
     };
     let Reason { status, said } = Reason::of(alloc, obstacle)?;
-    Ok(Entry::failed(Some(path), status, said))
+    Ok(ReportEntry::failed(Some(path), status, said))
 }
 
 /// Notes the names of what is written of a job, and says whether no job before it had one of them.

@@ -10,7 +10,7 @@ use crate::writing::write_again;
 use pcl_base::{Dpi, JobFault};
 use pcl_files::{FileKind, JobFiles, read_file, resolve};
 use pcl_page::{Readers, page_count};
-use pcl_report::{Entry, FileSum, Outcome, Paths, Sums, file_name, sums_text};
+use pcl_report::{FileSum, Outcome, Paths, ReportEntry, Sums, file_name, sums_text};
 use pcl_request::{Batch, Destination, Profiles, Rewriting};
 use pcl_streams::Fault;
 use std::alloc::{AllocError, Global};
@@ -24,7 +24,7 @@ pub(crate) fn write_job<'w, F: JobFiles, R: Rewriter>(
     file: &'w str,
     paths: &Paths,
     rewriter: R,
-) -> Result<Entry<'w>, AllocError>
+) -> Result<ReportEntry<'w>, AllocError>
     ensures { IfOk result IsHonest }
 {
     if let Some(obstacle) = obstacle_of(files, batch.place, file, paths) {
@@ -59,10 +59,10 @@ fn obstacle_of<F: JobFiles>(
 }
 
 /// What is reported of a job of which nothing is known.
-fn unseen<'w>(file: &'w str, reason: Reason) -> Entry<'w>
+fn unseen<'w>(file: &'w str, reason: Reason) -> ReportEntry<'w>
     ensures { IsFailing reason → IsHonest result }
 {
-    Entry::failed(Some(file), reason.status, reason.said)
+    ReportEntry::failed(Some(file), reason.status, reason.said)
 }
 
 /// Writes a job of these bytes again, unless an earlier batch did.
@@ -74,7 +74,7 @@ fn write_bytes<'w, F: JobFiles, R: Rewriter>(
     paths: &Paths,
     bytes: &[u8],
     rewriter: R,
-) -> Result<Entry<'w>, AllocError>
+) -> Result<ReportEntry<'w>, AllocError>
     ensures { IfOk result IsHonest }
 {
     let profile = batch.rewriting.profile();
@@ -158,14 +158,14 @@ impl Came {
         dpi: Option<u32>,
         pages: Option<usize>,
         input: FileSum,
-    ) -> Entry<'w>
+    ) -> ReportEntry<'w>
         ensures { FailsByReason self → IsHonest result }
     {
         let (outcome, status, output, said) = match self {
             Came::Done { outcome, output } => (outcome, 0, Some(output), None),
             Came::Failed(Reason { status, said }) => (Outcome::Failed, status, None, Some(said)),
         };
-        Entry {
+        ReportEntry {
             file: Some(file),
             outcome,
             status,

@@ -132,7 +132,7 @@ fn append_font(layout: &FontLayout, font: usize, out: &mut Vec<u8>) -> Result<()
 
 /// Appends the blanks but the space.
 fn append_blanks(layout: &FontLayout, out: &mut Vec<u8>) -> Result<(), AllocError> {
-    for (number, advance) in layout.spacing.blanks.advances().iter().enumerate().skip(1) {
+    for (number, advance) in layout.spacing.rests.blanks().iter().enumerate().skip(1) {
         let sent = Sent {
             code: blank_code(number),
             left: 0,
@@ -211,7 +211,7 @@ fn append_header(layout: &FontLayout, out: &mut Vec<u8>) -> Result<(), AllocErro
 
 /// Appends the part of a header that says how its font looks.
 fn append_style(layout: &FontLayout, cell: Cell, out: &mut Vec<u8>) -> Result<(), AllocError> {
-    let pitch = layout.spacing.blanks.pitch().saturating_mul(QUARTERS);
+    let pitch = layout.spacing.rests.pitch().saturating_mul(QUARTERS);
     let height = cell.height.saturating_mul(QUARTERS);
     let half_baseline = cell.baseline.saturating_mul(QUARTERS / 2);
     // Portrait, proportional, and the symbol set PC-8.

@@ -1,7 +1,7 @@
 //! How far letters of a line stand from each other, and the rests that advances leave of that.
 
-use crate::blanks::Blanks;
 use crate::feeds::has_feeds;
+use crate::rests::Rests;
 use crate::spacing::Character;
 use indexmap::IndexMap;
 use pcl_patterns::{Letter, Metrics};
@@ -72,23 +72,23 @@ impl Gaps {
         })
     }
 
-    /// The blanks for the rests that the usual advances leave, where none of these characters goes so far.
-    pub fn blanks(
+    /// How the rests are made that the usual advances leave, where none of these characters goes so far.
+    pub fn rests(
         &self,
         alloc: Global,
         characters: &IndexMap<Character, u32>,
         usual: &[u32],
-    ) -> Result<Blanks, AllocError> {
-        let mut rests = IndexMap::new(alloc);
+    ) -> Result<Rests, AllocError> {
+        let mut counts = IndexMap::new(alloc);
         for counted in self.counted.iter() {
             let rest = counted.gap.rest(usual);
             if rest > 0 && !is_sent(characters, counted.gap) {
-                add_count(rest.unsigned_abs(), counted.count, &mut rests)?;
+                add_count(rest.unsigned_abs(), counted.count, &mut counts)?;
             }
         }
-        rests.sort_by_key(|_rest, count| u32::MAX.saturating_sub(*count))?;
+        counts.sort_by_key(|_rest, count| u32::MAX.saturating_sub(*count))?;
         let pitch = self.has_feeds.then_some(FEED_PITCH);
-        Blanks::new(alloc, self.width, &rests, pitch)
+        Rests::new(alloc, self.width, &counts, pitch)
     }
 }
 

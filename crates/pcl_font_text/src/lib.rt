@@ -1,7 +1,6 @@
 //! Letters as characters of soft fonts (docs/GLYPHS.md): the fonts that a job brings along, and its text. Nothing is promised of either.
 #![tactic(auto)]
 
-mod blanks;
 mod codes;
 mod feeds;
 mod fonts;
@@ -9,6 +8,7 @@ mod gaps;
 mod layout;
 mod pen;
 mod permanence;
+mod rests;
 mod spacing;
 
 pub use fonts::{append_fonts, append_unit};

@@ -213,13 +213,13 @@ fn append_rest(
     pen: Pen,
     out: &mut Vec<u8>,
 ) -> Result<Pen, AllocError> {
-    let blanks = &layout.spacing.blanks;
-    let pen = if blanks.needs_first_font(rest) {
+    let rests = &layout.spacing.rests;
+    let pen = if rests.needs_first_font(rest) {
         select_font(0, pen, out)?
     } else {
         pen
     };
-    blanks.append_rest(rest, out)?;
+    rests.append(rest, out)?;
     Ok(pen)
 }
 

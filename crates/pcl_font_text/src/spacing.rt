@@ -1,8 +1,8 @@
 //! How far letters advance, and what makes the rests that are left.
 
-use crate::blanks::Blanks;
 use crate::codes::{Code, code_of_rank};
 use crate::gaps::{CountedGap, Gaps, distance};
+use crate::rests::Rests;
 use indexmap::IndexMap;
 use pcl_patterns::{FONT_CODES, Letter, Letters, Metrics, Patterns, find_metrics, number_of_place};
 use std::alloc::{AllocError, Global};
@@ -38,8 +38,8 @@ pub struct Spacing {
     pub usual: Vec<u32>,
     /// The characters, the most used first, and how often each is used.
     pub characters: IndexMap<Character, u32>,
-    /// What makes rests.
-    pub blanks: Blanks,
+    /// How rests are made.
+    pub rests: Rests,
     /// Whether line feeds may start lines.
     pub has_feeds: bool,
 }
@@ -57,12 +57,12 @@ impl Spacing {
         let gaps = Gaps::of(alloc, widths, &found.letters, &metrics)?;
         let mut usual = first_advances(alloc, &metrics, patterns, found, uses.len())?;
         let characters = find_characters(alloc, patterns, found, &gaps, &uses, &mut usual)?;
-        let blanks = gaps.blanks(alloc, &characters, &usual)?;
+        let rests = gaps.rests(alloc, &characters, &usual)?;
         Ok(Spacing {
             metrics,
             usual,
             characters,
-            blanks,
+            rests,
             has_feeds: gaps.has_feeds,
         })
     }
@@ -77,7 +77,7 @@ impl Spacing {
 
     /// The font and the code of the character of this rank, if there is one left for it.
     pub fn code_of_rank(&self, rank: usize) -> Option<Code> {
-        code_of_rank(rank, self.blanks.len())
+        code_of_rank(rank, self.rests.blanks().len())
     }
 
     /// The font and the code of a character, if it is sent.
@@ -145,11 +145,11 @@ fn find_characters(
     uses: &[u32],
     usual: &mut [u32],
 ) -> Result<IndexMap<Character, u32>, AllocError> {
-    let blanks = settle_advances(alloc, gaps, uses, usual)?;
+    let rests = settle_advances(alloc, gaps, uses, usual)?;
     let mut characters = IndexMap::new(alloc);
     insert_usual(uses, usual, &mut characters)?;
     for counted in gaps.counted.iter() {
-        let bytes = blanks.bytes(counted.gap.rest(usual));
+        let bytes = rests.bytes(counted.gap.rest(usual));
         if pays(patterns, found, counted, bytes) {
             insert_other(counted, &mut characters)?;
         }
@@ -169,44 +169,44 @@ fn leave_far(usual: &[u32], characters: &mut IndexMap<Character, u32>) {
     }
 }
 
-/// Chooses the usual advances in some rounds, and says which blanks the last one chose by.
+/// Chooses the usual advances in some rounds, and says how rests are made by which the last one chose.
 fn settle_advances(
     alloc: Global,
     gaps: &Gaps,
     uses: &[u32],
     usual: &mut [u32],
-) -> Result<Blanks, AllocError> {
+) -> Result<Rests, AllocError> {
     let none = IndexMap::new(alloc);
     for _ in 1..ROUNDS {
-        let blanks = gaps.blanks(alloc, &none, usual)?;
-        choose_advances(&blanks, &gaps.counted, uses, usual);
+        let rests = gaps.rests(alloc, &none, usual)?;
+        choose_advances(&rests, &gaps.counted, uses, usual);
     }
-    let blanks = gaps.blanks(alloc, &none, usual)?;
-    choose_advances(&blanks, &gaps.counted, uses, usual);
-    Ok(blanks)
+    let rests = gaps.rests(alloc, &none, usual)?;
+    choose_advances(&rests, &gaps.counted, uses, usual);
+    Ok(rests)
 }
 
 /// Has each glyph advance by the distance that leaves the fewest bytes, of those that are frequent enough and the advance that it has.
-fn choose_advances(blanks: &Blanks, gaps: &[CountedGap], uses: &[u32], usual: &mut [u32]) {
+fn choose_advances(rests: &Rests, gaps: &[CountedGap], uses: &[u32], usual: &mut [u32]) {
     let mut rest = gaps;
     for (glyph, advance) in usual.iter_mut().enumerate() {
         let number = number_of_place(glyph);
         let count = rest.partition_point(|counted| counted.gap.glyph <= number);
         let (of_glyph, others) = rest.split_at(count.min(rest.len()));
         let uses = uses.get(glyph).copied().unwrap_or(0);
-        *advance = best_advance(blanks, of_glyph, uses, *advance);
+        *advance = best_advance(rests, of_glyph, uses, *advance);
         rest = others;
     }
 }
 
 /// The advance that leaves the fewest bytes between a glyph and what follows it at these distances.
-fn best_advance(blanks: &Blanks, gaps: &[CountedGap], uses: u32, old: u32) -> u32 {
+fn best_advance(rests: &Rests, gaps: &[CountedGap], uses: u32, old: u32) -> u32 {
     let mut best = old;
-    let mut least = bytes_left(blanks, gaps, old);
+    let mut least = bytes_left(rests, gaps, old);
     for counted in gaps {
         if counted.count.saturating_mul(USUAL_PART) >= uses {
             if let Ok(advance) = u32::try_from(counted.gap.distance) {
-                let bytes = bytes_left(blanks, gaps, advance);
+                let bytes = bytes_left(rests, gaps, advance);
                 if bytes < least {
                     best = advance;
                     least = bytes;
@@ -218,10 +218,10 @@ fn best_advance(blanks: &Blanks, gaps: &[CountedGap], uses: u32, old: u32) -> u3
 }
 
 /// How many bytes the rests take that this advance leaves of these distances.
-fn bytes_left(blanks: &Blanks, gaps: &[CountedGap], advance: u32) -> u32 {
+fn bytes_left(rests: &Rests, gaps: &[CountedGap], advance: u32) -> u32 {
     let mut bytes: u32 = 0;
     for counted in gaps {
-        let each = blanks.bytes(counted.gap.rest_of(advance));
+        let each = rests.bytes(counted.gap.rest_of(advance));
         bytes = bytes.saturating_add(each.saturating_mul(counted.count));
     }
     bytes

@@ -19,18 +19,18 @@ const AHEAD: usize = 8;
 
 /// How far right and down of a rule the next one of its series stands, in dots.
 #[derive(Clone, Copy, PartialEq, Eq)]
-pub struct Step {
+pub struct SeriesStep {
     right: u32,
     down: u32,
 }
 
-impl Step {
+impl SeriesStep {
     /// The one from a rule to another: none where their sizes differ, or where it goes to the left or up.
-    fn between(rule: Rule, next: Rule) -> Option<Step> {
+    fn between(rule: Rule, next: Rule) -> Option<SeriesStep> {
         if rule.width != next.width || rule.height != next.height {
             return None;
         }
-        Some(Step {
+        Some(SeriesStep {
             right: next.left.checked_sub(rule.left)?,
             down: next.top.checked_sub(rule.top)?,
         })
@@ -64,14 +64,14 @@ impl Step {
 /// The rules of a series after its first one.
 #[derive(Clone, Copy)]
 pub struct Series {
-    pub step: Step,
+    pub step: SeriesStep,
     /// How many they are.
     pub count: usize,
 }
 
 impl Series {
     /// How many bytes it saves, where the macro that is defined makes this step: none if it saves none.
-    fn saved(self, defined: Option<Step>) -> Option<usize> {
+    fn saved(self, defined: Option<SeriesStep>) -> Option<usize> {
         let definition = if defined == Some(self.step) {
             0
         } else {
@@ -84,7 +84,7 @@ impl Series {
     /// Appends the macro of this ID, unless it is defined so, and its runs.
     pub fn append(
         self,
-        defined: Option<Step>,
+        defined: Option<SeriesStep>,
         id: u32,
         out: &mut Vec<u8>,
     ) -> Result<(), AllocError> {
@@ -100,7 +100,7 @@ impl Series {
 }
 
 /// Appends the definition of a macro that makes a step and a rectangle of the size that is set. Its ID stays set.
-fn append_definition(step: Step, id: u32, out: &mut Vec<u8>) -> Result<(), AllocError> {
+fn append_definition(step: SeriesStep, id: u32, out: &mut Vec<u8>) -> Result<(), AllocError> {
     append_labelled(b"\x1b&f", id, out)?;
     out.extend_from_slice(b"y0X")?;
     step.append(out)?;
@@ -148,7 +148,7 @@ impl<'a> RulesLeft<'a> {
         &self,
         rule: Rule,
         place: usize,
-        defined: Option<Step>,
+        defined: Option<SeriesStep>,
     ) -> Option<Series> {
         let mut longest = None;
         let mut most: usize = 0;
@@ -170,7 +170,7 @@ impl<'a> RulesLeft<'a> {
         if !self.has(next) {
             return None;
         }
-        let step = Step::between(rule, *self.rules.get(next)?)?;
+        let step = SeriesStep::between(rule, *self.rules.get(next)?)?;
         Some(Series {
             step,
             count: self.count_steps(rule, step),
@@ -178,7 +178,7 @@ impl<'a> RulesLeft<'a> {
     }
 
     /// How many times a step leads from a rule to one that is left.
-    fn count_steps(&self, rule: Rule, step: Step) -> usize {
+    fn count_steps(&self, rule: Rule, step: SeriesStep) -> usize {
         let mut count: usize = 0;
         let mut last = rule;
         for _ in 0..self.rules.len() {

@@ -8,7 +8,7 @@
 //! the same bytes. Characters past the first two fonts take a selection each time.
 
 use pcl_patterns::{
-    FINE, Row, RowParts, SELECTION_BYTES, Uses, add, in_fine_parts, number_of, number_of_place,
+    FINE, FontUses, Row, RowParts, SELECTION_BYTES, add, in_fine_parts, number_of, number_of_place,
     quotient, short_number, sum_parts, sum_saved,
 };
 use pcl_shapes::{Collection, PlacedShape};
@@ -87,7 +87,7 @@ impl Frequency {
 
     /// How many shapes each pattern of letters has at least that has its code in the first two fonts.
     fn near_uses(&self, alloc: Global, uses: &[usize]) -> Result<usize, AllocError> {
-        let mut letters = Uses::new(alloc)?;
+        let mut letters = FontUses::new(alloc)?;
         for (place, count) in uses.iter().enumerate() {
             if self.is_letter(number_of_place(place)) {
                 letters.add(*count);

@@ -43,8 +43,8 @@ use Rattle.pcl_answers.specs.ComparisonLines.{comparison_line_of, compare_line_o
 use Rattle.pcl_library.specs.Arguments.{IsSeen, AreSeen, IsChoiceFor, IsScaleFor, IsFormatFor, IsPerformed}
 use Rattle.pcl_library.specs.Failures.{argument_line, outcome_of, job_number}
 use Rattle.pcl_library.specs.declared.answer.Answer.{Answer}
-use Rattle.pcl_library.specs.declared.failure.Failure.{Failure}
-use Rattle.pcl_library.specs.declared.failure.Failure.TheVariants.{Wrong, Run, OneRefused}
+use Rattle.pcl_library.specs.declared.failure.CallFailure.{CallFailure}
+use Rattle.pcl_library.specs.declared.failure.CallFailure.TheVariants.{Wrong, Run, OneRefused}
 
 -- ---- lines and failures
 
@@ -74,7 +74,7 @@ abbrev pub TellsRefusalOf : Job → Refusal → Answer → Type 0
 TellsRefusalOf which refusal answer = TellsOf which (compare_line_of (compare.Refused which refusal)) refusal answer
 
 -- what an answer tells of a failure of a call that was asked for pages up to this one
-abbrev pub Tells : Failure → ℕ → Answer → Type 0
+abbrev pub Tells : CallFailure → ℕ → Answer → Type 0
 Tells (Run (run.Refused refusal)) page answer = TellsRefusal refusal answer
 Tells (OneRefused which refusal) page answer = TellsRefusalOf which refusal answer
 Tells (Wrong argument) page answer = (answer.outcome ≡ 3) × IsLine (argument_line argument) answer.line.now

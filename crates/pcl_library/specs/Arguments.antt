@@ -19,8 +19,8 @@ use Rattle.pcl_request.specs.declared.request.Resolution.TheVariants.{Given, Fir
 use Rattle.pcl_files.specs.Resolutions.{IsSeenAt}
 use Rattle.pcl_library.specs.Failures.{outcome_of}
 use Rattle.pcl_library.specs.declared.failure.Argument.TheVariants as wrong
-use Rattle.pcl_library.specs.declared.failure.Failure.{Failure}
-use Rattle.pcl_library.specs.declared.failure.Failure.TheVariants.{Wrong, Run}
+use Rattle.pcl_library.specs.declared.failure.CallFailure.{CallFailure}
+use Rattle.pcl_library.specs.declared.failure.CallFailure.TheVariants.{Wrong, Run}
 
 -- ---- numbers that a call takes
 
@@ -86,31 +86,31 @@ IsTooLong bytes = input_limit < length bytes
 -- ---- which arguments are right
 
 -- an input isn't too long, or is reported to be
-abbrev pub IsWithinLimit : List ℕ → Result (Unit {0}) Failure → Type 0
+abbrev pub IsWithinLimit : List ℕ → Result (Unit {0}) CallFailure → Type 0
 IsWithinLimit bytes (Ok unit) = length bytes ≤ input_limit
 IsWithinLimit bytes (Err failure) = (failure ≡ Run run.TooLong) × IsTooLong bytes
 
 -- what a number asks for, or that it is wrong
-abbrev pub IsResolutionOf : ℕ → Result Resolution Failure → Type 0
+abbrev pub IsResolutionOf : ℕ → Result Resolution CallFailure → Type 0
 IsResolutionOf number (Ok asked) = resolution_number asked ≡ number
 IsResolutionOf number (Err failure) = (failure ≡ Wrong wrong.Resolution) × IsNoResolution number
 
-abbrev pub IsChoiceOf : (first last : ℕ) → Result PageChoice Failure → Type 0
+abbrev pub IsChoiceOf : (first last : ℕ) → Result PageChoice CallFailure → Type 0
 IsChoiceOf first last (Ok choice) = IsChoiceFor first last choice
 IsChoiceOf first last (Err failure) = (failure ≡ Wrong wrong.Pages) × AreNoPages first last
 
-abbrev pub IsScaleOf : ℕ → Result Scale Failure → Type 0
+abbrev pub IsScaleOf : ℕ → Result Scale CallFailure → Type 0
 IsScaleOf number (Ok scale) = IsScaleFor number scale
 IsScaleOf number (Err failure) = (failure ≡ Wrong wrong.Scale) × IsNoScale number
 
-abbrev pub IsFormatOf : ℕ → Result (Option Format) Failure → Type 0
+abbrev pub IsFormatOf : ℕ → Result (Option Format) CallFailure → Type 0
 IsFormatOf number (Ok format) = IsFormatFor number format
 IsFormatOf number (Err failure) = (failure ≡ Wrong wrong.Format) × IsNoFormat number
 
 -- ---- which arguments fail a call
 
 -- the number of how something ended
-abbrev pub outcome_in : {A : Type 0} → Result A Failure → ℕ
+abbrev pub outcome_in : {A : Type 0} → Result A CallFailure → ℕ
 outcome_in (Ok value) = 0
 outcome_in (Err failure) = outcome_of failure
 

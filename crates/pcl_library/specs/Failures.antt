@@ -12,18 +12,18 @@ use Rattle.pcl_files.specs.Messages.{line_of}
 use Rattle.pcl_answers.specs.ComparisonLines.{compare_line_of}
 use Rattle.pcl_library.specs.declared.failure.Argument.{Argument}
 use Rattle.pcl_library.specs.declared.failure.Argument.TheVariants.{Resolution, Pages, Scale, Format}
-use Rattle.pcl_library.specs.declared.failure.Failure.{Failure}
-use Rattle.pcl_library.specs.declared.failure.Failure.TheVariants.{Wrong, Run, OneRefused}
+use Rattle.pcl_library.specs.declared.failure.CallFailure.{CallFailure}
+use Rattle.pcl_library.specs.declared.failure.CallFailure.TheVariants.{Wrong, Run, OneRefused}
 
-abbrev pub failure_of_job : JobFault → Failure
+abbrev pub failure_of_job : JobFault → CallFailure
 failure_of_job fault = Run (fault_of fault)
 
-abbrev pub failure_of_jobs : SameFault → Failure
+abbrev pub failure_of_jobs : SameFault → CallFailure
 failure_of_jobs (same.Refused which refusal) = OneRefused which refusal
 failure_of_jobs same.Memory = Run run.Memory
 
 -- the number of a failure, as lib/pclmin.h has it; 0 is that of a call that is done
-abbrev pub outcome_of : Failure → ℕ
+abbrev pub outcome_of : CallFailure → ℕ
 outcome_of (Run (run.Refused refusal)) = 1
 outcome_of (OneRefused which refusal) = 1
 outcome_of (Run run.NoSuchPage) = 2
@@ -32,7 +32,7 @@ outcome_of (Run run.TooLong) = 4
 outcome_of (Run other) = 5
 
 -- the call fails before a job is performed, or memory runs out
-abbrev pub IsUnperformed : Failure → Type 0
+abbrev pub IsUnperformed : CallFailure → Type 0
 IsUnperformed failure = 2 < outcome_of failure
 
 -- the number of one of two jobs
@@ -48,7 +48,7 @@ argument_line Scale = codes "pclmin: a scale is 1 to 32\n"
 argument_line Format = codes "pclmin: the format of a certificate is 1 or 2, or 0 for none\n"
 
 -- the line is the one that the program says, with its line feed
-abbrev pub IsSaid : Failure → ℕ → List ℕ → Type 0
+abbrev pub IsSaid : CallFailure → ℕ → List ℕ → Type 0
 IsSaid (Wrong argument) page line = line ≡ argument_line argument
 IsSaid (Run fault) page line = line ≡ line_of fault page
 IsSaid (OneRefused which refusal) page line = line ≡ compare_line_of (compare.Refused which refusal)

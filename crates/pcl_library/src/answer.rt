@@ -3,7 +3,7 @@
 ghost use Rattle.std.specs.Prelude.{◌≡◌, IfOk};
 ghost use Rattle.pcl_library.specs.Answers.{IsLineOf};
 
-use crate::failure::Failure;
+use crate::failure::CallFailure;
 use pcl_base::{Dpi, Refusal};
 use pcl_same::Job;
 use pcl_tool::{Fault, Output};
@@ -116,7 +116,7 @@ impl Answer {
     }
 
     /// A failure of a call; `page` is the last page that was asked for.
-    pub fn of_failure(alloc: Global, failure: &Failure, page: usize) -> Answer
+    pub fn of_failure(alloc: Global, failure: &CallFailure, page: usize) -> Answer
         ensures { Tells failure.now page result }
     {
         let told = Answer {
@@ -125,8 +125,8 @@ impl Answer {
             ..Answer::blank(0)
         };
         match failure {
-            Failure::Run(Fault::Refused(refusal)) => told.refused(Job::First, refusal),
-            Failure::OneRefused { which, refusal } => told.refused(*which, refusal),
+            CallFailure::Run(Fault::Refused(refusal)) => told.refused(Job::First, refusal),
+            CallFailure::OneRefused { which, refusal } => told.refused(*which, refusal),
             _ => told,
         }
     }

@@ -14,7 +14,7 @@ ghost use Rattle.pcl_library.specs.Answers.{Answers, AnswersAt, HasVerdict, IsLi
 
 use crate::answer::Answer;
 use crate::arguments::{resolution_numbered, within_limit};
-use crate::failure::Failure;
+use crate::failure::CallFailure;
 use pcl_answers::answer_line;
 use pcl_base::{Dpi, Profile};
 use pcl_files::resolve;
@@ -75,7 +75,7 @@ fn checked_at(
     other: &[u8],
     certificate: &[u8],
     resolution: u32,
-) -> Result<Dpi, Failure>
+) -> Result<Dpi, CallFailure>
     ensures seen { IfOk result (IsSeen Stated resolution performed.now) }
     ensures unperformed { IfErr result IsUnperformed }
     ensures arguments { FailsBy
@@ -96,7 +96,7 @@ fn check_answer(alloc: Global, input: &[u8], output: &[u8], certificate: &[u8], 
 {
     match check_job(alloc, input, output, certificate, dpi) {
         Ok(verdict) => verdict_answer(alloc, CheckAnswer::Job(verdict), dpi),
-        Err(fault) => Answer::of_failure(alloc, &Failure::Run(fault), 0),
+        Err(fault) => Answer::of_failure(alloc, &CallFailure::Run(fault), 0),
     }
 }
 
@@ -112,7 +112,7 @@ fn images_answer(
 {
     match check_images(alloc, images, output, certificate, dpi, Unwatched) {
         Ok(given) => verdict_answer(alloc, given, dpi),
-        Err(fault) => Answer::of_failure(alloc, &Failure::Run(fault), 0),
+        Err(fault) => Answer::of_failure(alloc, &CallFailure::Run(fault), 0),
     }
 }
 

@@ -6,7 +6,7 @@ ghost use Rattle.pcl_library.specs.Answers.{Compares, ComparesAt};
 
 use crate::answer::Answer;
 use crate::arguments::both_seen_at;
-use crate::failure::Failure;
+use crate::failure::CallFailure;
 use pcl_answers::{compare_jobs, comparison_line};
 use pcl_base::{Dpi, Profile};
 use pcl_request::Layout;
@@ -62,6 +62,6 @@ fn same_answer(alloc: Global, asks: bool, first: &[u8], second: &[u8], dpi: Dpi)
             let line = comparison_line(alloc, Layout::Text, &comparison);
             Answer::of_line(line, comparison.is_same(), dpi)
         }
-        Err(fault) => Answer::of_failure(alloc, &Failure::from(fault), 0),
+        Err(fault) => Answer::of_failure(alloc, &CallFailure::from(fault), 0),
     }
 }

@@ -6,7 +6,7 @@ ghost use Rattle.pcl_library.specs.Answers.{Answers, AnswersAt, HasPageCount, Is
 
 use crate::answer::Answer;
 use crate::arguments::seen_at;
-use crate::failure::Failure;
+use crate::failure::CallFailure;
 use pcl_base::{Dpi, Profile};
 use pcl_explain::explanation;
 use pcl_page::page_count;
@@ -37,7 +37,7 @@ fn page_count_answer(alloc: Global, job: &[u8], dpi: Dpi) -> Answer
 {
     match page_count(alloc, job, Profile::Drivers, dpi) {
         Ok(pages) => Answer::of_page_count(pages, dpi),
-        Err(fault) => Answer::of_failure(alloc, &Failure::from(fault), 0),
+        Err(fault) => Answer::of_failure(alloc, &CallFailure::from(fault), 0),
     }
 }
 
@@ -59,7 +59,7 @@ fn pages_answer(alloc: Global, job: &[u8], dpi: Dpi) -> Answer
 {
     match describe_pages(alloc, job, Profile::Drivers, dpi, Layout::Json) {
         Ok(text) => Answer::of_bytes(text, dpi),
-        Err(fault) => Answer::of_failure(alloc, &Failure::from(fault), 0),
+        Err(fault) => Answer::of_failure(alloc, &CallFailure::from(fault), 0),
     }
 }
 
@@ -86,6 +86,6 @@ fn explain_answer(alloc: Global, job: &[u8], dpi: Dpi) -> Answer
 {
     match explanation(alloc, job, Profile::Drivers, dpi) {
         Ok(text) => Answer::of_bytes(text, dpi),
-        Err(e) => Answer::of_failure(alloc, &Failure::from(e), 0),
+        Err(e) => Answer::of_failure(alloc, &CallFailure::from(e), 0),
     }
 }

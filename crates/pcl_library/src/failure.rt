@@ -2,7 +2,7 @@
 
 ghost use Rattle.std.specs.Prelude.{◌≡◌, IfOk};
 ghost use Rattle.pcl_streams.specs.declared.fault.Fault.TheVariants.{Memory};
-ghost use Rattle.pcl_library.specs.declared.failure.Failure.TheVariants.{Run};
+ghost use Rattle.pcl_library.specs.declared.failure.CallFailure.TheVariants.{Run};
 ghost use Rattle.pcl_library.specs.Failures.{argument_line, failure_of_job, failure_of_jobs, IsSaid, outcome_of};
 
 use pcl_answers::{CompareFault, compare_fault_line};
@@ -43,7 +43,7 @@ impl Argument {
 
 /// Why a call fails.
 #[derive(Clone, Copy, Debug)]
-pub enum Failure {
+pub enum CallFailure {
     /// An argument has a value that the call doesn't take.
     Wrong(Argument),
     /// The call fails as a run of the program does.
@@ -52,18 +52,18 @@ pub enum Failure {
     OneRefused { which: Job, refusal: Refusal },
 }
 
-impl Failure {
+impl CallFailure {
     /// The number of the failure, as lib/pclmin.h has it.
     pub fn outcome(&self) -> u32
         ensures { result ≡ outcome_of self.now }
     {
         match self {
-            Failure::Run(Fault::Refused(_)) | Failure::OneRefused { .. } => 1,
-            Failure::Run(Fault::NoSuchPage) => 2,
-            Failure::Wrong(_) => 3,
-            Failure::Run(Fault::TooLong) => 4,
-            Failure::Run(Fault::Memory | Fault::ReadFault | Fault::WriteFault) => 5,
-            Failure::Run(Fault::CertificateTooLong) => 5,
+            CallFailure::Run(Fault::Refused(_)) | CallFailure::OneRefused { .. } => 1,
+            CallFailure::Run(Fault::NoSuchPage) => 2,
+            CallFailure::Wrong(_) => 3,
+            CallFailure::Run(Fault::TooLong) => 4,
+            CallFailure::Run(Fault::Memory | Fault::ReadFault | Fault::WriteFault) => 5,
+            CallFailure::Run(Fault::CertificateTooLong) => 5,
         }
     }
 
@@ -72,9 +72,9 @@ impl Failure {
         ensures { IfOk result (λ line. IsSaid self.now page line.items) }
     {
         match self {
-            Failure::Wrong(argument) => Vec::from_slice(alloc, argument.line()),
-            Failure::Run(fault) => fault_line(alloc, fault, page),
-            Failure::OneRefused { which, refusal } => {
+            CallFailure::Wrong(argument) => Vec::from_slice(alloc, argument.line()),
+            CallFailure::Run(fault) => fault_line(alloc, fault, page),
+            CallFailure::OneRefused { which, refusal } => {
                 let refused = CompareFault::Refused {
                     which: *which,
                     refusal: *refusal,
@@ -85,29 +85,29 @@ impl Failure {
     }
 }
 
-impl From<AllocError> for Failure {
+impl From<AllocError> for CallFailure {
     ghost from_gives = { λ _ e. e ≡ Run Memory };
 
-    fn from(_e: AllocError) -> Failure {
-        Failure::Run(Fault::Memory)
+    fn from(_e: AllocError) -> CallFailure {
+        CallFailure::Run(Fault::Memory)
     }
 }
 
-impl From<JobFault> for Failure {
+impl From<JobFault> for CallFailure {
     ghost from_gives = { λ fault e. e ≡ failure_of_job fault };
 
-    fn from(fault: JobFault) -> Failure {
-        Failure::Run(Fault::from(fault))
+    fn from(fault: JobFault) -> CallFailure {
+        CallFailure::Run(Fault::from(fault))
     }
 }
 
-impl From<SameFault> for Failure {
+impl From<SameFault> for CallFailure {
     ghost from_gives = { λ fault e. e ≡ failure_of_jobs fault };
 
-    fn from(fault: SameFault) -> Failure {
+    fn from(fault: SameFault) -> CallFailure {
         match fault {
-            SameFault::Refused { which, refusal } => Failure::OneRefused { which, refusal },
-            SameFault::Memory => Failure::Run(Fault::Memory),
+            SameFault::Refused { which, refusal } => CallFailure::OneRefused { which, refusal },
+            SameFault::Memory => CallFailure::Run(Fault::Memory),
         }
     }
 }

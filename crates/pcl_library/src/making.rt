@@ -7,7 +7,7 @@ ghost use Rattle.pcl_library.specs.Answers.{Answers, AnswersAt, HasLeastJob, Has
 
 use crate::answer::Answer;
 use crate::arguments::{FIRST_ACCEPTED, format_numbered, seen_at};
-use crate::failure::Failure;
+use crate::failure::CallFailure;
 use pcl_base::{Dpi, Profile};
 use pcl_cert::Format;
 use pcl_shrink::{Readers, shrink, shrink_everywhere};
@@ -59,7 +59,7 @@ fn least_answer(alloc: Global, job: &[u8], dpi: Dpi) -> Answer
 {
     match least_job(alloc, job, dpi, Unwatched) {
         Ok(least) => Answer::of_bytes(least, dpi),
-        Err(fault) => Answer::of_failure(alloc, &Failure::Run(fault), 0),
+        Err(fault) => Answer::of_failure(alloc, &CallFailure::Run(fault), 0),
     }
 }
 
@@ -70,11 +70,11 @@ fn certified_answer(alloc: Global, job: &[u8], format: Format, dpi: Dpi) -> Answ
     match minimize(alloc, job, dpi, format) {
         Ok(output) => {
             if output.certificate.len() > INPUT_LIMIT {
-                return Answer::of_failure(alloc, &Failure::Run(Fault::CertificateTooLong), 0);
+                return Answer::of_failure(alloc, &CallFailure::Run(Fault::CertificateTooLong), 0);
             }
             Answer::of_output(output, dpi)
         }
-        Err(fault) => Answer::of_failure(alloc, &Failure::Run(fault), 0),
+        Err(fault) => Answer::of_failure(alloc, &CallFailure::Run(fault), 0),
     }
 }
 
@@ -104,7 +104,7 @@ fn shrink_answer(alloc: Global, job: &[u8], dpi: Dpi) -> Answer
 {
     match shrink(alloc, job, Profile::Drivers, dpi, Readers::Printers) {
         Ok(shrunk) => Answer::of_bytes(shrunk.job, dpi),
-        Err(fault) => Answer::of_failure(alloc, &Failure::from(fault), 0),
+        Err(fault) => Answer::of_failure(alloc, &CallFailure::from(fault), 0),
     }
 }
 
@@ -114,6 +114,6 @@ fn everywhere_answer(alloc: Global, job: &[u8], dpi: Dpi) -> Answer
 {
     match shrink_everywhere(alloc, job, Profile::Drivers, Readers::Printers) {
         Ok(shrunk) => Answer::of_bytes(shrunk.job, dpi),
-        Err(fault) => Answer::of_failure(alloc, &Failure::from(fault), 0),
+        Err(fault) => Answer::of_failure(alloc, &CallFailure::from(fault), 0),
     }
 }

@@ -9,7 +9,7 @@ ghost use Rattle.pcl_library.specs.Answers.{Shows, ShowsAt, HasImages, HasGreys,
 
 use crate::answer::Answer;
 use crate::arguments::{pages_between, scale_numbered, seen_at};
-use crate::failure::Failure;
+use crate::failure::CallFailure;
 use pcl_base::{Dpi, Profile};
 use pcl_streams::{ImageForm, preview_pages};
 use pcl_tool::{Fault, PageChoice};
@@ -111,7 +111,7 @@ fn chosen_answer(
 {
     match images(alloc, job, choice, form, dpi) {
         Ok(images) => Answer::of_bytes(images, dpi),
-        Err(fault) => Answer::of_failure(alloc, &Failure::Run(fault), last as usize),
+        Err(fault) => Answer::of_failure(alloc, &CallFailure::Run(fault), last as usize),
     }
 }
 

@@ -3,7 +3,7 @@
 ghost use Rattle.std.specs.Prelude.{◌≤◌};
 
 use crate::macro_layout::MacroLayout;
-use crate::macros::{Macros, append_marks, append_move, append_set};
+use crate::macros::{LetterMacros, append_marks, append_move, append_set};
 use crate::marks::Mark;
 use pcl_base::ROW_LIMIT;
 use pcl_coders::{Delta, RowCoder};
@@ -65,7 +65,7 @@ fn append_content(
 
 /// Appends what the macro of a phrase does: it runs those of its marks, and leaves the ID set that mostly comes next.
 fn append_phrase(
-    macros: &Macros,
+    macros: &LetterMacros,
     mark: Mark,
     marks: &[Mark],
     out: &mut Vec<u8>,
@@ -134,7 +134,7 @@ fn append_advance(
 }
 
 /// Appends the ID that the macro of a glyph leaves set, where that isn't its own.
-fn append_next(macros: &Macros, mark: Mark, out: &mut Vec<u8>) -> Result<(), AllocError> {
+fn append_next(macros: &LetterMacros, mark: Mark, out: &mut Vec<u8>) -> Result<(), AllocError> {
     let left = macros.left(mark);
     if left == mark {
         Ok(())

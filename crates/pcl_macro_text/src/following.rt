@@ -2,7 +2,7 @@
 
 use crate::macros::Uses;
 use crate::marks::Mark;
-use crate::phrases::{Phrase, Text};
+use crate::phrases::{Phrase, PhrasedText};
 use indexmap::IndexMap;
 use pcl_patterns::number_of_place;
 use std::alloc::{AllocError, Global};
@@ -36,7 +36,7 @@ struct Steps {
 /// For each of these marks of a text the one whose ID is set after its macro was executed.
 pub fn find_left(
     alloc: Global,
-    text: &Text,
+    text: &PhrasedText,
     uses: &Uses,
 ) -> Result<IndexMap<Mark, Mark>, AllocError> {
     let mut steps = Steps::new(alloc);
@@ -57,7 +57,7 @@ impl Steps {
     }
 
     /// Counts the steps on the lines of a text, each of which goes on with what the line before left, and those in its phrases.
-    fn count_text(&mut self, text: &Text, uses: &Uses) -> Result<(), AllocError> {
+    fn count_text(&mut self, text: &PhrasedText, uses: &Uses) -> Result<(), AllocError> {
         self.count_marks(&text.script.marks, uses)?;
         for (number, phrase) in text.phrases.iter().enumerate() {
             if uses.contains_key(&Mark::Phrase(number_of_place(number))) {

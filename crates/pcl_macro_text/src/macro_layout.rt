@@ -1,8 +1,8 @@
 //! What of a job is printed by macros.
 
-use crate::macros::Macros;
+use crate::macros::LetterMacros;
 use crate::marks::find_script;
-use crate::phrases::{Text, find_phrases};
+use crate::phrases::{PhrasedText, find_phrases};
 use pcl_patterns::{Letters, Metrics, Patterns, find_metrics};
 use std::alloc::{AllocError, Global};
 
@@ -23,8 +23,8 @@ pub struct MacroLayout {
 #[derive(Drop)]
 pub struct MacroPlan {
     pub metrics: Metrics,
-    pub text: Text,
-    pub macros: Macros,
+    pub text: PhrasedText,
+    pub macros: LetterMacros,
 }
 
 /// The layout of these letters, on pages of these widths, of which `scale` dots are one at 300 dots per inch.
@@ -57,7 +57,7 @@ impl MacroPlan {
         let metrics = find_metrics(alloc, widths, &letters.letters, letters.glyphs.len())?;
         let script = find_script(alloc, widths, &letters.letters, &metrics)?;
         let text = find_phrases(alloc, script)?;
-        let macros = Macros::new(alloc, &text, scale)?;
+        let macros = LetterMacros::new(alloc, &text, scale)?;
         Ok(MacroPlan {
             metrics,
             text,

@@ -3,7 +3,7 @@
 use crate::blanks::Blanks;
 use crate::following::{find_left, left_by};
 use crate::marks::Mark;
-use crate::phrases::{Phrase, Text};
+use crate::phrases::{Phrase, PhrasedText};
 use indexmap::IndexMap;
 use pcl_patterns::{append_labelled, append_signed, number_of_place};
 use std::alloc::{AllocError, Global};
@@ -16,7 +16,7 @@ pub type Uses = IndexMap<Mark, u32>;
 
 /// The macros of a job, and the characters that make gaps.
 #[derive(Drop)]
-pub struct Macros {
+pub struct LetterMacros {
     /// The marks that have macros, the most used first.
     pub uses: Uses,
     /// For each of them the mark whose ID is set after its macro was executed.
@@ -26,22 +26,22 @@ pub struct Macros {
 
 /// What macros leave as they are run one after the other.
 #[derive(Clone, Copy)]
-pub struct Setting {
+pub struct IdSetting {
     /// The mark whose ID is set.
     pub set: Option<Mark>,
     /// Whether the sequence in which the last one runs goes on.
     pub is_open: bool,
 }
 
-impl Macros {
+impl LetterMacros {
     /// The macros of a text: those of its glyphs and phrases. `scale` of its dots are one at 300 dots per inch.
-    pub fn new(alloc: Global, text: &Text, scale: u32) -> Result<Macros, AllocError> {
+    pub fn new(alloc: Global, text: &PhrasedText, scale: u32) -> Result<LetterMacros, AllocError> {
         let mut uses = IndexMap::new(alloc);
         count_text(text, &mut uses)?;
         let blanks = find_blanks(alloc, &uses, scale)?;
         keep_macros(&mut uses)?;
         let left = find_left(alloc, text, &uses)?;
-        Ok(Macros { uses, left, blanks })
+        Ok(LetterMacros { uses, left, blanks })
     }
 
     /// The ID of the macro that prints a mark, if it has one.
@@ -57,13 +57,13 @@ impl Macros {
 
     /// What is set once the macro of a mark ran before the rest of some marks: its own ID where it runs once more. At their end the
     /// sequence goes on as it is said.
-    fn setting_after(&self, mark: Mark, rest: &[Mark], goes_on: bool) -> Setting {
+    fn setting_after(&self, mark: Mark, rest: &[Mark], goes_on: bool) -> IdSetting {
         let left = if self.first_with_macro(rest) == Some(mark) {
             mark
         } else {
             self.left(mark)
         };
-        Setting {
+        IdSetting {
             set: Some(left),
             is_open: match rest.first() {
                 Some(next) => self.id(*next).is_some(),
@@ -89,7 +89,7 @@ impl Macros {
 }
 
 /// Counts the marks of a text, and of the phrases that are used in it.
-pub fn count_text(text: &Text, uses: &mut Uses) -> Result<(), AllocError> {
+pub fn count_text(text: &PhrasedText, uses: &mut Uses) -> Result<(), AllocError> {
     count_marks(&text.script.marks, uses)?;
     count_parts(&text.phrases, uses)
 }
@@ -140,13 +140,13 @@ fn keep_macros(uses: &mut Uses) -> Result<(), AllocError> {
 /// Appends what prints marks, where the ID of this one is set before: macros run in one sequence as far as they come in turn, and
 /// gaps. The last sequence goes on after the marks if it is said so. Says what is set then.
 pub fn append_marks(
-    macros: &Macros,
+    macros: &LetterMacros,
     marks: &[Mark],
     set: Option<Mark>,
     goes_on: bool,
     out: &mut Vec<u8>,
-) -> Result<Setting, AllocError> {
-    let mut setting = Setting {
+) -> Result<IdSetting, AllocError> {
+    let mut setting = IdSetting {
         set,
         is_open: false,
     };
@@ -168,7 +168,7 @@ pub fn append_marks(
 fn append_id_unless_set(
     mark: Mark,
     id: u32,
-    setting: Setting,
+    setting: IdSetting,
     out: &mut Vec<u8>,
 ) -> Result<(), AllocError> {
     append_start(setting.is_open, out)?;
@@ -181,7 +181,7 @@ fn append_id_unless_set(
 
 /// Appends what runs the macro whose ID is set, so that this is set after it: an execution where that is what the macro leaves, and
 /// else a call, which puts back the ID.
-fn append_run(after: Setting, is_left: bool, out: &mut Vec<u8>) -> Result<(), AllocError> {
+fn append_run(after: IdSetting, is_left: bool, out: &mut Vec<u8>) -> Result<(), AllocError> {
     out.push(if is_left { b'2' } else { b'3' })?;
     out.push(if after.is_open { b'x' } else { b'X' })?;
     Ok(())
@@ -189,7 +189,7 @@ fn append_run(after: Setting, is_left: bool, out: &mut Vec<u8>) -> Result<(), Al
 
 /// Appends what sets the ID of the macro of a mark, which ends a sequence that may be open.
 pub fn append_set(
-    macros: &Macros,
+    macros: &LetterMacros,
     mark: Mark,
     is_open: bool,
     out: &mut Vec<u8>,
@@ -219,7 +219,7 @@ fn append_id(id: u32, letter: &[u8], out: &mut Vec<u8>) -> Result<(), AllocError
 }
 
 /// Appends what makes the gap that a mark is: its character, or else a move.
-fn append_gap(macros: &Macros, mark: Mark, out: &mut Vec<u8>) -> Result<(), AllocError> {
+fn append_gap(macros: &LetterMacros, mark: Mark, out: &mut Vec<u8>) -> Result<(), AllocError> {
     let Mark::Gap(gap) = mark else {
         return Ok(());
     };

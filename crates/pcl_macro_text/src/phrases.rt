@@ -66,7 +66,7 @@ fn bytes_of(mark: Mark) -> u32 {
 
 /// The lines of a job, and the phrases in them.
 #[derive(Drop)]
-pub struct Text {
+pub struct PhrasedText {
     pub script: Script,
     pub phrases: Vec<Phrase>,
     /// The two marks of which each phrase is made.
@@ -74,8 +74,8 @@ pub struct Text {
 }
 
 /// The text of a script, with its phrases.
-pub fn find_phrases(alloc: Global, script: Script) -> Result<Text, AllocError> {
-    let mut text = Text {
+pub fn find_phrases(alloc: Global, script: Script) -> Result<PhrasedText, AllocError> {
+    let mut text = PhrasedText {
         script,
         phrases: Vec::new(alloc),
         pairs: IndexSet::new(alloc),
@@ -87,7 +87,7 @@ pub fn find_phrases(alloc: Global, script: Script) -> Result<Text, AllocError> {
     Ok(text)
 }
 
-impl Text {
+impl PhrasedText {
     /// Joins the pairs that are frequent.
     fn join(&mut self, alloc: Global) -> Result<(), AllocError> {
         let pairs = self.frequent_pairs(alloc)?;
@@ -213,7 +213,7 @@ impl Text {
 }
 
 /// Phrases that aren't used often enough.
-impl Text {
+impl PhrasedText {
     /// Puts the marks of phrases whose macros take more bytes than they save in their place.
     fn drop_dear(&mut self, alloc: Global) -> Result<(), AllocError> {
         let dear = self.find_dear(alloc)?;

@@ -4,6 +4,7 @@
 #![tactic(auto)]
 
 mod compression;
+mod font_uses;
 mod forms;
 mod letters;
 mod lists;
@@ -13,9 +14,9 @@ mod parts;
 mod pattern_set;
 mod patterns;
 mod stamping;
-mod uses;
 
 pub use compression::append_compressed;
+pub use font_uses::{FONT_CODES, FontUses, SELECTION_BYTES};
 pub use forms::{FontKind, Form};
 pub use letters::{Letter, LetterGlyph, Letters};
 pub use lists::{add, number_of, quotient};
@@ -27,4 +28,3 @@ pub use parts::{FINE, ROW_BYTES, Row, RowParts, in_fine_parts, sum_parts, sum_sa
 pub use pattern_set::Patterns;
 pub use patterns::{Drawing, Pattern, PatternRows, row_bytes_of, rows_len};
 pub use stamping::{Dot, StampInk, stamp};
-pub use uses::{FONT_CODES, SELECTION_BYTES, Uses};

@@ -1,11 +1,11 @@
 -- What came of jobs, and whether one failed.
 use Rattle.std.specs.Prelude.{◌≡◌, ◌≢◌, ◌↔◌}
-use Rattle.pcl_report.specs.declared.report.Entry.{Entry}
+use Rattle.pcl_report.specs.declared.report.ReportEntry.{ReportEntry}
 use Rattle.pcl_report.specs.declared.report.Outcome.TheVariants.{Failed}
 use Rattle.pcl_report.specs.declared.report.Totals.{Totals}
 
 -- a job failed exactly where the status for it alone isn't 0
-abbrev pub IsHonest : Entry → Type 0
+abbrev pub IsHonest : ReportEntry → Type 0
 IsHonest entry = (entry.outcome ≡ Failed) ↔ (entry.status ≢ 0)
 
 -- none of these jobs failed

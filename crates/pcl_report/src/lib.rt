@@ -6,5 +6,5 @@ mod report;
 mod sums;
 
 pub use paths::{Paths, file_name};
-pub use report::{Entry, Outcome, Totals, header};
+pub use report::{Outcome, ReportEntry, Totals, header};
 pub use sums::{FileSum, Sums, sums_text};

@@ -34,7 +34,7 @@ impl Outcome {
 
 /// What is reported of a job.
 #[derive(Drop, Serialize)]
-pub struct Entry<'w> {
+pub struct ReportEntry<'w> {
     /// The path of its file, unless its name isn't text.
     pub file: Option<&'w str>,
     pub outcome: Outcome,
@@ -51,13 +51,13 @@ pub struct Entry<'w> {
     pub said: Option<String>,
 }
 
-impl<'w> Entry<'w> {
+impl<'w> ReportEntry<'w> {
     /// Of a job that failed before anything was known of it.
-    pub fn failed(file: Option<&'w str>, status: u8, said: String) -> Entry<'w>
+    pub fn failed(file: Option<&'w str>, status: u8, said: String) -> ReportEntry<'w>
         ensures outcome { result.outcome ≡ Failed }
         ensures status { result.status ≡ status }
     {
-        Entry {
+        ReportEntry {
             file,
             outcome: Outcome::Failed,
             status,
@@ -166,7 +166,7 @@ impl Totals {
     };
 
     /// With one job more.
-    pub fn with(self, entry: &Entry<'_>) -> Totals
+    pub fn with(self, entry: &ReportEntry<'_>) -> Totals
         ensures { HasNoFailure result ↔ (HasNoFailure self × (entry.now.outcome ≢ Failed)) }
     {
         let (written, kept, failed) = match entry.outcome {

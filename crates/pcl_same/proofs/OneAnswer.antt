@@ -1,7 +1,7 @@
 -- Two jobs have one answer.
 use Rattle.std.proofs.Common.{inl, inr, ◌≡◌, ◌≢◌, ℕ, zero, suc, ◌<◌, List, [], ◌∷◌, ◌++◌, length, Bool, Result, Ok, Err, refl, arith}
-use Rattle.pcl_same.proofs.Names.{Profile, Stated, Drivers, Dpi, Refusal, AreAlike, AllAlike, HasPagesBy, IsRefusalBy, Sheet, Comparison, Same, Difference, Size, Copies, Dot, First, Second, SameFault, Memory, Compare, AreReadBy, IsAnsweredByOne, IsComparedBy, IsFirstDot, DifferBy, DifferFirst}
-use Rattle.pcl_same.specs.declared.comparison.Comparison.TheVariants.{Page}
+use Rattle.pcl_same.proofs.Names.{Profile, Stated, Drivers, Dpi, Refusal, AreAlike, AllAlike, HasPagesBy, IsRefusalBy, Sheet, PageComparison, Same, Difference, Size, Copies, Dot, First, Second, SameFault, Memory, Compare, AreReadBy, IsAnsweredByOne, IsComparedBy, IsFirstDot, DifferBy, DifferFirst}
+use Rattle.pcl_same.specs.declared.comparison.PageComparison.TheVariants.{Page}
 use Rattle.pcl_same.specs.declared.fault.SameFault.TheVariants.{Refused}
 
 -- ---- one page
@@ -78,7 +78,7 @@ module _ (dpi : Dpi) where
   alike_count (page ∷ pages) (other ∷ others) a = omega (arith, alike_count pages others a.1)
   alike_count _ _ a = absurd a
 
-  pub one_comparison : (pages others : List Sheet) (a b : Comparison) → Compare dpi pages others a → Compare dpi pages others b → a ≡ b
+  pub one_comparison : (pages others : List Sheet) (a b : PageComparison) → Compare dpi pages others a → Compare dpi pages others b → a ≡ b
   one_comparison pages others Same (Page n d) p q = absurd (none_differs pages others (length q.1.pages_before) d p (first_at q.1))
   one_comparison pages others (Page n d) Same p q = absurd (none_differs pages others (length p.1.pages_before) d q (first_at p.1))
   one_comparison pages others (Page n d) (Page m e) p q =
@@ -128,7 +128,7 @@ module _ {profile : Profile} (one : HasOneMeaning profile) (dpi : Dpi) (first se
         absurd (one.apart dpi first (later r p).0 s (later r p).1 (refused s q))
     one_result (Err (Refused Second r)) (Err (Refused Second s)) p q m n = cc (one.refusal dpi second r s (later r p).2 (later s q).2)
 
-pub same_answer_by : {profile : Profile} → HasOneMeaning profile → (dpi : Dpi) (first second : List ℕ) (a b : Result Comparison SameFault)
+pub same_answer_by : {profile : Profile} → HasOneMeaning profile → (dpi : Dpi) (first second : List ℕ) (a b : Result PageComparison SameFault)
     → IsComparedBy profile dpi first second a → IsComparedBy profile dpi first second b → a ≢ Err Memory → b ≢ Err Memory → a ≡ b
 same_answer_by {profile} one dpi first second =
     one_result one dpi first second (IsComparedBy profile dpi first second) (λ c p. (p.pages, p.meaning, p.others, p.other_meaning))

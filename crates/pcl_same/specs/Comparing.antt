@@ -15,8 +15,8 @@ use Rattle.pcl_same.specs.declared.asking.LastExit.{LastExit}
 use Rattle.pcl_same.specs.declared.asking.LastExit.TheVariants.{Counts, Ends}
 use Rattle.pcl_same.specs.declared.comparison.AskedComparison.{AskedComparison}
 use Rattle.pcl_same.specs.declared.comparison.AskedComparison.TheVariants as asked
-use Rattle.pcl_same.specs.declared.comparison.Comparison.{Comparison}
-use Rattle.pcl_same.specs.declared.comparison.Comparison.TheVariants.{Same, PageCount, Page}
+use Rattle.pcl_same.specs.declared.comparison.PageComparison.{PageComparison}
+use Rattle.pcl_same.specs.declared.comparison.PageComparison.TheVariants.{Same, PageCount, Page}
 use Rattle.pcl_same.specs.declared.comparison.PagesDifference.TheVariants as pages
 use Rattle.pcl_same.specs.declared.fault.Job.{Job}
 use Rattle.pcl_same.specs.declared.fault.Job.TheVariants.{First, Second}
@@ -26,7 +26,7 @@ use Rattle.pcl_same.specs.Differing.{DifferFirst}
 use Rattle.pcl_same.specs.DifferingAsks.{AsksDifferBy, as_counted}
 
 -- two lists of pages are the same, one by one; or not as many; or as many, of which one pair is the first that differs
-abbrev pub Compare : Dpi → List Sheet → List Sheet → Comparison → Type 0
+abbrev pub Compare : Dpi → List Sheet → List Sheet → PageComparison → Type 0
 Compare dpi pages others Same = AllAlike dpi pages others
 Compare dpi pages others (PageCount count other_count) =
     (length pages ≡ count) × (length others ≡ other_count) × (count ≢ other_count)
@@ -54,7 +54,7 @@ IsAnsweredByOne IsBy widest dpi first second (Err Memory) = Unit {0}
 -- ---- pages
 
 -- a profile accepts both jobs, and their pages compare so
-pub record IsComparisonBy (profile : Profile) (dpi : Dpi) (first second : List ℕ) (comparison : Comparison) : Type 0 where
+pub record IsComparisonBy (profile : Profile) (dpi : Dpi) (first second : List ℕ) (comparison : PageComparison) : Type 0 where
   pub pages : List Sheet
   pub meaning : HasPagesBy profile dpi first pages
   pub others : List Sheet
@@ -62,24 +62,24 @@ pub record IsComparisonBy (profile : Profile) (dpi : Dpi) (first second : List �
   pub compare : Compare dpi pages others comparison
 
 -- a job that is refused, the first before the second; no fault comes but this and out of memory
-abbrev pub IsComparedBy : Profile → Dpi → List ℕ → List ℕ → Result Comparison SameFault → Type 0
+abbrev pub IsComparedBy : Profile → Dpi → List ℕ → List ℕ → Result PageComparison SameFault → Type 0
 IsComparedBy profile dpi first second (Ok comparison) = IsComparisonBy profile dpi first second comparison
 IsComparedBy profile dpi first second (Err (Refused First refusal)) = IsRefusalBy profile dpi first refusal
 IsComparedBy profile dpi first second (Err (Refused Second refusal)) =
     (pages : List Sheet) × HasPagesBy profile dpi first pages × IsRefusalBy profile dpi second refusal
 IsComparedBy profile dpi first second (Err Memory) = Unit {0}
 
-abbrev pub IsCompared : (widest : Profile) → Dpi → List ℕ → List ℕ → Result Comparison SameFault → Type 0
+abbrev pub IsCompared : (widest : Profile) → Dpi → List ℕ → List ℕ → Result PageComparison SameFault → Type 0
 IsCompared widest dpi first second answer =
     IsAnsweredByOne (λ profile it. IsComparedBy profile dpi first second it) widest dpi first second answer
 
-abbrev pub IsComparison : (widest : Profile) → Dpi → List ℕ → List ℕ → Comparison → Type 0
+abbrev pub IsComparison : (widest : Profile) → Dpi → List ℕ → List ℕ → PageComparison → Type 0
 IsComparison widest dpi first second comparison = IsCompared widest dpi first second (Ok comparison)
 
 -- ---- with what is asked
 
 -- what is found of the pages alone
-abbrev pub of_pages : AskedComparison → Comparison
+abbrev pub of_pages : AskedComparison → PageComparison
 of_pages asked.Same = Same
 of_pages (asked.Pages (pages.Count first second)) = PageCount first second
 of_pages (asked.Pages (pages.Page number difference)) = Page number difference

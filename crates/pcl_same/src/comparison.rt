@@ -9,7 +9,7 @@ use pcl_base::Size;
 
 /// What two accepted jobs are found to be.
 #[derive(Clone, Copy, Debug, PartialEq, Eq)]
-pub enum Comparison {
+pub enum PageComparison {
     /// They have the same pages: as many, in order, of the same sizes, with as many copies, dot for dot.
     Same,
     /// They have different numbers of pages.
@@ -44,17 +44,17 @@ impl AskedComparison {
     }
 
     /// What is found of the pages alone.
-    pub fn of_pages(self) -> Comparison
+    pub fn of_pages(self) -> PageComparison
         ensures { result ≡ of_pages self }
     {
         match self {
             AskedComparison::Pages(PagesDifference::Count { first, second }) => {
-                Comparison::PageCount { first, second }
+                PageComparison::PageCount { first, second }
             }
             AskedComparison::Pages(PagesDifference::Page { number, difference }) => {
-                Comparison::Page { number, difference }
+                PageComparison::Page { number, difference }
             }
-            AskedComparison::Same | AskedComparison::Asks(_) => Comparison::Same,
+            AskedComparison::Same | AskedComparison::Asks(_) => PageComparison::Same,
         }
     }
 }

@@ -8,7 +8,7 @@ ghost use Rattle.pcl_same.specs.declared.asking.LastExit.TheVariants.{Ends};
 use crate::asking::LastExit;
 use crate::comparing::compare_counting;
 use crate::keeping::keep_job;
-use crate::{AskedComparison, Comparison, Job, SameFault};
+use crate::{AskedComparison, Job, PageComparison, SameFault};
 use pcl_base::{Dpi, Profile};
 use pcl_page::is_accepted;
 use std::alloc::{AllocError, Global};
@@ -23,7 +23,7 @@ pub fn same(
     second: &[u8],
     widest: Profile,
     dpi: Dpi,
-) -> Result<Comparison, SameFault>
+) -> Result<PageComparison, SameFault>
     ensures { IsCompared widest dpi first.now second.now result }
 {
     match same_asked(alloc, first, second, widest, dpi) {

@@ -6,7 +6,7 @@ ghost use Rattle.pcl_base.specs.declared.profile.Profile.{Profile};
 ghost use Rattle.pcl_same.specs.Comparing.{IsCompared, IsComparedAsked, IsComparedAskedBy};
 ghost use Rattle.pcl_same.specs.declared.asking.LastExit.{LastExit};
 ghost use Rattle.pcl_same.specs.declared.comparison.AskedComparison.{AskedComparison};
-ghost use Rattle.pcl_same.specs.declared.comparison.Comparison.{Comparison};
+ghost use Rattle.pcl_same.specs.declared.comparison.PageComparison.{PageComparison};
 ghost use Rattle.pcl_same.specs.declared.fault.SameFault.{SameFault};
 ghost use Rattle.pcl_same.specs.declared.fault.SameFault.TheVariants.{Memory};
 
@@ -15,7 +15,7 @@ use pcl_page::one_meaning;
 /// Two jobs have one answer at most, out of memory aside: it is `Same` exactly where they have the same pages, and a
 /// job is refused exactly where the answer says so. A law: the call does nothing.
 pub fn one_answer()
-    ensures { (widest : Profile) (dpi : Dpi) (first second : List ℕ) (answer other : Result Comparison SameFault)
+    ensures { (widest : Profile) (dpi : Dpi) (first second : List ℕ) (answer other : Result PageComparison SameFault)
         → IsCompared widest dpi first second answer → IsCompared widest dpi first second other
         → answer ≢ Err Memory → other ≢ Err Memory → answer ≡ other }
 {

@@ -19,7 +19,7 @@ mod laws;
 
 pub use comparing::compare_kept;
 pub use comparison::{
-    AskedComparison, AskedDifference, AsksDifference, Comparison, Difference, ExitDifference,
+    AskedComparison, AskedDifference, AsksDifference, Difference, ExitDifference, PageComparison,
     PagesDifference, Setting, SettingDifference,
 };
 pub use fault::{Job, SameFault};

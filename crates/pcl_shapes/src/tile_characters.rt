@@ -2,7 +2,7 @@
 
 use crate::tile_counts::{Counts, TileCounts};
 use crate::tiles::Tile;
-use pcl_patterns::{FINE, SELECTION_BYTES, Uses, in_fine_parts, quotient};
+use pcl_patterns::{FINE, FontUses, SELECTION_BYTES, in_fine_parts, quotient};
 use std::alloc::{AllocError, Global};
 
 /// About how many bytes the character of a tile takes, once for the job.
@@ -47,7 +47,7 @@ impl CodeFonts {
     /// Those of the characters of these tiles.
     pub fn of(alloc: Global, tiles: &[Tile]) -> Result<CodeFonts, AllocError> {
         let counts = TileCounts::of_characters(alloc, tiles)?;
-        let mut uses = Uses::new(alloc)?;
+        let mut uses = FontUses::new(alloc)?;
         add_counts(&counts.tiles, &mut uses);
         add_counts(&counts.pairs, &mut uses);
         Ok(CodeFonts {
@@ -88,7 +88,7 @@ impl CodeFonts {
 }
 
 /// Adds those that are used as often as the counts say.
-fn add_counts(counts: &Counts, uses: &mut Uses) {
+fn add_counts(counts: &Counts, uses: &mut FontUses) {
     for count in counts.counts.iter() {
         uses.add(usize::from(*count));
     }

@@ -13,7 +13,7 @@
 use crate::answers::words_of;
 use crate::notation::bytes_of;
 use pcl_base::{Dpi, Profile};
-use pcl_same::{AskedComparison, Comparison, SameFault, same, same_asked};
+use pcl_same::{AskedComparison, PageComparison, SameFault, same, same_asked};
 use std::alloc::{AllocError, Global};
 
 /// What the lines of the table say up to one of them.
@@ -101,7 +101,7 @@ fn take_job(alloc: Global, notation: &str, job: &mut Vec<u8>) -> Result<Taken, A
 }
 
 /// The part of an answer that is about pages.
-fn of_pages(answer: Result<AskedComparison, SameFault>) -> Result<Comparison, SameFault> {
+fn of_pages(answer: Result<AskedComparison, SameFault>) -> Result<PageComparison, SameFault> {
     match answer {
         Ok(comparison) => Ok(comparison.of_pages()),
         Err(fault) => Err(fault),

@@ -7,8 +7,8 @@ use Rattle.pcl_bitmap.specs.Bitmap.{dot}
 use Rattle.pcl_bitmap.specs.declared.page.Page.{Page}
 use Rattle.pcl_page.specs.Situation.{Sheet}
 use Rattle.pcl_page.specs.Performing.{Shows}
-use Rattle.pcl_same.specs.declared.comparison.Comparison.{Comparison}
-use Rattle.pcl_same.specs.declared.comparison.Comparison.TheVariants as comparison
+use Rattle.pcl_same.specs.declared.comparison.PageComparison.{PageComparison}
+use Rattle.pcl_same.specs.declared.comparison.PageComparison.TheVariants as comparison
 use Rattle.pcl_same.specs.declared.comparison.Difference.{Difference}
 use Rattle.pcl_same.specs.declared.comparison.Difference.TheVariants as difference
 use Rattle.pcl_same.specs.declared.comparison.PagesDifference.{PagesDifference}
@@ -81,7 +81,7 @@ IsConcluded count found (Some (pages.Count first second)) = (first ≡ count) ×
 IsConcluded count found (Some (pages.Page number difference)) = (length found ≡ count) × IsFirstFound found number difference
 
 -- the same as an answer
-abbrev pub comparison_of : Option PagesDifference → Comparison
+abbrev pub comparison_of : Option PagesDifference → PageComparison
 comparison_of None = comparison.Same
 comparison_of (Some (pages.Count first second)) = comparison.PageCount first second
 comparison_of (Some (pages.Page number difference)) = comparison.Page number difference

@@ -1,5 +1,5 @@
 use Rattle.std.proofs.Common.{◌≡◌, ◌∙◌, List, ℕ, Option, Result, Ok, Err, inl, inr, refl, sym, subst}
-use Rattle.pcl_answers.proofs.Names.{Vec, err_from_is_err_and, Keeps-refl, Dpi, Fault, Memory, ReadFault, TooLong, WriteFault, AppendsFront, IsWritten, AskedComparison, Comparison, SameFault, IsComparison, IsCompared, of_pages, FileAct, AreComparedAt, IsFileRead, ComparedFiles, Failed, comparison_line_of, AreFilesSeen, IsOneUnread, IsComparisonFor, IsComparedAndDrawn, IsCompareRun, compare_fault_of, dotted_page, IsImageDrawn}
+use Rattle.pcl_answers.proofs.Names.{Vec, err_from_is_err_and, Keeps-refl, Dpi, Fault, Memory, ReadFault, TooLong, WriteFault, AppendsFront, IsWritten, AskedComparison, PageComparison, SameFault, IsComparison, IsCompared, of_pages, FileAct, AreComparedAt, IsFileRead, ComparedFiles, Failed, comparison_line_of, AreFilesSeen, IsOneUnread, IsComparisonFor, IsComparedAndDrawn, IsCompareRun, compare_fault_of, dotted_page, IsImageDrawn}
 use Rattle.pcl_same.specs.declared.fault.SameFault.TheVariants as same
 use Rattle.pcl_files.proofs.FileReads.{read_fault}
 use Rattle.pcl_answers.proofs.ComparedFor.{by_pages}
@@ -34,7 +34,7 @@ are_seen asked dpi {first} {second} f s p q seen = record {
 
 -- their comparison, and its image, whatever lent the bytes
 drawn_beside : {F : Type 0} (acts : F → FileAct → F → Type 0) (files kept : F) (asked : ComparedFiles) (comparison : AskedComparison)
-    (pages : Comparison) (done : Result (Unit {0}) Fault) (seen : AreFilesSeen acts files asked) {one other third fourth : List ℕ}
+    (pages : PageComparison) (done : Result (Unit {0}) Fault) (seen : AreFilesSeen acts files asked) {one other third fourth : List ℕ}
     → one ≡ seen.first.items → other ≡ seen.second.items → IsComparisonFor asked.asks asked.profile seen.dpi one other comparison
     → pages ≡ of_pages comparison → third ≡ seen.first.items → fourth ≡ seen.second.items
     → IsImageDrawn acts asked.image asked.profile seen.dpi third fourth pages files kept done

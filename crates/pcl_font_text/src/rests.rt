@@ -1,4 +1,4 @@
-//! Blanks, the characters of one white dot, and the rests that they make: what an advance leaves of the way to the next letter.
+//! Rests: what advances leave of the way to the next letter. Blanks make them, characters of one white dot, or else moves of the cursor.
 
 use crate::codes::blank_code;
 use indexmap::IndexMap;
@@ -29,38 +29,38 @@ struct Way {
     blank: u8,
 }
 
-/// Some blanks, and what they make.
+/// How rests are made.
 #[derive(Drop)]
-pub struct Blanks {
-    /// How far each of them advances, in dots. The first is the space.
-    advances: Vec<u32>,
-    /// How each rest is made, from none on.
+pub struct Rests {
+    /// How far each blank advances, in dots. The first is the space.
+    blanks: Vec<u32>,
+    /// How each rest is made of them, from none on.
     ways: Vec<Way>,
 }
 
-impl Blanks {
-    /// The blanks that are worth their bytes on pages as wide as this, where each rest to the right is there so often, the most frequent
-    /// first. `pitch` is the first one, if that is given.
+impl Rests {
+    /// How rests are made on pages as wide as this, where each rest to the right is there so often, the most frequent first: by blanks that
+    /// are worth their bytes. `pitch` is the first one, if that is given.
     pub fn new(
         alloc: Global,
         width: u32,
-        rests: &IndexMap<u32, u32>,
+        counts: &IndexMap<u32, u32>,
         pitch: Option<u32>,
-    ) -> Result<Blanks, AllocError> {
-        let mut blanks = Blanks::none(alloc, width)?;
+    ) -> Result<Rests, AllocError> {
+        let mut rests = Rests::by_moves(alloc, width)?;
         if let Some(pitch) = pitch {
-            blanks.add(pitch)?;
+            rests.add_blank(pitch)?;
         }
-        for (rest, count) in rests.iter() {
-            if blanks.advances.len() < BLANK_LIMIT && blanks.lacks(*rest, *count) {
-                blanks.add(*rest)?;
+        for (rest, count) in counts.iter() {
+            if rests.blanks.len() < BLANK_LIMIT && rests.lacks(*rest, *count) {
+                rests.add_blank(*rest)?;
             }
         }
-        Ok(blanks)
+        Ok(rests)
     }
 
-    /// No blanks: only a rest of no dots is made.
-    fn none(alloc: Global, width: u32) -> Result<Blanks, AllocError> {
+    /// There are no blanks: only a rest of no dots is made of them.
+    fn by_moves(alloc: Global, width: u32) -> Result<Rests, AllocError> {
         let count = (width.min(LONGEST) as usize).saturating_add(1);
         let none = Way {
             count: MOST_BLANKS.saturating_add(1),
@@ -70,8 +70,8 @@ impl Blanks {
         if let Some(way) = ways.first_mut() {
             way.count = 0;
         }
-        Ok(Blanks {
-            advances: Vec::new(alloc),
+        Ok(Rests {
+            blanks: Vec::new(alloc),
             ways,
         })
     }
@@ -82,10 +82,10 @@ impl Blanks {
         saved.saturating_mul(count) > BLANK_BYTES
     }
 
-    /// Adds a blank.
-    fn add(&mut self, advance: u32) -> Result<(), AllocError> {
-        let blank = u8::try_from(self.advances.len()).unwrap_or(u8::MAX);
-        self.advances.push(advance)?;
+    /// Adds a blank that advances so far.
+    fn add_blank(&mut self, advance: u32) -> Result<(), AllocError> {
+        let blank = u8::try_from(self.blanks.len()).unwrap_or(u8::MAX);
+        self.blanks.push(advance)?;
         for rest in advance as usize..self.ways.len() {
             let count = self
                 .count_of(rest.saturating_sub(advance as usize))
@@ -129,7 +129,7 @@ impl Blanks {
             return None;
         }
         let number = usize::from(way.blank);
-        let advance = self.advances.get(number)?;
+        let advance = self.blanks.get(number)?;
         Some((number, rest.saturating_sub_unsigned(*advance)))
     }
 
@@ -147,7 +147,7 @@ impl Blanks {
     }
 
     /// Appends what moves the cursor by a rest: blanks, or else a move.
-    pub fn append_rest(&self, rest: i32, out: &mut Vec<u8>) -> Result<(), AllocError> {
+    pub fn append(&self, rest: i32, out: &mut Vec<u8>) -> Result<(), AllocError> {
         let mut rest = rest;
         for _ in 0..MOST_BLANKS {
             if let Some((number, left)) = self.step_of(rest) {
@@ -162,19 +162,14 @@ impl Blanks {
         }
     }
 
-    /// How many blanks there are.
-    pub fn len(&self) -> usize {
-        self.advances.len()
-    }
-
     /// How far each blank advances, in dots, the space first.
-    pub fn advances(&self) -> &[u32] {
-        &self.advances
+    pub fn blanks(&self) -> &[u32] {
+        &self.blanks
     }
 
     /// How far a space advances, in dots: the pitch of the fonts.
     pub fn pitch(&self) -> u32 {
-        self.advances.first().copied().unwrap_or(1)
+        self.blanks.first().copied().unwrap_or(1)
     }
 }
 

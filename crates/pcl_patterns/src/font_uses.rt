@@ -13,14 +13,14 @@ const MOST_USES: usize = 1_024;
 
 /// How many characters are used as often as each number says.
 #[derive(Drop)]
-pub struct Uses {
+pub struct FontUses {
     numbers: Vec<usize>,
 }
 
-impl Uses {
+impl FontUses {
     /// None are used.
-    pub fn new(alloc: Global) -> Result<Uses, AllocError> {
-        Ok(Uses {
+    pub fn new(alloc: Global) -> Result<FontUses, AllocError> {
+        Ok(FontUses {
             numbers: vec![in alloc; 0usize; MOST_USES]?,
         })
     }
