@@ -130,7 +130,7 @@ fn rest_with(
 fn white_rows(bitmap: &Bitmap, rules: &[Rule]) -> usize {
     let mut count: usize = 0;
     if let Some(highest) = rules.iter().max_by_key(|rule| rule.height) {
-        let bottom = highest.top.saturating_add(highest.height);
+        let bottom = highest.bottom();
         for y in highest.top..bottom.min(bitmap.size().height(bitmap.dpi())) {
             if bitmap.is_blank(y) {
                 count = count.saturating_add(1);

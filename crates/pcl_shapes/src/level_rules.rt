@@ -144,7 +144,7 @@ fn row_above(bitmap: &Bitmap, y: u32) -> &[u8] {
 /// Appends a rectangle of long runs, if it is a rule: thin, and mostly white above and below.
 fn append_if_rule(bitmap: &Bitmap, rule: Rule, rules: &mut Vec<Rule>) -> Result<(), AllocError> {
     let end = rule.left.saturating_add(rule.width);
-    let bottom = rule.top.saturating_add(rule.height);
+    let bottom = rule.bottom();
     let above = black_dots(row_above(bitmap, rule.top), rule.left, end);
     let below = black_dots(row_at(bitmap, bottom), rule.left, end);
     if rules.len() < RULE_LIMIT

@@ -46,6 +46,10 @@ impl<'a> Unpainted<'a> {
 #[derive(Drop)]
 pub struct PageRows<'a> {
     page: Unpainted<'a>,
+    /// The rules that have dots in the row that was read last.
+    rules: Vec<Rule>,
+    /// The next row that has dots of other rules.
+    turn: u32,
     /// The tiles that end below the row that was read last.
     tiles: &'a [Tile],
     /// The row that was read last.
@@ -59,23 +63,41 @@ impl<'a> PageRows<'a> {
     pub fn new(alloc: Global, page: Unpainted<'a>) -> PageRows<'a> {
         PageRows {
             page,
+            rules: Vec::new(alloc),
+            turn: 0,
             tiles: page.tiles,
             row: Vec::new(alloc),
             above: Vec::new(alloc),
         }
     }
 
-    /// Reads row `y`, the next one.
+    /// Reads row `y`, below the one that was read last.
     pub fn read(&mut self, y: u32) -> Result<(), AllocError> {
         swap(&mut self.above, &mut self.row);
         self.row.clear();
         self.row.extend_from_slice(row_at(self.page.bitmap, y))?;
-        for rule in self.page.rules {
-            if rule.is_in_row(y) {
-                whiten(&mut self.row, rule.left, rule.width);
-            }
+        if y >= self.turn {
+            self.find_rules(y)?;
+        }
+        for rule in self.rules.iter() {
+            whiten(&mut self.row, rule.left, rule.width);
         }
         self.whiten_tiles(y);
+        Ok(())
+    }
+
+    /// Finds the rules that have dots in row `y`, and the next row in which others do.
+    fn find_rules(&mut self, y: u32) -> Result<(), AllocError> {
+        self.rules.clear();
+        self.turn = u32::MAX;
+        for rule in self.page.rules {
+            if rule.is_in_row(y) {
+                self.rules.push(*rule)?;
+                self.turn = self.turn.min(rule.bottom());
+            } else if y < rule.top {
+                self.turn = self.turn.min(rule.top);
+            }
+        }
         Ok(())
     }
 

@@ -33,9 +33,14 @@ pub struct Rule {
 }
 
 impl Rule {
+    /// The row below its lowest one.
+    pub fn bottom(self) -> u32 {
+        self.top.saturating_add(self.height)
+    }
+
     /// Whether it has dots in row `y`.
     pub fn is_in_row(self, y: u32) -> bool {
-        self.top <= y && y < self.top.saturating_add(self.height)
+        self.top <= y && y < self.bottom()
     }
 
     /// Whether all of another rectangle is in it.
@@ -43,7 +48,7 @@ impl Rule {
         self.left <= other.left
             && self.top <= other.top
             && self.left.saturating_add(self.width) >= other.left.saturating_add(other.width)
-            && self.top.saturating_add(self.height) >= other.top.saturating_add(other.height)
+            && self.bottom() >= other.bottom()
     }
 }
 

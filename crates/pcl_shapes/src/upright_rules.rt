@@ -139,7 +139,7 @@ fn top_of(bitmap: &Bitmap, rectangle: Rule) -> u32 {
 
 /// The row down to which the dots of a rectangle are black.
 fn bottom_of(bitmap: &Bitmap, rectangle: Rule) -> u32 {
-    let end = rectangle.top.saturating_add(rectangle.height);
+    let end = rectangle.bottom();
     for y in end..bitmap.size().height(bitmap.dpi()) {
         if !is_black(bitmap, y, rectangle) {
             return y;
@@ -170,7 +170,7 @@ fn is_upright_rule(bitmap: &Bitmap, rule: Rule) -> bool {
 /// How many dots of column `x` are black in the rows of a rule.
 fn black_in_column(bitmap: &Bitmap, x: u32, rule: Rule) -> u32 {
     let mut count: u32 = 0;
-    for y in rule.top..rule.top.saturating_add(rule.height) {
+    for y in rule.top..rule.bottom() {
         let black = black_dots(row_at(bitmap, y), x, x.saturating_add(1));
         count = count.saturating_add(black);
     }
