@@ -20,6 +20,9 @@ const ROUNDS: u32 = 4;
 /// How often all letters are looked at together.
 const LETTER_ROUNDS: u32 = 3;
 
+/// Letters are left in the raster where they take so many times the bytes that they save: these are known about.
+const LEFT_TIMES: i64 = 2;
+
 /// What the shapes of each pattern take.
 #[derive(Drop)]
 pub struct Frequency {
@@ -76,7 +79,9 @@ impl Frequency {
             };
             let bytes = letter_bytes(collection, place, *count).saturating_add(selections);
             if let Some(is_letter) = self.are_letters.get_mut(place) {
-                if *is_letter && number_of(&saved, place) < in_fine_parts(bytes) {
+                if *is_letter
+                    && number_of(&saved, place).saturating_mul(LEFT_TIMES) < in_fine_parts(bytes)
+                {
                     *is_letter = false;
                     is_left = true;
                 }
