@@ -313,6 +313,37 @@ pub const CASES: [GlyphCase; 73] = [
         ],
         ..LINE
     },
+    // The line passes through eight boxes above their middles, as through commas. They are a character of 37 bytes, and 8 codes more than
+    // the 213 of the letters.
+    GlyphCase {
+        name: "boxes that hang below the line",
+        rectangles: &[
+            [1067, 107, 6, 8],
+            [1091, 107, 6, 8],
+            [1115, 107, 6, 8],
+            [1139, 107, 6, 8],
+            [1163, 107, 6, 8],
+            [1187, 107, 6, 8],
+            [1211, 107, 6, 8],
+            [1235, 107, 6, 8],
+        ],
+        ..LINE
+    },
+    // Eight boxes lie two rows below the line, as underscores do. They are a character of 33 bytes, and 8 codes more.
+    GlyphCase {
+        name: "boxes below the line",
+        rectangles: &[
+            [1067, 111, 12, 2],
+            [1091, 111, 12, 2],
+            [1115, 111, 12, 2],
+            [1139, 111, 12, 2],
+            [1163, 111, 12, 2],
+            [1187, 111, 12, 2],
+            [1211, 111, 12, 2],
+            [1235, 111, 12, 2],
+        ],
+        ..LINE
+    },
     // The last eight boxes stand seven rows higher than the others. They are a character of 34 bytes twice, and 28 codes more than the 213
     // of the letters. A box is nearer than the next letter, so eleven spaces stand between letters.
     GlyphCase {

@@ -29,13 +29,22 @@ impl Character {
     }
 }
 
+/// The usual character of a glyph.
+#[derive(Clone, Copy)]
+struct UsualCharacter {
+    /// How far the cursor moves, in dots.
+    advance: u32,
+    /// None where it isn't sent.
+    code: Option<Code>,
+}
+
 /// The characters that are sent, and the rests that blanks make.
 #[derive(Drop)]
 pub struct Spacing {
     /// Where letters stand from the cursor.
     pub metrics: Metrics,
-    /// For each glyph, the advance of its usual character.
-    pub usual: Vec<u32>,
+    /// For each glyph, its usual character.
+    usual: Vec<UsualCharacter>,
     /// The characters, the most used first, and how often each is used.
     pub characters: IndexMap<Character, u32>,
     /// How rests are made.
@@ -58,6 +67,7 @@ impl Spacing {
         let mut usual = first_advances(alloc, &metrics, patterns, found, uses.len())?;
         let characters = find_characters(alloc, patterns, found, &gaps, &uses, &mut usual)?;
         let rests = gaps.rests(alloc, &characters, &usual)?;
+        let usual = find_usual(alloc, &usual, &characters, rests.blanks().len())?;
         Ok(Spacing {
             metrics,
             usual,
@@ -65,14 +75,6 @@ impl Spacing {
             rests,
             has_feeds: gaps.has_feeds,
         })
-    }
-
-    /// The usual character of a glyph.
-    fn usual_character(&self, glyph: u32) -> Character {
-        Character {
-            glyph,
-            advance: self.usual.get(glyph as usize).copied().unwrap_or(0),
-        }
     }
 
     /// The font and the code of the character of this rank, if there is one left for it.
@@ -89,11 +91,13 @@ impl Spacing {
     /// The character that prints a glyph where the cursor is to go so far right after it, and its advance: one that
     /// advances so far, or else the usual one. None where that isn't sent.
     pub fn character(&self, glyph: u32, distance: Option<i32>) -> Option<(Code, u32)> {
-        let usual = self.usual_character(glyph);
-        let usual_code = self.code(usual)?;
+        let usual = self.usual.get(glyph as usize)?;
+        let usual_code = usual.code?;
         if let Some(advance) = distance.and_then(|distance| u32::try_from(distance).ok()) {
-            if let Some(code) = self.code(Character { glyph, advance }) {
-                return Some((code, advance));
+            if advance != usual.advance {
+                if let Some(code) = self.code(Character { glyph, advance }) {
+                    return Some((code, advance));
+                }
             }
         }
         Some((usual_code, usual.advance))
@@ -103,6 +107,30 @@ impl Spacing {
     pub fn distance(&self, letter: &Letter, next: &Letter) -> Option<i32> {
         distance(&self.metrics, letter, next)
     }
+}
+
+/// For each glyph its usual character, which has this advance, where the characters have codes in turn after those of as many blanks.
+fn find_usual(
+    alloc: Global,
+    advances: &[u32],
+    characters: &IndexMap<Character, u32>,
+    blanks: usize,
+) -> Result<Vec<UsualCharacter>, AllocError> {
+    let mut usual = Vec::new(alloc);
+    for advance in advances {
+        usual.push(UsualCharacter {
+            advance: *advance,
+            code: None,
+        })?;
+    }
+    for (rank, character) in characters.keys().enumerate() {
+        if character.is_usual(advances) {
+            if let Some(usual) = usual.get_mut(character.glyph as usize) {
+                usual.code = code_of_rank(rank, blanks);
+            }
+        }
+    }
+    Ok(usual)
 }
 
 /// How many letters each glyph has.
