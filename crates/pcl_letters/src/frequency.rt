@@ -8,8 +8,8 @@
 //! the same bytes. Characters past the first two fonts take a selection each time.
 
 use pcl_patterns::{
-    FINE, FontUses, Row, RowParts, SELECTION_BYTES, add, in_fine_parts, number_of, number_of_place,
-    quotient, short_number, sum_parts, sum_saved,
+    FINE, FontUses, Form, Row, RowParts, SELECTION_BYTES, add, in_fine_parts, number_of,
+    number_of_place, quotient, short_number, sum_parts, sum_saved,
 };
 use pcl_shapes::{Collection, PlacedShape};
 use std::alloc::{AllocError, Global};
@@ -69,29 +69,34 @@ impl Frequency {
         uses: &[usize],
     ) -> Result<bool, AllocError> {
         let saved = shape_bytes(alloc, collection, self, Side::Letters)?;
-        let near = self.near_uses(alloc, uses)?;
+        let near_uses = self.near_uses(alloc, collection.form, uses)?;
         let mut is_left = false;
         for (place, count) in uses.iter().enumerate() {
-            let selections = if *count < near {
-                count.saturating_mul(SELECTION_BYTES)
-            } else {
-                0
-            };
-            let bytes = letter_bytes(collection, place, *count).saturating_add(selections);
-            if let Some(is_letter) = self.are_letters.get_mut(place) {
-                if *is_letter
-                    && number_of(&saved, place).saturating_mul(LEFT_TIMES) < in_fine_parts(bytes)
-                {
-                    *is_letter = false;
-                    is_left = true;
-                }
+            let bytes = in_fine_parts(letter_bytes(collection, place, *count, near_uses));
+            if number_of(&saved, place).saturating_mul(LEFT_TIMES) < bytes {
+                is_left |= self.leave(place);
             }
         }
         Ok(is_left)
     }
 
+    /// Has the shapes of a pattern be no letters. Whether they were is told.
+    fn leave(&mut self, place: usize) -> bool {
+        match self.are_letters.get_mut(place) {
+            Some(is_letter) => {
+                let was_letter = *is_letter;
+                *is_letter = false;
+                was_letter
+            }
+            None => false,
+        }
+    }
+
     /// How many shapes each pattern of letters has at least that has its code in the first two fonts.
-    fn near_uses(&self, alloc: Global, uses: &[usize]) -> Result<usize, AllocError> {
+    fn near_uses(&self, alloc: Global, form: Form, uses: &[usize]) -> Result<usize, AllocError> {
+        let Form::Characters(_) = form else {
+            return Ok(0);
+        };
         let mut letters = FontUses::new(alloc)?;
         for (place, count) in uses.iter().enumerate() {
             if self.is_letter(number_of_place(place)) {
@@ -102,10 +107,15 @@ impl Frequency {
     }
 }
 
-/// About how many bytes as many shapes of a pattern take as letters.
-fn letter_bytes(collection: &Collection, place: usize, count: usize) -> usize {
+/// About how many bytes as many shapes of a pattern take as letters. Where they are fewer than this, each takes a selection.
+fn letter_bytes(collection: &Collection, place: usize, count: usize, near_uses: usize) -> usize {
     let definition = collection.patterns.definition_bytes(number_of_place(place));
-    collection.form.bytes_of_letters(definition, count)
+    let bytes = collection.form.bytes_of_letters(definition, count);
+    if count < near_uses {
+        bytes.saturating_add(count.saturating_mul(SELECTION_BYTES))
+    } else {
+        bytes
+    }
 }
 
 /// What the shapes of each pattern take.
@@ -287,7 +297,7 @@ fn find_cheaper(
     for (place, count) in uses.iter().enumerate() {
         let number = number_of_place(place);
         let cost = number_of(&frequency.costs, place);
-        let bytes = letter_bytes(collection, place, *count);
+        let bytes = letter_bytes(collection, place, *count, 0);
         let is_cheaper = cost > in_fine_parts(bytes) && collection.patterns.get(number).is_some();
         are_letters.push(frequency.is_letter(number) || is_cheaper)?;
     }
