@@ -146,7 +146,7 @@ const FINE_RULE: GlyphCase = GlyphCase {
     ..RULE
 };
 
-pub const CASES: [GlyphCase; 73] = [
+pub const CASES: [GlyphCase; 75] = [
     LINE,
     GlyphCase {
         name: "one letter",
@@ -313,10 +313,11 @@ pub const CASES: [GlyphCase; 73] = [
         ],
         ..LINE
     },
-    // The line passes through eight boxes above their middles, as through commas. They are a character of 37 bytes, and 8 codes more than
-    // the 213 of the letters.
+    // Each line passes through eight boxes above their middles, as through commas. They are a character of 36 bytes, and 16 codes more than
+    // 213 for the first line and 51 for the second.
     GlyphCase {
-        name: "boxes that hang below the line",
+        name: "boxes that hang below the lines",
+        lines: 2,
         rectangles: &[
             [1067, 107, 6, 8],
             [1091, 107, 6, 8],
@@ -326,21 +327,38 @@ pub const CASES: [GlyphCase; 73] = [
             [1187, 107, 6, 8],
             [1211, 107, 6, 8],
             [1235, 107, 6, 8],
+            [1067, 147, 6, 8],
+            [1091, 147, 6, 8],
+            [1115, 147, 6, 8],
+            [1139, 147, 6, 8],
+            [1163, 147, 6, 8],
+            [1187, 147, 6, 8],
+            [1211, 147, 6, 8],
+            [1235, 147, 6, 8],
         ],
         ..LINE
     },
-    // Eight boxes lie two rows below the line, as underscores do. They are a character of 33 bytes, and 8 codes more.
+    // The boxes lie two rows below each line, as underscores do: their top offset is below 0. They take as many bytes.
     GlyphCase {
-        name: "boxes below the line",
+        name: "boxes below the lines",
+        lines: 2,
         rectangles: &[
-            [1067, 111, 12, 2],
-            [1091, 111, 12, 2],
-            [1115, 111, 12, 2],
-            [1139, 111, 12, 2],
-            [1163, 111, 12, 2],
-            [1187, 111, 12, 2],
-            [1211, 111, 12, 2],
-            [1235, 111, 12, 2],
+            [1067, 111, 6, 8],
+            [1091, 111, 6, 8],
+            [1115, 111, 6, 8],
+            [1139, 111, 6, 8],
+            [1163, 111, 6, 8],
+            [1187, 111, 6, 8],
+            [1211, 111, 6, 8],
+            [1235, 111, 6, 8],
+            [1067, 151, 6, 8],
+            [1091, 151, 6, 8],
+            [1115, 151, 6, 8],
+            [1139, 151, 6, 8],
+            [1163, 151, 6, 8],
+            [1187, 151, 6, 8],
+            [1211, 151, 6, 8],
+            [1235, 151, 6, 8],
         ],
         ..LINE
     },
@@ -381,14 +399,14 @@ pub const CASES: [GlyphCase; 73] = [
         ..LINE
     },
     // Line feeds start 38 lines. They are set by 7 bytes for the margin, 9 for the spacing of 12.80 and 5 for the termination: with 162
-    // around the lines, 51 for the first line, 41 for each of these, and 51 for the last one, which is in the last half inch.
+    // around the lines, 48 for the first line, 41 for each of these, and 48 for the last one, which is in the last half inch.
     GlyphCase {
         name: "lines down to the lower edge",
         lines: 40,
         leading: 80,
         ..LINE
     },
-    // The font and what is around the pages take 128, the termination 5, a page text 36, its settings 7 and 8, its lines 21 and nine
+    // The font and what is around the pages take 128, the termination 5, a page text 36, its settings 7 and 8, its lines 18 and nine
     // times 11, the spacing that is set again 5, and a form feed.
     GlyphCase {
         name: "lines of two pages with a length",
@@ -697,7 +715,7 @@ pub const CASES: [GlyphCase; 73] = [
     },
     // 213 as at 300 dots per inch, and 17.
     MOVED_LINE,
-    // As at 300 dots per inch, with 17 more; the last line takes 52.
+    // As at 300 dots per inch, with 17 more; the last line takes 49.
     GlyphCase {
         name: "lines down to the lower edge of a moved page, at 600",
         lines: 40,
@@ -719,7 +737,7 @@ pub const CASES: [GlyphCase; 73] = [
         ..RULE
     },
     // 2 for the reset, 79 for the font, 460 for its characters, 33 of the page text, 8 for the selection, 20 for the line feed and its
-    // margin, 11 to the first line, 1,248 codes, 47 line feeds, a form feed, and the reset.
+    // margin, 8 to the first line, 1,248 codes, 47 line feeds, a form feed, and the reset.
     PICTURE,
     // As letters, like the next one, which has too few tiles side by side.
     GlyphCase {
