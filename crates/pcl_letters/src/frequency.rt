@@ -20,7 +20,7 @@ const ROUNDS: u32 = 4;
 /// How often all letters are looked at together.
 const LETTER_ROUNDS: u32 = 3;
 
-/// Letters are left in the raster where they take so many times the bytes that they save: these are known about.
+/// Letters go back to the raster where they take more than this many times the bytes that they save, which are estimated.
 const LEFT_TIMES: i64 = 2;
 
 /// What the shapes of each pattern take.
@@ -61,7 +61,7 @@ impl Frequency {
         Ok(())
     }
 
-    /// Looks at all letters together: those of a pattern that save too little are none. Whether there are such is told.
+    /// Looks at all letters together: those of a pattern that save too little are none. Says whether there are such.
     fn look_at_letters(
         &mut self,
         alloc: Global,
@@ -80,7 +80,7 @@ impl Frequency {
         Ok(is_left)
     }
 
-    /// Has the shapes of a pattern be no letters. Whether they were is told.
+    /// Has the shapes of a pattern be no letters. Says whether they were.
     fn leave(&mut self, place: usize) -> bool {
         match self.are_letters.get_mut(place) {
             Some(is_letter) => {
