@@ -2,6 +2,8 @@
 use Rattle.std.proofs.Common.{◌≡◌, ℕ, zero, suc, ◌+◌, ◌-◌, ◌<◌, ◌≤◌, List, [], ◌∷◌, ◌++◌, length, take, drop, replicate, false, refl, sym, ap, ◌∙◌, inl, inr, add-one, arith}
 use Rattle.pcl_same.proofs.Names.{slice_index, cases_lt, length-append, length-drop, get_or_append_left, get_or_push, take-append-le, drop-append-le, take-replicate, take-append_seam, drop-append_seam, take-length, Dpi, Delta, page_width, page_height, page_row_bytes, Picture, IsPicture, row_of, dot_of_row, dot, same_dots, row_small, Decodes, one_row, KeptBitmap, IsFirstDot, piece, row_above, MakesRow, IsFirstDotOfRow, IsPiece, data_of, KeepsPicture}
 use Rattle.pcl_base.specs.declared.size.Size.{Size}
+use Rattle.pcl_coders.specs.Coding.{AppendsLeast}
+use Rattle.pcl_same.specs.inner.Rows.{Appends, AppendsRowData}
 
 -- ---- rows that are kept one after the other
 
@@ -59,6 +61,24 @@ module _ {p : Picture} {bytes starts : List ℕ} {count : ℕ} (more : List ℕ)
           | inr at ↦ let here : k ≡ count = omega arith in rw here (last_row makes)
         ];
   })
+
+-- what came makes the row: the data is what stands from the old end on
+pub row_appended : {above row made old new : List ℕ} {start : ℕ} → Appends old new → start ≡ length old
+    → Decodes Delta above (drop start new) made → made ≡ row → AppendsRowData above row old new
+row_appended {above} {row} {made} {old} {new} appended at decodes same =
+    let more : drop (length old) new ≡ appended.0 = rw appended.1 (drop-append_seam old appended.0) in
+    record { bytes = appended.0; joined = appended.1; decodes = rw (at, more, same) at decodes }
+
+-- least data in its place
+pub row_written : {above row old new cut whole : List ℕ} {start : ℕ} → Appends old new → start ≡ length old → cut ≡ take start new
+    → AppendsLeast Delta above row cut whole → AppendsRowData above row old whole
+row_written {above} {row} {old} {new} appended at is written =
+    let front : take (length old) new ≡ old = rw appended.1 (take-append_seam old appended.0) in
+    record {
+      bytes = written.bytes;
+      joined = written.joined ∙ ap (λ (xs : List ℕ). xs ++ written.bytes) (rw at at is ∙ front);
+      decodes = written.whole.decodes;
+    }
 
 -- ---- all rows
 

@@ -6,13 +6,13 @@ ghost use Rattle.pcl_bitmap.specs.Bitmap.{Picture, IsPicture};
 ghost use Rattle.pcl_same.specs.inner.Rows.{IsPiece};
 
 use crate::bits::first_dot_of_row;
+use crate::row_data::append_row;
 use pcl_base::{Dpi, Method, ROW_LIMIT, Size};
 use pcl_bitmap::Bitmap;
-use pcl_coders::{Delta, RowCoder};
 use pcl_rows::decode;
 use std::alloc::{AllocError, Global};
 
-/// The dots of a page as least row data, by method 3 over the row above, which is nothing for a row like the one above.
+/// The dots of a page as row data, by method 3 over the row above, which is nothing for a row like the one above.
 #[derive(Drop)]
 pub struct KeptBitmap {
     /// The size of the page.
@@ -43,7 +43,7 @@ impl KeptBitmap {
         let mut above = [0; ROW_LIMIT];
         for y in 0..size.height(dpi) {
             let row = bitmap.row(y);
-            Delta.write(row, &above[..row.len()], &mut data)?;
+            append_row(row, &above[..row.len()], &mut data)?;
             starts.push(data.len())?;
             above[..row.len()].copy_from_slice(row);
         }

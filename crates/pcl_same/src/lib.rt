@@ -16,6 +16,7 @@ mod jobs;
 mod keeping;
 mod kept_bitmap;
 mod laws;
+mod row_data;
 
 pub use comparing::compare_kept;
 pub use comparison::{

@@ -1,7 +1,9 @@
 -- Rows of dots, and rows as row data.
-use Rattle.std.specs.Prelude.{◌≡◌, ◌≢◌, ℕ, ◌+◌, ◌<◌, ◌≤◌, List, length, Option, Some, None, slice_index}
+use Rattle.std.specs.Prelude.{◌≡◌, ◌≢◌, ℕ, ◌+◌, ◌<◌, ◌≤◌, List, ◌++◌, length, Option, Some, None, slice_index}
+use Rattle.pcl_base.specs.declared.method.Method.TheVariants.{Delta}
 use Rattle.pcl_base.specs.Size.{page_width, page_height}
 use Rattle.pcl_bitmap.specs.Bitmap.{Picture, bit_of_byte, dot, dot_of_row}
+use Rattle.pcl_rows.specs.Rows.{Decodes}
 use Rattle.pcl_same.specs.Differing.{IsFirstDot}
 
 -- ---- the first place at which rows differ
@@ -23,6 +25,16 @@ IsFirstDotOf p q None = p ≡ q
 IsFirstDotOf p q (Some place) = IsFirstDot (page_width p.size p.dpi) (page_height p.size p.dpi) (dot p) (dot q) place.0 place.1
 
 -- ---- rows as row data
+
+-- new is old with more at its end
+abbrev pub Appends : List ℕ → List ℕ → Type 0
+Appends old new = (more : List ℕ) × (new ≡ old ++ more)
+
+-- new is old with data at its end that makes the row over the row above it
+pub record AppendsRowData (above row old new : List ℕ) : Type 0 where
+  pub bytes : List ℕ
+  pub joined : new ≡ old ++ bytes
+  pub decodes : Decodes Delta above bytes row
 
 -- a piece of the bytes begins at start number k and ends at the next
 pub record IsPiece (bytes starts : List ℕ) (k : ℕ) : Type 0 where

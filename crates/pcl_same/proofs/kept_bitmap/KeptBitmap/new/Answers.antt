@@ -14,13 +14,13 @@ pub loop-y-preserved : goal.loop-y-preserved
 loop-y-preserved c =
     let bitmap = c.args.bitmap.now in
     let y : ℕ = c.loop-y.y in
-    let written = c.in_ok-write.ensures.ok in
-    let end : c.len.result ≡ length c.write.new.out.items = omega (arith, c.len.ensures) in
+    let written = c.in_ok-append_row.ensures in
+    let end : c.len.result ≡ length c.append_row.new.out.items = omega (arith, c.len.ensures) in
     record {
       keeps = more_kept written.bytes c.loop-y.invariant.keeps written.joined
           (c.in_ok-push-2.ensures.items ∙ ap (λ (n : ℕ). c.loop-y.starts.items ++ n ∷ []) end)
           (rw (← c.row-row.ensures.bytes) (made_over bitmap y c.loop-y.above c.row-row.result.now c.loop-y.invariant.above
-          c.row-row.ensures.len written.whole.decodes));
+          c.row-row.ensures.len written.decodes));
       above = next_above bitmap y (drop (length c.row-row.result.now) c.loop-y.above) c.row-row.ensures.bytes
           c.copy_from_slice.ensures.after c.row-row.ensures.len;
     }
