@@ -197,29 +197,53 @@ impl Fit {
         })
     }
 
-    /// Fits all pairs: by medians, and then by means.
+    /// Fits all pairs: by medians, and then by means, as long as these change anything.
     fn fit(&mut self, alloc: Global, pairs: &[Pair]) -> Result<(), AllocError> {
         for _ in 0..MEDIAN_ROUNDS {
-            self.take_medians(alloc, pairs)?;
+            if !self.take_medians(alloc, pairs)? {
+                break;
+            }
         }
         for _ in 0..MEAN_ROUNDS {
-            self.take_means(alloc, pairs)?;
+            if !self.take_means(alloc, pairs)? {
+                break;
+            }
         }
         Ok(())
     }
 
-    /// Takes the medians on both sides.
-    fn take_medians(&mut self, alloc: Global, pairs: &[Pair]) -> Result<(), AllocError> {
-        self.distances = medians(alloc, pairs, self, Side::Left)?;
-        self.places = medians(alloc, pairs, self, Side::Right)?;
-        Ok(())
+    /// Takes the medians on both sides, and says whether any are new.
+    fn take_medians(&mut self, alloc: Global, pairs: &[Pair]) -> Result<bool, AllocError> {
+        let distances = medians(alloc, pairs, self, Side::Left)?;
+        let has_new_distances = self.set_side(Side::Left, distances);
+        let places = medians(alloc, pairs, self, Side::Right)?;
+        Ok(self.set_side(Side::Right, places) || has_new_distances)
     }
 
-    /// Takes the means on both sides.
-    fn take_means(&mut self, alloc: Global, pairs: &[Pair]) -> Result<(), AllocError> {
-        self.distances = means(alloc, pairs, self, Side::Left)?;
-        self.places = means(alloc, pairs, self, Side::Right)?;
-        Ok(())
+    /// Takes the means on both sides, and says whether any are new.
+    fn take_means(&mut self, alloc: Global, pairs: &[Pair]) -> Result<bool, AllocError> {
+        let distances = means(alloc, pairs, self, Side::Left)?;
+        let has_new_distances = self.set_side(Side::Left, distances);
+        let places = means(alloc, pairs, self, Side::Right)?;
+        Ok(self.set_side(Side::Right, places) || has_new_distances)
+    }
+
+    /// Sets the numbers of a side, and says whether any are new.
+    fn set_side(&mut self, side: Side, numbers: Vec<i64>) -> bool {
+        let old = self.side(side);
+        let has_new = old
+            .iter()
+            .zip(numbers.iter())
+            .any(|(old, new)| *old != *new);
+        match side {
+            Side::Left => {
+                self.distances = numbers;
+            }
+            Side::Right => {
+                self.places = numbers;
+            }
+        }
+        has_new
     }
 
     /// The numbers of a side.

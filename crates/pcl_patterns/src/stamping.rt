@@ -39,11 +39,15 @@ fn stamp_row(bytes: &mut [u8], place: usize, bit: u32, row: &[u8], ink: StampInk
     requires { bit < 8 }
 {
     let mut place = place;
+    let mut before: u8 = 0;
     for dots in row {
         let [left, right] = (u16::from(*dots) << (8 - bit)).to_be_bytes();
-        stamp_byte(bytes, place, left, ink);
+        stamp_byte(bytes, place, before | left, ink);
         place = place.saturating_add(1);
-        stamp_byte(bytes, place, right, ink);
+        before = right;
+    }
+    if before != 0 {
+        stamp_byte(bytes, place, before, ink);
     }
 }
 
