@@ -1,10 +1,11 @@
 //! Rows of a page, eight at a time, and the tiles in them.
 
-use crate::dots::{are_equal, row_at};
+use crate::dots::{is_again, row_at};
 use crate::edges::count_runs;
 use crate::page_rows::{PageRows, Unpainted};
 use crate::shapes::Extent;
-use pcl_bitmap::{Bitmap, trimmed_len};
+use crate::words::{EACH_BYTE, LEFTMOST, first_bytes, inked_bytes, padded_word};
+use pcl_bitmap::trimmed_len;
 use pcl_patterns::{ROW_BYTES, short_number};
 use std::alloc::{AllocError, Global};
 
@@ -184,11 +185,6 @@ impl<'a> Band<'a> {
     }
 }
 
-/// Whether row `y` of a page is the row above once more.
-fn is_again(bitmap: &Bitmap, y: u32) -> bool {
-    y > 0 && are_equal(row_at(bitmap, y), row_at(bitmap, y.saturating_sub(1)))
-}
-
 /// Appends the bytes of a part of a row, whose dots lie by this many further left, fewer than eight.
 fn append_shifted(
     row: &[u8],
@@ -220,29 +216,91 @@ fn data_bytes(above: &[u8], row: &[u8]) -> usize {
 
 /// About how many bytes a part of a row takes by method 2: one each, and two where one comes again and again.
 fn packed_bytes(row: &[u8]) -> usize {
-    let mut bytes: usize = 0;
-    let mut last = None;
-    let mut is_again = false;
-    for byte in row {
-        let is_same = last == Some(*byte);
-        bytes = bytes.saturating_add(usize::from(!is_same || !is_again));
-        is_again = is_same;
-        last = Some(*byte);
+    let (words, rest) = row.as_chunks::<8>();
+    let mut spared = SparedBytes::at(row.first().copied().unwrap_or(0));
+    for bytes in words {
+        spared.add(u64::from_be_bytes(*bytes), EACH_BYTE);
     }
-    bytes
+    spared.add(padded_word(rest), first_bytes(rest.len()));
+    row.len().saturating_sub(spared.count as usize)
+}
+
+/// The bytes of a row that are each the same as the two left of them.
+#[derive(Clone, Copy)]
+struct SparedBytes {
+    count: u32,
+    /// The last eight bytes.
+    last: u64,
+    /// The highest bit of each of them that is the byte left of it.
+    again: u64,
+}
+
+impl SparedBytes {
+    /// Left of a row that begins with this byte: another one stands there.
+    fn at(first: u8) -> SparedBytes {
+        SparedBytes {
+            count: 0,
+            last: u64::from(!first),
+            again: 0,
+        }
+    }
+
+    /// Counts eight bytes more, those of them of which these bits have the highest.
+    fn add(&mut self, word: u64, counted: u64) {
+        let others = inked_bytes(word ^ (word >> 8 | self.last << 56));
+        let again = counted & EACH_BYTE & !others;
+        let spared = again & (again >> 8 | self.again << 56);
+        self.count = self.count.saturating_add(spared.count_ones());
+        self.last = word;
+        self.again = again;
+    }
 }
 
 /// About how many bytes a part of a row takes by method 3: those that aren't the ones above, and one more for up to eight side by side.
 fn delta_bytes(above: &[u8], row: &[u8]) -> usize {
-    let mut bytes: usize = 0;
-    let mut count: usize = 0;
-    for (upper, byte) in above.iter().zip(row.iter()) {
-        if upper == byte {
-            count = 0;
+    let (uppers, upper_rest) = above.as_chunks::<8>();
+    let (words, rest) = row.as_chunks::<8>();
+    let mut delta = DeltaElements { bytes: 0, run: 0 };
+    for (upper, word) in uppers.iter().zip(words.iter()) {
+        delta.add(u64::from_be_bytes(*upper) ^ u64::from_be_bytes(*word));
+    }
+    delta.add(padded_word(upper_rest) ^ padded_word(rest));
+    delta.bytes
+}
+
+/// What bytes take that aren't the ones above.
+#[derive(Clone, Copy)]
+struct DeltaElements {
+    bytes: usize,
+    /// How many such bytes are the last ones.
+    run: u32,
+}
+
+impl DeltaElements {
+    /// Adds eight bytes more, whose bits are set where they differ. Where all do, one of them is the first of eight side by side.
+    fn add(&mut self, differing: u64) {
+        let changed = inked_bytes(differing);
+        if changed == 0 {
+            self.run = 0;
+        } else if changed == EACH_BYTE {
+            self.bytes = self.bytes.saturating_add(9);
         } else {
-            bytes = bytes.saturating_add(if count % 8 == 0 { 2 } else { 1 });
-            count = count.saturating_add(1);
+            self.add_each(changed);
         }
     }
-    bytes
+
+    /// The same of those that have their highest bit set.
+    fn add_each(&mut self, changed: u64) {
+        let mut rest = changed;
+        for _ in 0..8u32 {
+            if rest & LEFTMOST == 0 {
+                self.run = 0;
+            } else {
+                let starts = usize::from(self.run % 8 == 0);
+                self.bytes = self.bytes.saturating_add(1).saturating_add(starts);
+                self.run = self.run.saturating_add(1);
+            }
+            rest <<= 8;
+        }
+    }
 }

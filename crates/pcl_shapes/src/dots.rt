@@ -16,6 +16,31 @@ pub fn are_equal(row: &[u8], other: &[u8]) -> bool {
     row.len() == other.len() && first_difference(row, other) == row.len()
 }
 
+/// Whether row `y` of a page is the row above once more.
+pub fn is_again(bitmap: &Bitmap, y: u32) -> bool {
+    y > 0 && are_equal(row_at(bitmap, y), row_at(bitmap, y.saturating_sub(1)))
+}
+
+/// Makes this many dots of a row white, from `left` on.
+pub fn whiten(row: &mut [u8], left: u32, width: u32) {
+    let end = left.saturating_add(width);
+    for place in left / 8..end.div_ceil(8) {
+        if let Some(byte) = row.get_mut(place as usize) {
+            *byte &= !dots_of_byte(place, left, end);
+        }
+    }
+}
+
+/// Makes this many dots of a row black, from `left` on.
+pub fn blacken(row: &mut [u8], left: u32, width: u32) {
+    let end = left.saturating_add(width);
+    for place in left / 8..end.div_ceil(8) {
+        if let Some(byte) = row.get_mut(place as usize) {
+            *byte |= dots_of_byte(place, left, end);
+        }
+    }
+}
+
 /// How many dots of a row are black, from the dot `start` up to the one before `end`. Dots past the row are white.
 pub fn black_dots(row: &[u8], start: u32, end: u32) -> u32 {
     let mut count: u32 = 0;

@@ -1,10 +1,7 @@
 //! Where the ink of a row changes.
 
-use crate::words::padded_word;
+use crate::words::{LEFTMOST, padded_word};
 use std::alloc::AllocError;
-
-/// The leftmost dot of a word.
-const LEFTMOST: u64 = 1 << 63;
 
 /// Appends the dots of a row whose ink isn't that of the dot left of them, from left to right. So black begins at the first, and white
 /// at the second, and so on; a white dot stands left of the row, and another right of it.

@@ -1,7 +1,8 @@
 //! The rows of a page without its rules, and without the tiles of its pictures.
 
 use crate::bands::TILE_SIDE;
-use crate::dots::{are_equal, dots_of_byte, row_at};
+use crate::dots::{are_equal, blacken, is_again, row_at, whiten};
+use crate::row_rules::RowRules;
 use crate::rules::Rule;
 use crate::shapes::Extent;
 use crate::tiles::Tile;
@@ -45,13 +46,15 @@ impl<'a> Unpainted<'a> {
 /// Reads the rows of a page without the dots of its rules and tiles, from the topmost one on. Two rows are held.
 #[derive(Drop)]
 pub struct PageRows<'a> {
-    page: Unpainted<'a>,
-    /// The rules that have dots in the row that was read last.
-    rules: Vec<Rule>,
-    /// The next row that has dots of other rules.
-    turn: u32,
-    /// The tiles that end below the row that was read last.
+    bitmap: &'a Bitmap,
+    rules: RowRules<'a>,
+    /// The tiles that begin below the row that was read last.
     tiles: &'a [Tile],
+    /// The dots of those before them, in the rows that they have, and the row below these.
+    tile_dots: Vec<u8>,
+    tile_end: u32,
+    /// The row below the one that was read last.
+    next: u32,
     /// The row that was read last.
     pub row: Vec<u8>,
     /// The row above it: empty above the topmost one.
@@ -62,10 +65,12 @@ impl<'a> PageRows<'a> {
     /// Above the topmost row.
     pub fn new(alloc: Global, page: Unpainted<'a>) -> PageRows<'a> {
         PageRows {
-            page,
-            rules: Vec::new(alloc),
-            turn: 0,
+            bitmap: page.bitmap,
+            rules: RowRules::new(alloc, page.rules),
             tiles: page.tiles,
+            tile_dots: Vec::new(alloc),
+            tile_end: 0,
+            next: 0,
             row: Vec::new(alloc),
             above: Vec::new(alloc),
         }
@@ -75,66 +80,79 @@ impl<'a> PageRows<'a> {
     pub fn read(&mut self, y: u32) -> Result<(), AllocError> {
         swap(&mut self.above, &mut self.row);
         self.row.clear();
-        self.row.extend_from_slice(row_at(self.page.bitmap, y))?;
-        if y >= self.turn {
-            self.find_rules(y)?;
+        let has_others = self.rules.step(y)?;
+        let is_above_again = !has_others && self.is_above_again(y);
+        self.next = y.saturating_add(1);
+        if is_above_again {
+            return self.row.extend_from_slice(&self.above);
         }
-        for rule in self.rules.iter() {
+        self.row.extend_from_slice(row_at(self.bitmap, y))?;
+        for rule in self.rules.in_row.iter() {
             whiten(&mut self.row, rule.left, rule.width);
         }
-        self.whiten_tiles(y);
-        Ok(())
+        self.whiten_tiles(y)
     }
 
-    /// Finds the rules that have dots in row `y`, and the next row in which others do.
-    fn find_rules(&mut self, y: u32) -> Result<(), AllocError> {
-        self.rules.clear();
-        self.turn = u32::MAX;
-        for rule in self.page.rules {
-            if rule.is_in_row(y) {
-                self.rules.push(*rule)?;
-                self.turn = self.turn.min(rule.bottom());
-            } else if y < rule.top {
-                self.turn = self.turn.min(rule.top);
-            }
-        }
-        Ok(())
+    /// Whether row `y`, which the same rules have dots in, is the row above once more, where some do and no tile has.
+    fn is_above_again(&self, y: u32) -> bool {
+        !self.rules.in_row.is_empty()
+            && !self.has_tiles(y)
+            && y == self.next
+            && is_again(self.bitmap, y)
+    }
+
+    /// Whether tiles may have dots in row `y`, or in the row above.
+    fn has_tiles(&self, y: u32) -> bool {
+        let begins = match self.tiles.first() {
+            Some(tile) => u32::from(tile.top) <= y,
+            None => false,
+        };
+        begins || y <= self.tile_end
     }
 
     /// Makes the dots of tiles white in row `y`, which was read.
-    fn whiten_tiles(&mut self, y: u32) {
-        self.tiles = tiles_from(self.tiles, y);
-        for tile in self.tiles {
-            if u32::from(tile.top) > y {
+    fn whiten_tiles(&mut self, y: u32) -> Result<(), AllocError> {
+        if y >= self.tile_end {
+            self.find_tiles(y)?;
+        }
+        if y < self.tile_end {
+            for (byte, dots) in self.row.iter_mut().zip(self.tile_dots.iter()) {
+                *byte &= !*dots;
+            }
+        }
+        Ok(())
+    }
+
+    /// Finds the tiles that have dots in row `y`, if any do: tiles side by side, since the rows of others are others.
+    fn find_tiles(&mut self, y: u32) -> Result<(), AllocError> {
+        let tiles = self.tiles;
+        let Some(first) = tiles.first() else {
+            return Ok(());
+        };
+        if u32::from(first.top) > y {
+            return Ok(());
+        }
+        self.tile_end = u32::from(first.top.saturating_add(TILE_SIDE));
+        self.tile_dots.clear();
+        self.tile_dots.resize(self.row.len(), 0)?;
+        let mut count: usize = 0;
+        for tile in tiles {
+            if tile.top > first.top {
                 break;
             }
-            whiten(&mut self.row, u32::from(tile.left), u32::from(tile.width()));
+            blacken(
+                &mut self.tile_dots,
+                u32::from(tile.left),
+                u32::from(tile.width()),
+            );
+            count = count.saturating_add(1);
         }
+        self.tiles = tiles.get(count..).unwrap_or(&[]);
+        Ok(())
     }
 
-    /// Whether the row is the one above once more.
+    /// Whether the row that was read last is the one above once more.
     pub fn is_again(&self) -> bool {
         are_equal(&self.row, &self.above)
-    }
-}
-
-/// The tiles, from the topmost ones down, that end below row `y`.
-fn tiles_from(tiles: &[Tile], y: u32) -> &[Tile] {
-    let above = tiles
-        .iter()
-        .position(|tile| y < u32::from(tile.top.saturating_add(TILE_SIDE)));
-    match above {
-        Some(count) => tiles.get(count..).unwrap_or(&[]),
-        None => &[],
-    }
-}
-
-/// Makes this many dots of a row white, from `left` on.
-fn whiten(row: &mut [u8], left: u32, width: u32) {
-    let end = left.saturating_add(width);
-    for place in left / 8..end.div_ceil(8) {
-        if let Some(byte) = row.get_mut(place as usize) {
-            *byte &= !dots_of_byte(place, left, end);
-        }
     }
 }

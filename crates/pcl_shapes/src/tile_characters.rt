@@ -89,8 +89,12 @@ impl CodeFonts {
 
 /// Adds those that are used as often as the counts say.
 fn add_counts(counts: &Counts, uses: &mut FontUses) {
-    for count in counts.counts.iter() {
-        uses.add(usize::from(*count));
+    for eight in counts.eights() {
+        if *eight != [0; 8] {
+            for count in eight {
+                uses.add(usize::from(*count));
+            }
+        }
     }
 }
 

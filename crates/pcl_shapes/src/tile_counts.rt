@@ -1,8 +1,5 @@
 //! How often tiles are on a page.
 
-use crate::bands::{Band, Grid};
-use crate::page_rows::Unpainted;
-use crate::tile_grids::numbers_of;
 use crate::tiles::Tile;
 use std::alloc::{AllocError, Global};
 
@@ -23,22 +20,6 @@ pub struct TileCounts {
 }
 
 impl TileCounts {
-    /// How often those of a page are there that lie so: two side by side and each of them.
-    pub fn of_page(
-        alloc: Global,
-        page: Unpainted<'_>,
-        grid: Grid,
-    ) -> Result<TileCounts, AllocError> {
-        let mut counts = TileCounts::new(alloc)?;
-        let mut band = Band::new(alloc, page, grid, page.area());
-        for number in numbers_of(page, grid, page.area()) {
-            band.read(grid.top_of(number))?;
-            counts.tiles.add_tiles(&band.tiles);
-            counts.pairs.add_pairs(&band.tiles);
-        }
-        Ok(counts)
-    }
-
     /// How often those are there that are characters: two side by side, or one.
     pub fn of_characters(alloc: Global, tiles: &[Tile]) -> Result<TileCounts, AllocError> {
         let mut counts = TileCounts::new(alloc)?;
@@ -52,11 +33,17 @@ impl TileCounts {
     }
 
     /// None are there.
-    fn new(alloc: Global) -> Result<TileCounts, AllocError> {
+    pub fn new(alloc: Global) -> Result<TileCounts, AllocError> {
         Ok(TileCounts {
             tiles: Counts::new(alloc)?,
             pairs: Counts::new(alloc)?,
         })
+    }
+
+    /// Counts those that are side by side, two and each of them.
+    pub fn add(&mut self, tiles: &[u64]) {
+        self.tiles.add_tiles(tiles);
+        self.pairs.add_pairs(tiles);
     }
 
     /// The tile right of the first of some, if the two are one character.
@@ -95,6 +82,12 @@ impl Counts {
     /// Forgets what was counted.
     pub fn clear(&mut self) {
         self.counts.fill(0);
+    }
+
+    /// The counts, eight at a time: most of them are of nothing.
+    pub fn eights(&self) -> &[[u16; 8]] {
+        let (eights, _) = self.counts.as_slice().as_chunks::<8>();
+        eights
     }
 
     /// Counts those of some tiles that aren't white.

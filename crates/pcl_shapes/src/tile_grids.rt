@@ -5,11 +5,15 @@ use crate::page_rows::Unpainted;
 use crate::shapes::Extent;
 use crate::tile_characters::CHARACTER_BYTES;
 use crate::tile_counts::Counts;
+use pcl_patterns::short_number;
 use std::alloc::{AllocError, Global};
 use std::ops::Range;
 
-/// Of this many tiles below each other one is looked at where the grid is chosen.
+/// Of this many tiles below each other one is looked at where the grid is chosen, and of more in a high part of a page: these rows of tiles
+/// are looked at there.
 const SAMPLING: u16 = 4;
+
+const SAMPLED_ROWS: u16 = 32;
 
 /// How far right and down tiles may lie from the corner of the page, besides not at all.
 const SHIFTS: [u16; 3] = [2, 4, 6];
@@ -19,6 +23,7 @@ pub fn best_grid(alloc: Global, page: Unpainted<'_>, area: Extent) -> Result<Gri
     let mut search = GridSearch {
         page,
         area,
+        sampling: SAMPLING.max(short_number(area.height()) / TILE_SIDE / SAMPLED_ROWS),
         counts: Counts::new(alloc)?,
         best: Grid::CORNER,
         least: usize::MAX,
@@ -42,6 +47,8 @@ pub fn best_grid(alloc: Global, page: Unpainted<'_>, area: Extent) -> Result<Gri
 struct GridSearch<'a> {
     page: Unpainted<'a>,
     area: Extent,
+    /// Of this many tiles below each other one is looked at.
+    sampling: u16,
     counts: Counts,
     best: Grid,
     least: usize,
@@ -54,12 +61,12 @@ impl<'a> GridSearch<'a> {
         let alloc = *self.counts.counts.allocator();
         let mut band = Band::new(alloc, self.page, grid, self.area);
         for number in numbers_of(self.page, grid, self.area) {
-            if number % SAMPLING == 0 {
+            if number % self.sampling.max(1) == 0 {
                 band.read(grid.top_of(number))?;
                 self.counts.add_tiles(&band.tiles);
             }
         }
-        let bytes = bytes_of_sample(&self.counts);
+        let bytes = bytes_of_sample(&self.counts, self.sampling);
         if bytes < self.least {
             self.best = grid;
             self.least = bytes;
@@ -68,18 +75,25 @@ impl<'a> GridSearch<'a> {
     }
 }
 
-/// About how many bytes all tiles take, of a sample of which the counts are: each as a character, or eight where that is less.
-fn bytes_of_sample(counts: &Counts) -> usize {
+/// About how many bytes all tiles take, of a sample of one in so many of which the counts are: each as a character, or eight where that is
+/// less.
+fn bytes_of_sample(counts: &Counts, sampling: u16) -> usize {
     let mut bytes: usize = 0;
-    for count in counts.counts.iter() {
-        if *count != 0 {
-            let count = usize::from(count.saturating_mul(SAMPLING));
-            let character = count.saturating_add(CHARACTER_BYTES);
-            let rows = count.saturating_mul(usize::from(TILE_SIDE));
-            bytes = bytes.saturating_add(character.min(rows));
+    for eight in counts.eights() {
+        if *eight != [0; 8] {
+            for count in eight {
+                bytes = bytes.saturating_add(bytes_of_tiles(count.saturating_mul(sampling)));
+            }
         }
     }
     bytes
+}
+
+/// About how many bytes as many tiles of one kind take: as characters, or in a raster where that is less.
+fn bytes_of_tiles(count: u16) -> usize {
+    let count = usize::from(count);
+    let characters = count.saturating_add(CHARACTER_BYTES);
+    characters.min(count.saturating_mul(usize::from(TILE_SIDE)))
 }
 
 /// The numbers of the tiles below each other in a part of a page.

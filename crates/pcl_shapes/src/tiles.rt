@@ -4,20 +4,18 @@
 //! *tile* takes a byte as a character, its code, and in a raster what its eight rows take. Two that are often side by side are one
 //! character.
 
-use crate::bands::{Band, Grid, Stretch, TILE_SIDE};
+use crate::bands::{Grid, TILE_SIDE};
 use crate::page_rows::Unpainted;
+use crate::seen_pictures::{SeenPictures, SeenStretch};
 use crate::shapes::Extent;
 use crate::tile_characters::{CodeFonts, bytes_in_one_font};
 use crate::tile_counts::TileCounts;
-use crate::tile_grids::{best_grid, numbers_of};
+use crate::tile_grids::best_grid;
 use pcl_patterns::in_fine_parts;
 use std::alloc::{AllocError, Global};
 
-/// A picture is as wide as this many tiles.
-const LEAST_WIDTH: usize = 16;
-
-/// A picture has this many runs of black dots for each tile: text, whose letters take fewer bytes yet, has fewer, or tiles that are rare.
-const LEAST_RUNS: usize = 5;
+/// This many tiles are read for each that is a character: white ones, and those that gain nothing, are among them.
+const SEEN_TILES: usize = 2;
 
 /// Fewer tiles than these on a page are no picture.
 const LEAST_TILES: usize = 512;
@@ -44,11 +42,19 @@ impl Tile {
         }
     }
 
+    /// How many tiles side by side it has.
+    fn columns(self) -> usize {
+        match self.next {
+            None => 1,
+            Some(_) => 2,
+        }
+    }
+
     /// Its rows, of a byte or of two: as many bytes as it is dots wide, and white ones after them.
     pub fn rows(self) -> [u8; 16] {
         let mut rows = [0; 16];
         let columns = [Some(self.dots), self.next];
-        let row_bytes = usize::from(self.width() / TILE_SIDE);
+        let row_bytes = self.columns();
         for (column, dots) in columns.iter().flatten().enumerate() {
             for (row, byte) in dots.to_be_bytes().iter().enumerate() {
                 if let Some(place) = rows.get_mut(
@@ -62,50 +68,23 @@ impl Tile {
     }
 }
 
-/// The tiles of a page that take fewer bytes as characters than in its raster, up to about this many: from the topmost rows down. They
-/// lie so that few differ.
+/// The tiles of a page that take fewer bytes as characters than in its raster, up to about this many: from the topmost rows down, and none
+/// where they are few. They lie so that few differ.
 pub fn find_tiles(
     alloc: Global,
     page: Unpainted<'_>,
     limit: usize,
 ) -> Result<Vec<Tile>, AllocError> {
-    let tiles = tiles_in(alloc, page, Grid::CORNER, limit)?;
-    let Some(area) = area_of(&tiles) else {
-        return Ok(tiles);
+    let mut pictures = Pictures::none(alloc);
+    pictures.read(page, Grid::CORNER, limit)?;
+    let Some(area) = pictures.area() else {
+        return Ok(Vec::new(alloc));
     };
     let grid = best_grid(alloc, page, area)?;
-    if grid == Grid::CORNER {
-        return Ok(tiles);
+    if grid != Grid::CORNER {
+        pictures.read(page, grid, limit)?;
     }
-    tiles_in(alloc, page, grid, limit)
-}
-
-/// The tiles of a page that lie so and take fewer bytes as characters, up to about this many: none where they are few.
-fn tiles_in(
-    alloc: Global,
-    page: Unpainted<'_>,
-    grid: Grid,
-    limit: usize,
-) -> Result<Vec<Tile>, AllocError> {
-    let mut pictures = Pictures::of(alloc, page, grid, limit)?;
-    if pictures.tiles.len() >= LEAST_TILES {
-        let fonts = CodeFonts::of(alloc, &pictures.tiles)?;
-        pictures = pictures.shorter(alloc, &fonts)?;
-    }
-    if pictures.tiles.len() < LEAST_TILES || !pictures.pay(alloc)? {
-        return Ok(Vec::new(alloc));
-    }
-    let Pictures { tiles, .. } = pictures;
-    Ok(tiles)
-}
-
-/// The smallest box around tiles: none where there are none.
-fn area_of(tiles: &[Tile]) -> Option<Extent> {
-    let mut area = Extent::of_tile(*tiles.first()?);
-    for tile in tiles {
-        area = area.with(Extent::of_tile(*tile));
-    }
-    Some(area)
+    pictures.into_characters(alloc)
 }
 
 impl Extent {
@@ -147,36 +126,19 @@ impl Pictures {
         }
     }
 
-    /// Those that lie so, up to about this many tiles. Stretches that would gain nothing in one font are left out.
-    fn of(
-        alloc: Global,
-        page: Unpainted<'_>,
-        grid: Grid,
-        limit: usize,
-    ) -> Result<Pictures, AllocError> {
-        let counts = TileCounts::of_page(alloc, page, grid)?;
-        let mut band = Band::new(alloc, page, grid, page.area());
-        let mut pictures = Pictures::none(alloc);
-        for number in numbers_of(page, grid, page.area()) {
-            if pictures.tiles.len() < limit {
-                band.read(grid.top_of(number))?;
-                pictures.append(&band, &counts)?;
+    /// Reads those that lie so, up to about this many tiles, in place of these. Stretches that would gain nothing in one font are left out.
+    fn read(&mut self, page: Unpainted<'_>, grid: Grid, limit: usize) -> Result<(), AllocError> {
+        let alloc = *self.tiles.allocator();
+        let seen = SeenPictures::of_page(alloc, page, grid, limit.saturating_mul(SEEN_TILES))?;
+        self.tiles.clear();
+        self.stretches.clear();
+        let mut start: usize = 0;
+        for stretch in seen.stretches.iter() {
+            if self.tiles.len() < limit {
+                let tiles = seen.tiles.get(start..stretch.end).unwrap_or(&[]);
+                self.append_stretch(&seen.counts, *stretch, tiles)?;
             }
-        }
-        Ok(pictures)
-    }
-
-    /// Appends the tiles of a band that are of pictures.
-    fn append(&mut self, band: &Band<'_>, counts: &TileCounts) -> Result<(), AllocError> {
-        let mut place: usize = 0;
-        for _ in 0..band.tiles.len() {
-            let Some(stretch) = band.stretch_from(place) else {
-                break;
-            };
-            place = stretch.end;
-            if is_of_picture(band, stretch) {
-                self.append_stretch(band, counts, stretch)?;
-            }
+            start = stretch.end;
         }
         Ok(())
     }
@@ -184,14 +146,14 @@ impl Pictures {
     /// Appends the tiles of a stretch, if it gains.
     fn append_stretch(
         &mut self,
-        band: &Band<'_>,
         counts: &TileCounts,
-        stretch: Stretch,
+        stretch: SeenStretch,
+        seen: &[u64],
     ) -> Result<(), AllocError> {
         let start = self.tiles.len();
-        append_joined(band, counts, stretch, &mut self.tiles)?;
+        append_joined(counts, stretch, seen, &mut self.tiles)?;
         let bytes = bytes_in_one_font(counts, self.tiles.get(start..).unwrap_or(&[]));
-        let raster_bytes = in_fine_parts(band.raster_bytes(stretch));
+        let raster_bytes = in_fine_parts(stretch.raster_bytes);
         let gain = raster_bytes.saturating_sub(bytes);
         if gain > 0 {
             self.stretches.push(PictureStretch {
@@ -203,6 +165,37 @@ impl Pictures {
             self.tiles.truncate(start);
         }
         Ok(())
+    }
+
+    /// Whether there are few tiles.
+    fn are_few(&self) -> bool {
+        self.tiles.len() < LEAST_TILES
+    }
+
+    /// The smallest box around all tiles: none where they are few.
+    fn area(&self) -> Option<Extent> {
+        if self.are_few() {
+            return None;
+        }
+        let mut area = Extent::of_tile(*self.tiles.first()?);
+        for tile in self.tiles.iter() {
+            area = area.with(Extent::of_tile(*tile));
+        }
+        Some(area)
+    }
+
+    /// The tiles that take fewer bytes as characters: none where they are few.
+    fn into_characters(self, alloc: Global) -> Result<Vec<Tile>, AllocError> {
+        if self.are_few() {
+            return Ok(Vec::new(alloc));
+        }
+        let fonts = CodeFonts::of(alloc, &self.tiles)?;
+        let kept = self.shorter(alloc, &fonts)?;
+        if kept.are_few() || !kept.pay(alloc)? {
+            return Ok(Vec::new(alloc));
+        }
+        let Pictures { tiles, .. } = kept;
+        Ok(tiles)
     }
 
     /// Those of the stretches that gain more than what leads from font to font takes.
@@ -242,35 +235,30 @@ impl Pictures {
     }
 }
 
-/// Whether a stretch is of a picture.
-fn is_of_picture(band: &Band<'_>, stretch: Stretch) -> bool {
-    let count = stretch.len();
-    count >= LEAST_WIDTH && band.runs(stretch) >= count.saturating_mul(LEAST_RUNS)
-}
-
-/// Appends the tiles of a stretch that aren't white, two as one where they are often side by side.
+/// Appends the tiles of a stretch that aren't white, two as one where they are often side by side. `seen` are all its tiles.
 fn append_joined(
-    band: &Band<'_>,
     counts: &TileCounts,
-    stretch: Stretch,
+    stretch: SeenStretch,
+    seen: &[u64],
     tiles: &mut Vec<Tile>,
 ) -> Result<(), AllocError> {
-    let mut place = stretch.start;
-    for _ in stretch.start..stretch.end {
-        let rest = band.tiles.get(place..stretch.end).unwrap_or(&[]);
+    let mut left = stretch.left;
+    let mut rest = seen;
+    for _ in 0..seen.len() {
         let Some(dots) = rest.first().copied() else {
             break;
         };
-        let next = counts.next_of(rest);
+        let tile = Tile {
+            left,
+            top: stretch.top,
+            dots,
+            next: counts.next_of(rest),
+        };
         if dots != 0 {
-            tiles.push(Tile {
-                left: band.left_of(place),
-                top: band.top,
-                dots,
-                next,
-            })?;
+            tiles.push(tile)?;
         }
-        place = place.saturating_add(if next.is_some() { 2 } else { 1 });
+        left = left.saturating_add(tile.width());
+        rest = rest.get(tile.columns()..).unwrap_or(&[]);
     }
     Ok(())
 }
