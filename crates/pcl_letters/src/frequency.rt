@@ -14,7 +14,7 @@ use pcl_patterns::{
 use pcl_shapes::{Collection, PlacedShape};
 use std::alloc::{AllocError, Global};
 
-/// How often all patterns are looked at.
+/// How often all patterns are looked at, at most.
 const ROUNDS: u32 = 4;
 
 /// How often all letters are looked at together.
@@ -49,16 +49,21 @@ impl Frequency {
         usize::try_from(quotient(cost, all.saturating_mul(FINE))).unwrap_or(0)
     }
 
-    /// Looks at all patterns once more, which have this many shapes.
+    /// Looks at all patterns once more, which have this many shapes. Says whether there are new letters.
     fn look_again(
         &mut self,
         alloc: Global,
         collection: &Collection,
         uses: &[usize],
-    ) -> Result<(), AllocError> {
+    ) -> Result<bool, AllocError> {
         self.costs = shape_bytes(alloc, collection, self, Side::Raster)?;
-        self.are_letters = find_cheaper(alloc, collection, uses, self)?;
-        Ok(())
+        let are_letters = find_cheaper(alloc, collection, uses, self)?;
+        let has_new = are_letters
+            .iter()
+            .zip(self.are_letters.iter())
+            .any(|(new, old)| *new && !*old);
+        self.are_letters = are_letters;
+        Ok(has_new)
     }
 
     /// Looks at all letters together: those of a pattern that save too little are none. Says whether there are such.
@@ -126,7 +131,9 @@ pub fn find_frequency(alloc: Global, collection: &Collection) -> Result<Frequenc
         costs: vec![in alloc; 0i64; uses.len()]?,
     };
     for _ in 0..ROUNDS {
-        frequency.look_again(alloc, collection, &uses)?;
+        if !frequency.look_again(alloc, collection, &uses)? {
+            break;
+        }
     }
     for _ in 0..LETTER_ROUNDS {
         if !frequency.look_at_letters(alloc, collection, &uses)? {
