@@ -21,6 +21,9 @@ const SHIFT_OUT: u8 = 14;
 /// A line feed puts the cursor at the left margin too.
 const LINE_TERMINATION: &[u8] = b"\x1b&k2G";
 
+/// No more bytes than these set a line feed, and the default again.
+const SETTING_BYTES: usize = 64;
+
 /// The line spacing is the default again, a sixth of an inch.
 const USUAL_SPACING: &[u8] = b"\x1b&l6D";
 
@@ -43,6 +46,9 @@ pub struct Pen {
     pub feed: Option<Feed>,
     /// Whether a line feed goes to the left margin.
     pub returns: bool,
+    /// How many bytes the starts of lines by the left margin take less than moves, on the page: each counts one more, since it may
+    /// change the font.
+    pub spared: usize,
     /// Whether the line spacing is the default again after each page, since page lengths count lines.
     pub keeps_spacing: bool,
 }
@@ -59,6 +65,7 @@ impl Pen {
             is_shifted: false,
             feed: None,
             returns: false,
+            spared: 0,
             keeps_spacing,
         }
     }
@@ -70,6 +77,14 @@ impl Pen {
         pen.line = None;
         pen.page_width = page_width;
         pen.feed = None;
+        pen.spared = 0;
+        pen
+    }
+
+    /// After the start of a line by the left margin that takes as many bytes less than a move.
+    fn with_spared(self, bytes: usize) -> Pen {
+        let mut pen = self;
+        pen.spared = pen.spared.saturating_add(bytes.saturating_sub(1));
         pen
     }
 
@@ -91,15 +106,20 @@ pub fn append_text(
     out: &mut Vec<u8>,
 ) -> Result<Pen, AllocError> {
     let alloc = *out.allocator();
+    let Some(feed) = feed_of(layout, alloc, letters, height)? else {
+        return append_lines(layout, letters, pen, out);
+    };
+    let mut fed = Vec::new(alloc);
+    let fed_pen = append_fed(layout, letters, pen, feed, &mut fed)?;
+    if fed_pen.spared > SETTING_BYTES {
+        out.extend_from_slice(&fed)?;
+        return Ok(fed_pen);
+    }
     let mut moved = Vec::new(alloc);
     let moved_pen = append_lines(layout, letters, pen, &mut moved)?;
-    if let Some(feed) = feed_of(layout, alloc, letters, height)? {
-        let mut fed = Vec::new(alloc);
-        let fed_pen = append_fed(layout, letters, pen, feed, &mut fed)?;
-        if fed.len() < moved.len() {
-            out.extend_from_slice(&fed)?;
-            return Ok(fed_pen);
-        }
+    if fed.len() < moved.len() {
+        out.extend_from_slice(&fed)?;
+        return Ok(fed_pen);
     }
     out.extend_from_slice(&moved)?;
     Ok(moved_pen)
@@ -243,7 +263,7 @@ fn append_line_start(
         let returned_pen = append_rest(layout, rest, pen, &mut returned)?;
         if returned.len() < moved.len() {
             out.extend_from_slice(&returned)?;
-            return Ok(returned_pen);
+            return Ok(returned_pen.with_spared(moved.len().saturating_sub(returned.len())));
         }
     }
     out.extend_from_slice(&moved)?;
