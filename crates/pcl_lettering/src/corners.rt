@@ -39,7 +39,7 @@ pub fn corner_of(bitmap: &Bitmap) -> Corner {
     let mut top = None;
     for y in 0..bitmap.size().height(bitmap.dpi()) {
         if !bitmap.is_blank(y) {
-            left = left.min(white_bytes(bitmap.row(y)));
+            left = white_bytes(bitmap.row(y), left);
             top = top.or(Some(y));
         }
     }
@@ -49,9 +49,10 @@ pub fn corner_of(bitmap: &Bitmap) -> Corner {
     }
 }
 
-/// How many bytes a row has before its first ink.
-fn white_bytes(row: &[u8]) -> usize {
-    row.iter().position(|byte| *byte != 0).unwrap_or(0)
+/// How many bytes a row has before its first ink, up to as many as this.
+fn white_bytes(row: &[u8], most: usize) -> usize {
+    let front = row.get(..most).unwrap_or(row);
+    front.iter().position(|byte| *byte != 0).unwrap_or(most)
 }
 
 /// A page whose upper left corner is this one of another, of which it has the dots from there on.

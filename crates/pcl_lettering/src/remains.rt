@@ -17,6 +17,9 @@ use std::alloc::{AllocError, Global};
 /// This many rows of a page are without their letters at a time.
 const BAND_ROWS: u32 = 512;
 
+/// No letter has more rows than these, nor stands further above or below its line.
+const MOST_ROWS: u32 = 2_048;
+
 /// The form feed that ends a page.
 pub const FORM_FEED: u8 = 12;
 
@@ -99,7 +102,7 @@ pub fn shortest_rest(
 ) -> Result<Rest, AllocError> {
     let mut shortest = rest_with(alloc, taken, taken.rules, page, pen)?;
     let sparse = sparse_rules(alloc, taken.rules)?;
-    if sparse.len() < taken.rules.len() {
+    if !sparse.is_empty() && sparse.len() < taken.rules.len() {
         shortest = shortest.or_shorter(rest_with(alloc, taken, &sparse, page, pen)?);
     }
     if !shortest.is_sure {
@@ -192,7 +195,7 @@ fn paint_without(
 /// Makes the dots of some letters white in a band of a page, rows of this many bytes from row `top` on.
 fn whiten(bytes: &mut [u8], row_bytes: usize, top: u32, taken: Taken<'_>) {
     let end = top.saturating_add(BAND_ROWS);
-    for letter in taken.letters {
+    for letter in letters_near(taken.letters, top, end) {
         let first = taken.found.first_row_of(letter);
         if first < end {
             if let Some(pattern) = taken.found.pattern_of(taken.patterns, letter.glyph) {
@@ -205,6 +208,14 @@ fn whiten(bytes: &mut [u8], row_bytes: usize, top: u32, taken: Taken<'_>) {
             }
         }
     }
+}
+
+/// Those of the letters of a page, from the topmost line down, that stand near these rows: of others no dot is in them.
+fn letters_near(letters: &[Letter], top: u32, end: u32) -> &[Letter] {
+    let start = letters.partition_point(|letter| letter.baseline.saturating_add(MOST_ROWS) < top);
+    let letters = letters.get(start..).unwrap_or(&[]);
+    let count = letters.partition_point(|letter| letter.baseline <= end.saturating_add(MOST_ROWS));
+    letters.get(..count).unwrap_or(&[])
 }
 
 /// Paints rows of this many bytes from row `top` on. White ones are passed over.
