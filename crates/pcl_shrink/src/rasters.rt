@@ -17,7 +17,7 @@ use std::alloc::{AllocError, Global};
 pub struct Text {
     /// The least page text (docs/OUTPUT.md).
     pub least: Vec<u8>,
-    /// The shortest with a raster of a coarser resolution, where the page has one that is shorter.
+    /// That with a raster of the coarsest resolution that the page has, where that is shorter.
     pub coarse: Option<Vec<u8>>,
 }
 
@@ -81,29 +81,24 @@ pub fn page_text(alloc: Global, page: &Page) -> Result<Text, AllocError>
     ensures { IfOk result (λ text. IsWrittenPage page.now text.least.items) }
 {
     let least = least_text(alloc, page)?;
-    let coarse = shortest_coarse(alloc, page, least.len())?;
+    let coarse = coarsest_text(alloc, page, least.len())?;
     Ok(Text { least, coarse })
 }
 
-/// The shortest text with a raster of a coarser resolution that the page has: none where none is shorter than this many bytes.
-fn shortest_coarse(
-    alloc: Global,
-    page: &Page,
-    limit: usize,
-) -> Result<Option<Vec<u8>>, AllocError> {
+/// The text with a raster of the coarsest resolution that the page has: none where that isn't shorter than this many bytes.
+fn coarsest_text(alloc: Global, page: &Page, limit: usize) -> Result<Option<Vec<u8>>, AllocError> {
     let common = common_side(alloc, &page.bitmap)?;
-    let mut limit = limit;
-    let mut shortest = None;
+    let mut coarsest = None;
     for side in sides(page.dpi) {
         if common.checked_rem(*side) == Some(0) {
-            let text = coarse_text(alloc, page, *side)?;
-            if text.len() < limit {
-                limit = text.len();
-                shortest = Some(text);
-            }
+            coarsest = Some(*side);
         }
     }
-    Ok(shortest)
+    let Some(side) = coarsest else {
+        return Ok(None);
+    };
+    let text = coarse_text(alloc, page, side)?;
+    Ok((text.len() < limit).then_some(text))
 }
 
 /// How many dots wide and high the squares of coarser rasters are: 150, 100 and 75 dots per inch, and before these at 600 dots per
