@@ -5,7 +5,7 @@ use pcl_shapes::{RowRules, Rule, are_equal, blacken, row_bytes};
 use std::alloc::{AllocError, Global};
 use std::mem::swap;
 
-/// Rectangles are surely shorter where the raster is shorter without their dots by so many halves of their bytes: what rows take is known
+/// Rectangles are surely shorter where the raster is shorter without their dots by three halves of their bytes: what rows take is known
 /// about.
 const SURE_HALVES: usize = 3;
 

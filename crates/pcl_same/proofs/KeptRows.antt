@@ -62,13 +62,6 @@ module _ {p : Picture} {bytes starts : List ℕ} {count : ℕ} (more : List ℕ)
         ];
   })
 
--- what came makes the row: the data is what stands from the old end on
-pub row_appended : {above row made old new : List ℕ} {start : ℕ} → Appends old new → start ≡ length old
-    → Decodes Delta above (drop start new) made → made ≡ row → AppendsRowData above row old new
-row_appended {above} {row} {made} {old} {new} appended at decodes same =
-    let more : drop (length old) new ≡ appended.0 = rw appended.1 (drop-append_seam old appended.0) in
-    record { bytes = appended.0; joined = appended.1; decodes = rw (at, more, same) at decodes }
-
 -- least data in its place
 pub row_written : {above row old new cut whole : List ℕ} {start : ℕ} → Appends old new → start ≡ length old → cut ≡ take start new
     → AppendsLeast Delta above row cut whole → AppendsRowData above row old whole

@@ -75,8 +75,8 @@ impl<'a> GridSearch<'a> {
     }
 }
 
-/// About how many bytes all tiles take, of a sample of one in so many of which the counts are: each as a character, or eight where that is
-/// less.
+/// About how many bytes all tiles take, where the counts are of one tile of as many as `sampling` says: each as a character, or eight
+/// where that is less.
 fn bytes_of_sample(counts: &Counts, sampling: u16) -> usize {
     let mut bytes: usize = 0;
     for eight in counts.eights() {
