@@ -155,7 +155,7 @@ impl Begin {
 
 /// What the lines of a table say up to one of them.
 #[derive(Drop)]
-pub struct Commands {
+pub struct CommandCases {
     /// The files that are there.
     folder: Folder,
     /// What standard input gives, where it can be read.
@@ -180,10 +180,10 @@ pub struct Commands {
     made: Option<(String, Begin)>,
 }
 
-impl Commands {
+impl CommandCases {
     /// Before the first line.
-    pub(crate) fn new(alloc: Global) -> Commands {
-        Commands {
+    pub(crate) fn new(alloc: Global) -> CommandCases {
+        CommandCases {
             folder: Folder::new(alloc),
             job: None,
             is_held: true,
@@ -356,7 +356,7 @@ impl Commands {
     }
 }
 
-impl CasesOfLines for Commands {
+impl CasesOfLines for CommandCases {
     fn name(&self) -> &str {
         self.name.as_str()
     }

@@ -10,7 +10,7 @@ mod commands;
 mod folder;
 
 use case_tables::{RunFault, check_lines};
-use commands::Commands;
+use commands::CommandCases;
 
 /// The table.
 const COMMANDS: &str = "commands.txt";
@@ -23,7 +23,7 @@ fn main(rt: HostRuntime) -> Result<(), RunFault> {
         rt.alloc(),
         folder,
         COMMANDS,
-        Commands::new(rt.alloc()),
+        CommandCases::new(rt.alloc()),
     )?;
     if failed > 0 {
         return Err(RunFault::Fails { failed, count });

@@ -34,14 +34,14 @@ pub struct Pages {
     /// How many copies are printed.
     pub copies: u8,
     /// The rows that aren't white.
-    pub rows: Vec<Rows>,
+    pub rows: Vec<RepeatedRows>,
     /// The body of its page text (docs/OUTPUT.md), where one is expected.
     pub body: Option<Vec<u8>>,
 }
 
 /// Rows with the same dots: the first, and each this many rows below it, up to the last.
 #[derive(Drop)]
-pub struct Rows {
+pub struct RepeatedRows {
     /// The first row.
     pub first: u32,
     /// The last row, or one after it.
@@ -83,7 +83,7 @@ impl Pages {
     }
 }
 
-impl Rows {
+impl RepeatedRows {
     /// Whether a row is one of these.
     fn has(&self, y: u32) -> bool {
         y <= self.last

@@ -20,7 +20,7 @@
 //! In place of pages a case has `no page`, or the refusal of the job, as `refused ValueRange at 0 *pX`.
 //! `written` stands at each page of a case or at none.
 
-use crate::case::{Case, Pages, Rows};
+use crate::case::{Case, Pages, RepeatedRows};
 use crate::shown::name_of;
 use case_tables::{TableFault, bracketed_bytes_of, bytes_of, number, resolution};
 use pcl_base::{Dpi, Size};
@@ -120,7 +120,7 @@ fn add_rows(alloc: Global, case: &mut Case, first: &str, rest: &str) -> Result<(
         }
     };
     let (first, last) = span.split_once('-').unwrap_or((span, span));
-    let rows = Rows {
+    let rows = RepeatedRows {
         first: row_number(first)?,
         last: row_number(last)?,
         step: row_number(step)?,

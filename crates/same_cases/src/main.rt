@@ -10,7 +10,7 @@ mod answers;
 mod notation;
 mod pairs;
 
-use pairs::{Pairs, Taken};
+use pairs::{LineAnswer, Pairs};
 use std::{fs, io};
 
 fn main(rt: HostRuntime) -> io::Result<()> {
@@ -24,10 +24,10 @@ fn main(rt: HostRuntime) -> io::Result<()> {
     for line in text.lines() {
         number = number.saturating_add(1);
         match pairs.take_line(rt.alloc(), line.trim())? {
-            Taken::More => {}
-            Taken::Holds => count = count.saturating_add(1),
-            Taken::Fails(came) => println!(rt; "{}: {came}", pairs.name)?,
-            Taken::Unknown => println!(rt; "line {number} says nothing known")?,
+            LineAnswer::More => {}
+            LineAnswer::Holds => count = count.saturating_add(1),
+            LineAnswer::Fails(came) => println!(rt; "{}: {came}", pairs.name)?,
+            LineAnswer::Unknown => println!(rt; "line {number} says nothing known")?,
         }
     }
     println!(rt; "{count} pairs compare so")

@@ -27,7 +27,7 @@ pub struct Pairs {
 
 /// What a line comes to.
 #[derive(Drop)]
-pub enum Taken {
+pub enum LineAnswer {
     /// It belongs to a pair whose answer follows, or says nothing.
     More,
     /// It ends a pair that compares as it says.
@@ -50,53 +50,57 @@ impl Pairs {
     }
 
     /// Takes a line.
-    pub(crate) fn take_line(&mut self, alloc: Global, line: &str) -> Result<Taken, AllocError> {
+    pub(crate) fn take_line(
+        &mut self,
+        alloc: Global,
+        line: &str,
+    ) -> Result<LineAnswer, AllocError> {
         if line.is_empty() || line.starts_with("#") {
-            return Ok(Taken::More);
+            return Ok(LineAnswer::More);
         }
         let (word, rest) = line.split_once(" ").unwrap_or((line, ""));
         match (word, rest) {
             ("case", name) => self.begin(alloc, name),
             ("dpi", "600") => {
                 self.dpi = Dpi::Dpi600;
-                Ok(Taken::More)
+                Ok(LineAnswer::More)
             }
             ("first", notation) => take_job(alloc, notation, &mut self.first),
             ("second", notation) => take_job(alloc, notation, &mut self.second),
             ("answer", expected) => self.compare(alloc, expected),
-            _ => Ok(Taken::Unknown),
+            _ => Ok(LineAnswer::Unknown),
         }
     }
 
     /// Begins a pair.
-    fn begin(&mut self, alloc: Global, name: &str) -> Result<Taken, AllocError> {
+    fn begin(&mut self, alloc: Global, name: &str) -> Result<LineAnswer, AllocError> {
         self.name = String::from_str(alloc, name)?;
         self.dpi = Dpi::Dpi300;
         self.first.clear();
         self.second.clear();
-        Ok(Taken::More)
+        Ok(LineAnswer::More)
     }
 
     /// Compares the pair, with what it asks of the printer and without.
-    fn compare(&self, alloc: Global, expected: &str) -> Result<Taken, AllocError> {
+    fn compare(&self, alloc: Global, expected: &str) -> Result<LineAnswer, AllocError> {
         let answer = same_asked(alloc, &self.first, &self.second, Profile::Drivers, self.dpi);
         let pages = same(alloc, &self.first, &self.second, Profile::Drivers, self.dpi);
         let came = words_of(alloc, answer)?;
         if came.as_str() != expected || pages != of_pages(answer) {
-            return Ok(Taken::Fails(came));
+            return Ok(LineAnswer::Fails(came));
         }
-        Ok(Taken::Holds)
+        Ok(LineAnswer::Holds)
     }
 }
 
 /// Takes a job in place of another.
-fn take_job(alloc: Global, notation: &str, job: &mut Vec<u8>) -> Result<Taken, AllocError> {
+fn take_job(alloc: Global, notation: &str, job: &mut Vec<u8>) -> Result<LineAnswer, AllocError> {
     match bytes_of(alloc, notation)? {
         Some(bytes) => {
             *job = bytes;
-            Ok(Taken::More)
+            Ok(LineAnswer::More)
         }
-        None => Ok(Taken::Unknown),
+        None => Ok(LineAnswer::Unknown),
     }
 }
 

@@ -1,7 +1,7 @@
 //! Jobs that are written with their certificates, between readers and writers that give or take little, or fail.
 
 use super::assert_gives;
-use super::devices::{Held, Source, failing, taking};
+use super::devices::{FailingReader, Held, failing, taking};
 use super::filtering::{JOB, WRITES, WRITTEN, taken};
 use pcl_base::Dpi;
 use pcl_cert::Format;
@@ -138,7 +138,7 @@ fn each_read_fails(rt: HostRuntime) {
     let alloc = rt.alloc();
     for kind in [ErrorKind::BrokenPipe, ErrorKind::Interrupted] {
         for good in 0..6 {
-            let mut source = Source {
+            let mut source = FailingReader {
                 rest: JOB,
                 most: 7,
                 good: Some(good),
@@ -261,7 +261,7 @@ fn longer_than_a_limit(rt: HostRuntime) -> Result<(), AllocError> {
 fn one_byte_a_call(rt: HostRuntime) -> Result<(), AllocError> {
     let alloc = rt.alloc();
     let whole = certificate(alloc, Format::One)?;
-    let mut source = Source {
+    let mut source = FailingReader {
         rest: JOB,
         most: 1,
         good: None,

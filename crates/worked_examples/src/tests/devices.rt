@@ -6,7 +6,7 @@ use std::io::{ErrorKind, Read, Write};
 
 /// Gives its bytes, at most this many a read; one of its reads fails.
 #[derive(Drop)]
-pub struct Source<'a> {
+pub struct FailingReader<'a> {
     /// The bytes that are left.
     pub rest: &'a [u8],
     /// The most bytes of a read.
@@ -17,7 +17,7 @@ pub struct Source<'a> {
     pub kind: ErrorKind,
 }
 
-impl Read for Source<'_> {
+impl Read for FailingReader<'_> {
     fn read(&mut self, buf: &mut [u8]) -> io::Result<usize> {
         if self.good == Some(0) {
             self.good = None;

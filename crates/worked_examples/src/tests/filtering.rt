@@ -1,7 +1,7 @@
 //! Filters between readers and writers that give or take little, or fail.
 
 use super::assert_gives;
-use super::devices::{Held, Source, failing, taking};
+use super::devices::{FailingReader, Held, failing, taking};
 use pcl_base::{Dpi, Kind, Name, Refusal};
 use pcl_tool::{Fault, filter};
 use std::alloc::Global;
@@ -60,7 +60,7 @@ fn assert_read_fails(
     good: usize,
     wanted: &Filtered,
 ) {
-    let mut source = Source {
+    let mut source = FailingReader {
         rest: JOB,
         most,
         good: Some(good),

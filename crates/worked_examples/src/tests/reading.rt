@@ -1,7 +1,7 @@
 //! Reading a whole input, from readers that give little or fail.
 
 use super::assert_gives;
-use super::devices::Source;
+use super::devices::FailingReader;
 use pcl_tool::{Fault, read_all};
 use std::alloc::{AllocError, Global};
 use std::io::ErrorKind;
@@ -42,7 +42,7 @@ const ROWS: [Row; 17] = [
 ];
 
 /// How many bytes are read of a source, and whether they are those that it had.
-fn read(alloc: Global, source: &mut Source, limit: usize) -> Result<(usize, bool), Fault> {
+fn read(alloc: Global, source: &mut FailingReader, limit: usize) -> Result<(usize, bool), Fault> {
     let whole = source.rest;
     match read_all(alloc, source, limit) {
         Ok(bytes) => Ok((bytes.len(), bytes.as_slice() == whole)),
@@ -53,7 +53,7 @@ fn read(alloc: Global, source: &mut Source, limit: usize) -> Result<(usize, bool
 /// Asserts what is read of a row whose failing read fails so.
 fn assert_read(rt: &impl Abort, alloc: Global, kind: ErrorKind, row: &Row) {
     let (len, most, good, limit, wanted, left) = *row;
-    let mut source = Source {
+    let mut source = FailingReader {
         rest: TEXT.get(..len).unwrap_or(TEXT),
         most,
         good,
@@ -83,7 +83,7 @@ const LONG_ROWS: [LongRow; 3] = [
 /// Asserts what is read of these bytes.
 fn assert_long_read(rt: &impl Abort, alloc: Global, bytes: &[u8], row: &LongRow) {
     let (good, limit, wanted) = *row;
-    let mut source = Source {
+    let mut source = FailingReader {
         rest: bytes,
         most: usize::MAX,
         good,
