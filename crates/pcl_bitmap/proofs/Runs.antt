@@ -13,6 +13,26 @@ part_more old now first i m bits within start added above k =
     (λ n small. rw (bit_of_byte-or, dot_at now i small refl, added n small)) in
     grind (arith, nat_tests, after, above k)
 
+-- no byte yet
+none_yet : (i k : ℕ) (bit before : Bool) → before ≡ ((in_run (8 * i) (8 * i) k && bit) || before)
+none_yet i k bit before = grind (arith, nat_tests)
+
+-- some bits are in place in byte i
+pub part_alone : (old : List ℕ) (i m : ℕ) (bits : ℕ → Bool) → i < length old → ((k : ℕ) → k < 8 → bit_of_byte m k ≡ bits (8 * i + k))
+    → (k : ℕ) → dot_of_row (set old i (bit_or (get_or old i 0) m)) k ≡ ((in_run (8 * i) (8 * (i + 1)) k && bits k) || dot_of_row old k)
+part_alone old i m bits within added =
+    part_more old old i i m bits within (omega arith) added (λ k. none_yet i k (bits k) (dot_of_row old k))
+
+-- the bytes of a run that lies in one byte, or in two
+pub one_joined : (from end f : ℕ) (row : List ℕ) (k : ℕ) (d0 d1 : Bool) → 8 * f ≤ from → end ≤ 8 * (f + 1)
+    → d1 ≡ ((in_run (8 * f) (8 * (f + 1)) k && run_dot from end row k) || d0) → d1 ≡ (run_dot from end row k || d0)
+one_joined from end f row k d0 d1 low stop e1 = grind (arith, nat_tests)
+
+pub two_joined : (from end f : ℕ) (row : List ℕ) (k : ℕ) (d0 d1 d2 : Bool) → 8 * f ≤ from → end ≤ 8 * (f + 2)
+    → d1 ≡ ((in_run (8 * f) (8 * (f + 1)) k && run_dot from end row k) || d0)
+    → d2 ≡ ((in_run (8 * (f + 1)) (8 * (f + 1 + 1)) k && run_dot from end row k) || d1) → d2 ≡ (run_dot from end row k || d0)
+two_joined from end f row k d0 d1 d2 low stop e1 e2 = grind (arith, nat_tests)
+
 -- the byte that is added to byte i has the run's bits there
 pub added_bits : (row : List ℕ) (from end i b m : ℕ) → from / 8 ≤ i → ((k : ℕ) → k < 8
     → bit_of_byte b k ≡ (nat_le (from % 8) (8 * (i - from / 8) + k) && dot_of_row row (8 * (i - from / 8) + k - from % 8)))

@@ -7,7 +7,7 @@ ghost use Rattle.pcl_bitmap.specs.Dots.{is_black_ink, raster_dot, rectangle_dot,
 
 use crate::area::Area;
 use crate::filled::Filled;
-use crate::patterns::{self, Window};
+use crate::patterns::{self, Clip};
 use crate::{Ink, bits, fills, kernels, squares};
 use pcl_base::{Dpi, Size};
 use std::alloc::{AllocError, Global};
@@ -194,7 +194,7 @@ impl Bitmap {
             width: columns.saturating_sub(skip_x).min(page_width - left),
             height: lines.saturating_sub(skip_y).min(page_height - top),
         };
-        let window = Window {
+        let clip = Clip {
             row_bytes: usize::from(width).div_ceil(8),
             scale,
             x: skip_x,
@@ -202,6 +202,6 @@ impl Bitmap {
         };
         let row_bytes = self.size.row_bytes(self.dpi);
         self.filled = self.filled.under_black();
-        patterns::or_pattern(&mut self.bytes, row_bytes, area, window, rows);
+        patterns::or_pattern(&mut self.bytes, row_bytes, area, clip, rows);
     }
 }

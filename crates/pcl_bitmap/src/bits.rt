@@ -49,6 +49,36 @@ pub fn or_bits(target: &mut [u8], from: usize, end: usize, source: &[u8])
     ensures bits { (k : ℕ) → dot_of_row target.new k ≡ (run_dot from end source.now k || dot_of_row target.old k) }
     ensures in_bytes { All (λ byte. byte < 256) target.new }
 {
+    if end.saturating_sub(from) <= 8 {
+        or_short(target, from, end, source);
+    } else {
+        or_long(target, from, end, source);
+    }
+}
+
+// As `or_bits`, of a run that has eight bits at most.
+fn or_short(target: &mut [u8], from: usize, end: usize, source: &[u8])
+    requires room { end ≤ 8 * length target.old }
+    requires short { end ≤ from + 8 }
+    ensures bits { (k : ℕ) → dot_of_row target.new k ≡ (run_dot from end source.now k || dot_of_row target.old k) }
+    ensures in_bytes { All (λ byte. byte < 256) target.new }
+{
+    if from >= end {
+        return;
+    }
+    let first = from / 8;
+    or_byte(target, first, from, end, source);
+    if end.div_ceil(8) > first + 1 {
+        or_byte(target, first + 1, from, end, source);
+    }
+}
+
+// As `or_bits`, of a run that may be of any length.
+fn or_long(target: &mut [u8], from: usize, end: usize, source: &[u8])
+    requires { end ≤ 8 * length target.old }
+    ensures bits { (k : ℕ) → dot_of_row target.new k ≡ (run_dot from end source.now k || dot_of_row target.old k) }
+    ensures in_bytes { All (λ byte. byte < 256) target.new }
+{
     let whole = whole_bytes(from, end, source.len());
     if whole > 0 {
         or_bytes(target, from / 8, &source[..whole]);
@@ -106,8 +136,19 @@ fn or_part(target: &mut [u8], first: usize, last: usize, from: usize, end: usize
         ≡ ((in_run (8 * first) (8 * last) k && run_dot from end source.now k) || dot_of_row target.old k) }
 {
     for i in first..last {
-        target[i] |= shifted_byte(source, i - from / 8, from % 8) & leading_ones(end - 8 * i);
+        or_byte(target, i, from, end, source);
     }
+}
+
+// The same of byte `i` alone.
+fn or_byte(target: &mut [u8], i: usize, from: usize, end: usize, source: &[u8])
+    requires start { from / 8 ≤ i }
+    requires stop { 8 * i < end }
+    requires room { i < length target.old }
+    ensures { (k : ℕ) → dot_of_row target.new k
+        ≡ ((in_run (8 * i) (8 * (i + 1)) k && run_dot from end source.now k) || dot_of_row target.old k) }
+{
+    target[i] |= shifted_byte(source, i - from / 8, from % 8) & leading_ones(end - 8 * i);
 }
 
 // The same of bytes that have eight bits of two bytes of `source` each.

@@ -13,7 +13,7 @@ use pcl_base::ROW_LIMIT;
 /// What of a pattern is seen: all from the dot `(x, y)` of its own on, where its rows have `row_bytes` bytes
 /// each and its bits are squares of `scale` dots.
 #[derive(Clone, Copy)]
-pub struct Window {
+pub struct Clip {
     pub row_bytes: usize,
     pub scale: usize,
     pub x: usize,
@@ -76,33 +76,59 @@ fn write_dots(target: &mut [u8], row: &[u8], scale: usize, start: usize)
 }
 
 /// Sets the dots of an area of a page that has `row_bytes` bytes a row where the pattern has a bit set,
-/// the first dot of the window at the area's upper left corner.
-pub fn or_pattern(page: &mut [u8], row_bytes: usize, area: Area, window: Window, rows: &[u8])
-    requires scale { (1 ≤ window.scale) × (window.scale ≤ 8) }
-    requires skipped { (window.x ≤ 2 ^ 32) × (window.y ≤ 2 ^ 32) }
-    requires bits { (j : ℕ) → j < area.height → (j + window.y) / window.scale * window.row_bytes ≤ length rows.now }
+/// the first dot of the clip at the area's upper left corner.
+pub fn or_pattern(page: &mut [u8], row_bytes: usize, area: Area, clip: Clip, rows: &[u8])
+    requires scale { (1 ≤ clip.scale) × (clip.scale ≤ 8) }
+    requires skipped { (clip.x ≤ 2 ^ 32) × (clip.y ≤ 2 ^ 32) }
+    requires bits { (j : ℕ) → j < area.height → (j + clip.y) / clip.scale * clip.row_bytes ≤ length rows.now }
     requires narrow { area.width ≤ 8 * row_limit }
     requires wide { area.x + area.width ≤ 8 * row_bytes }
     requires high { (area.y + area.height) * row_bytes ≤ length page.old }
     requires small { length page.old < 2 ^ 32 }
     requires below { area.y + area.height < 2 ^ 32 }
     ensures dots { (px py : ℕ) → px < 8 * row_bytes → let place = 8 * (py * row_bytes) + px in
-        let bit_row = (py - area.y + window.y) / window.scale in
+        let bit_row = (py - area.y + clip.y) / clip.scale in
         dot_of_row page.new place ≡ (if rectangle_dot area.x area.y area.width area.height px py
-        then dot_of_row (drop (bit_row * window.row_bytes) rows.now) ((window.x + (px - area.x)) / window.scale)
+        then dot_of_row (drop (bit_row * clip.row_bytes) rows.now) ((clip.x + (px - area.x)) / clip.scale)
         || dot_of_row page.old place
         else dot_of_row page.old place) }
     ensures in_bytes { All (λ byte. byte < 256) page.new }
 {
+    if clip.scale == 1 && clip.x == 0 {
+        or_whole_rows(page, row_bytes, area, clip, rows);
+        return;
+    }
     let mut dots = [0; ROW_LIMIT];
     let count = area.width.div_ceil(8);
     for row in area.y..area.y + area.height {
-        let line = row - area.y + window.y;
-        if row == area.y || line % window.scale == 0 {
-            let source = &rows[line / window.scale * window.row_bytes..];
-            write_dots(&mut dots[..count], source, window.scale, window.x);
+        let line = row - area.y + clip.y;
+        if row == area.y || line % clip.scale == 0 {
+            let source = &rows[line / clip.scale * clip.row_bytes..];
+            write_dots(&mut dots[..count], source, clip.scale, clip.x);
         }
         let start = 8 * (row * row_bytes) + area.x;
         or_bits(page, start, start + area.width, &dots[..count]);
+    }
+}
+
+// The same of a pattern whose bits are dots, and whose rows are seen from their first dot on.
+fn or_whole_rows(page: &mut [u8], row_bytes: usize, area: Area, clip: Clip, rows: &[u8])
+    requires skipped { clip.y ≤ 2 ^ 32 }
+    requires bits { (j : ℕ) → j < area.height → (j + clip.y) * clip.row_bytes ≤ length rows.now }
+    requires wide { area.x + area.width ≤ 8 * row_bytes }
+    requires high { (area.y + area.height) * row_bytes ≤ length page.old }
+    requires small { length page.old < 2 ^ 32 }
+    requires below { area.y + area.height < 2 ^ 32 }
+    ensures dots { (px py : ℕ) → px < 8 * row_bytes → let place = 8 * (py * row_bytes) + px in
+        dot_of_row page.new place ≡ (if rectangle_dot area.x area.y area.width area.height px py
+        then dot_of_row (drop ((py - area.y + clip.y) * clip.row_bytes) rows.now) (px - area.x)
+        || dot_of_row page.old place
+        else dot_of_row page.old place) }
+    ensures in_bytes { All (λ byte. byte < 256) page.new }
+{
+    for row in area.y..area.y + area.height {
+        let source = &rows[(row - area.y + clip.y) * clip.row_bytes..];
+        let start = 8 * (row * row_bytes) + area.x;
+        or_bits(page, start, start + area.width, source);
     }
 }

@@ -1,10 +1,11 @@
+use Rattle.std.proofs.Math.Nat.{div-one}
 use Rattle.std.proofs.Common.{◌≡◌, ℕ, ◌*◌, ◌+◌, ◌-◌, ◌/◌, List, length, take, length-take, drop, ap, ◌∙◌, arith}
 use Rattle.pcl_bitmap.proofs.Names.{take_rest, dot_of_row}
 use Rattle.pcl_bitmap.proofs.Inked.{none_inked, row_inked, run_or}
 use Rattle.pcl_bitmap.proofs.Cut.{HasLine, same_bits_above}
 use Rattle.pcl_bitmap.proofs.Runs.{take_dots, front_dots}
 use Rattle.pcl_bitmap.proofs.patterns.or_pattern.Goals as goal
-use Rattle.pcl_bitmap.proofs.patterns.or_pattern.Goals.{then-row-area, else-row-area+else-line-window-eq0}
+use Rattle.pcl_bitmap.proofs.patterns.or_pattern.Goals.{then-row-area, else-row-area+else-line-clip-eq0}
 
 pub loop-row-init : goal.loop-row-init
 loop-row-init c = record {
@@ -16,7 +17,7 @@ pub loop-row-preserved : goal.loop-row-preserved
 loop-row-preserved c =
     let a = c.args in
     let row = c.loop-row.row in
-    let w = c.args.window in
+    let w = c.args.clip in
     let count = c.div_ceil-count.result in
     let line = row - a.area.y + w.y in
     let dots : List ℕ = c.if-row-area.dots in
@@ -27,8 +28,8 @@ loop-row-preserved c =
           rw (t.dots-is, front_dots c.loop-row.dots t.write_dots.new.target {n = count} (omega arith) inside)
           (t.write_dots.ensures k (omega arith)
           ∙ ap (λ (d : List ℕ). dot_of_row d ((w.x + k) / w.scale)) (take_rest a.rows.now (line / w.scale * w.row_bytes)))
-      | else-row-area+else-line-window-eq0 t ↦ λ k inside.
-          rw (t.dots-is, ← same_bits_above line w.scale (omega arith) t.if-line-window-eq0.false)
+      | else-row-area+else-line-clip-eq0 t ↦ λ k inside.
+          rw (t.dots-is, ← same_bits_above line w.scale (omega arith) t.if-line-clip-eq0.false)
           (c.loop-row.invariant.held (line - 1) (omega arith) (omega arith) k inside)
     ] in
     record {
@@ -42,3 +43,14 @@ loop-row-preserved c =
           (λ level inside. take_dots count dots (omega arith) ∙ rw level (held (px - a.area.x) (omega arith))));
       held = λ next at_row below. let same : next ≡ row - a.area.y + w.y = omega arith in rw same held;
     }
+
+pub or_whole_rows-requires-clause-bits : goal.or_whole_rows-requires-clause-bits
+or_whole_rows-requires-clause-bits c j below =
+    let one : c.args.clip.scale ≡ 1 = omega arith in rw (div-one (j + c.args.clip.y)) at (rw one at (c.requires.bits j below))
+
+pub returns-then-clip-eq0-clause-dots : goal.returns-then-clip-eq0-clause-dots
+returns-then-clip-eq0-clause-dots c px py within =
+    let one : c.args.clip.scale ≡ 1 = omega arith in
+    let left : c.args.clip.x ≡ 0 = omega arith in
+    let column : (0 + (px - c.args.area.x)) / 1 ≡ px - c.args.area.x = omega arith in
+    rw (one, left, div-one (py - c.args.area.y + c.args.clip.y), column) (c.or_whole_rows.ensures.dots px py within)

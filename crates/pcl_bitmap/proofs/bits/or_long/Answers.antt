@@ -1,8 +1,8 @@
 use Rattle.std.proofs.Common.{◌≡◌, add-zero, arith}
 use Rattle.pcl_bitmap.proofs.Names.{take_rest, dot_of_row}
 use Rattle.pcl_bitmap.proofs.Runs.{run_dot-joined}
-use Rattle.pcl_bitmap.proofs.bits.or_bits.Goals as goal
-use Rattle.pcl_bitmap.proofs.bits.or_bits.Goals.{then-whole-gt0, else-whole-gt0}
+use Rattle.pcl_bitmap.proofs.bits.or_long.Goals as goal
+use Rattle.pcl_bitmap.proofs.bits.or_long.Goals.{then-whole-gt0, else-whole-gt0}
 
 pub returns-clause-bits : goal.returns-clause-bits
 returns-clause-bits c k =
