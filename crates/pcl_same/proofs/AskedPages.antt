@@ -5,7 +5,8 @@ use Rattle.pcl_same.proofs.Names.{Profile, rest_grows, at_begin, Dpi, Asks, HasP
 -- a job has one list of pages
 abbrev pub OnePages : Profile → Type 0
 OnePages profile =
-    (dpi : Dpi) (job : List ℕ) (pages others : List Sheet) → HasPagesBy profile dpi job pages → HasPagesBy profile dpi job others → pages ≡ others
+    (dpi : Dpi) (job : List ℕ) (pages others : List Sheet) → HasPagesBy profile dpi job pages → HasPagesBy profile dpi job others
+    → pages ≡ others
 
 pub asked_pages : {profile : Profile} → OnePages profile → {dpi : Dpi} {job : List ℕ} {pages : List Sheet} {asks : Asks}
     → HasPagesBy profile dpi job pages → HasAsksBy profile dpi job asks

@@ -1,6 +1,7 @@
 -- What the two sinks hold that took the pages of the jobs.
-use Rattle.std.proofs.Common.{◌≡◌, List, [], ◌∷◌, ◌++◌, length, drop, Option, refl, sym, ap, subst, ◌∙◌, append_assoc, append-nil}
-use Rattle.pcl_same.proofs.Names.{length-append, drop-drop, Dpi, Sheet, Hands, Difference, KeptPage, KeepAll, KeepsMore, Compared, ComparesNext, FindAll}
+use Rattle.std.proofs.Common.{◌≡◌, List, [], ◌∷◌, ◌++◌, length, drop, Option, Some, None, refl, sym, ap, subst, ◌∙◌, append_assoc, append-nil}
+use Rattle.std.proofs.lemmas.Option.{none-some, same_Some}
+use Rattle.pcl_same.proofs.Names.{length-append, drop-drop, Dpi, Sheet, Hands, Difference, KeptPage, KeepAll, KeepAllIfAny, KeepsMore, KeepsWithin, Compared, ComparesNext, FindAll}
 
 -- ---- the first job
 
@@ -17,6 +18,27 @@ pub all_kept : (dpi : Dpi) (sheets : List Sheet) {old : List KeptPage} (new : Li
     → KeepAll dpi sheets new
 all_kept dpi sheets {old} new none h =
     let k = kept_on dpi sheets old new h in rw k.1 (simp none k.2)
+
+-- what is kept after pages where all are, since none is once they took too many bytes
+none_after : (dpi : Dpi) (sheets : List Sheet) (new : List KeptPage) → Hands KeepsWithin dpi sheets None (Some new) → ⊥
+none_after dpi [] new h = none-some new (sym h)
+none_after dpi (sheet ∷ sheets) new (page, None, shows, took, later) = none_after dpi sheets new later
+none_after dpi (sheet ∷ sheets) new (page, Some mid, shows, took, later) = took
+
+kept_within_on : (dpi : Dpi) (sheets : List Sheet) (old new : List KeptPage) → Hands KeepsWithin dpi sheets (Some old) (Some new)
+    → (more : List KeptPage) × (new ≡ old ++ more) × KeepAll dpi sheets more
+kept_within_on dpi [] old new h = ([], same_Some new old h ∙ sym (append-nil old), tt)
+kept_within_on dpi (sheet ∷ sheets) old new (page, None, shows, took, later) = absurd (none_after dpi sheets new later)
+kept_within_on dpi (sheet ∷ sheets) old new (page, Some mid, shows, took, later) =
+    let rest = kept_within_on dpi sheets mid new later in
+    (took.0 ∷ rest.0, cc (rest.1, took.1, append_assoc old (took.0 ∷ []) rest.0), (page, shows, took.2, rest.2))
+
+pub all_kept_within : (dpi : Dpi) (sheets : List Sheet) {old : Option (List KeptPage)} (new : Option (List KeptPage)) → old ≡ Some []
+    → Hands KeepsWithin dpi sheets old new → KeepAllIfAny dpi sheets new
+all_kept_within dpi sheets {old} None none h = tt
+all_kept_within dpi sheets {old} (Some new) none h =
+    let k = kept_within_on dpi sheets [] new (subst (λ (o : Option (List KeptPage)). Hands KeepsWithin dpi sheets o (Some new)) none h) in
+    rw k.1 k.2
 
 -- ---- the second job
 

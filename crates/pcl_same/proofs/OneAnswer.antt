@@ -128,7 +128,8 @@ module _ {profile : Profile} (one : HasOneMeaning profile) (dpi : Dpi) (first se
         absurd (one.apart dpi first (later r p).0 s (later r p).1 (refused s q))
     one_result (Err (Refused Second r)) (Err (Refused Second s)) p q m n = cc (one.refusal dpi second r s (later r p).2 (later s q).2)
 
-pub same_answer_by : {profile : Profile} → HasOneMeaning profile → (dpi : Dpi) (first second : List ℕ) (a b : Result PageComparison SameFault)
+pub same_answer_by : {profile : Profile} → HasOneMeaning profile → (dpi : Dpi) (first second : List ℕ)
+    (a b : Result PageComparison SameFault)
     → IsComparedBy profile dpi first second a → IsComparedBy profile dpi first second b → a ≢ Err Memory → b ≢ Err Memory → a ≡ b
 same_answer_by {profile} one dpi first second =
     one_result one dpi first second (IsComparedBy profile dpi first second) (λ c p. (p.pages, p.meaning, p.others, p.other_meaning))

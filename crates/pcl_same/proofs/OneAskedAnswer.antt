@@ -107,20 +107,26 @@ abbrev pub OneAsks : Profile → Type 0
 OneAsks profile = (dpi : Dpi) (job : List ℕ) (asks others : Asks) → HasAsksBy profile dpi job asks → HasAsksBy profile dpi job others
     → asks ≡ others
 
-same_asked : {last : LastExit} {profile : Profile} → HasOneMeaning profile → OneAsks profile → {dpi : Dpi} {first second : List ℕ} (a b : AskedComparison)
+same_asked : {last : LastExit} {profile : Profile} → HasOneMeaning profile → OneAsks profile → {dpi : Dpi}
+    {first second : List ℕ} (a b : AskedComparison)
     → IsComparisonCounting last profile dpi first second a → IsComparisonCounting last profile dpi first second b → a ≡ b
 same_asked {last} one one_asks {dpi} {first} {second} a b p q =
     let same = one.pages dpi second p.others q.others p.other_meaning q.other_meaning in
     let compare : Compare dpi p.pages p.others (of_pages b) =
     rw (one.pages dpi first p.pages q.pages p.meaning q.meaning, same) q.compare in
     let alike = one_asks dpi second p.other_asks q.other_asks p.other_asked q.other_asked in
-    let compare_asks : CompareAsks (as_counted last p.asks) (as_counted last p.other_asks) b = rw (one_asks dpi first p.asks q.asks p.asked q.asked, alike) q.compare_asks in
-    one_asked (as_counted last p.asks) (as_counted last p.other_asks) a b (one_comparison dpi p.pages p.others (of_pages a) (of_pages b) p.compare compare) p.compare_asks
+    let compare_asks : CompareAsks (as_counted last p.asks) (as_counted last p.other_asks) b =
+    rw (one_asks dpi first p.asks q.asks p.asked q.asked, alike) q.compare_asks in
+    one_asked (as_counted last p.asks) (as_counted last p.other_asks) a b
+    (one_comparison dpi p.pages p.others (of_pages a) (of_pages b) p.compare compare) p.compare_asks
     compare_asks
 
-pub same_asked_answer_by : (last : LastExit) {profile : Profile} → HasOneMeaning profile → OneAsks profile → (dpi : Dpi) (first second : List ℕ)
-    (a b : Result AskedComparison SameFault) → IsComparedAskedBy last profile dpi first second a → IsComparedAskedBy last profile dpi first second b
+pub same_asked_answer_by : (last : LastExit) {profile : Profile} → HasOneMeaning profile → OneAsks profile →
+    (dpi : Dpi) (first second : List ℕ)
+    (a b : Result AskedComparison SameFault) → IsComparedAskedBy last profile dpi first second a
+    → IsComparedAskedBy last profile dpi first second b
     → a ≢ Err Memory → b ≢ Err Memory → a ≡ b
 same_asked_answer_by last {profile} one one_asks dpi first second =
-    one_result one dpi first second (IsComparedAskedBy last profile dpi first second) (λ c p. (p.pages, p.meaning, p.others, p.other_meaning))
+    one_result one dpi first second (IsComparedAskedBy last profile dpi first second)
+    (λ c p. (p.pages, p.meaning, p.others, p.other_meaning))
     (λ r p. p) (λ r p. p) (same_asked one one_asks)

@@ -1,5 +1,7 @@
 -- What is kept of the pages of a job: their sizes and copies, and each row as data of method 3 over the row above it.
-use Rattle.std.specs.Prelude.{◌≡◌, ℕ, zero, suc, ◌+◌, ◌<◌, List, [], ◌∷◌, replicate, slice_index, slice_range}
+use Rattle.std.specs.Prelude.{◌≡◌, ℕ, zero, suc, ◌+◌, ◌<◌, List, [], ◌∷◌, ◌++◌, replicate, slice_index, slice_range, Option, Some, None}
+use Rattle.std.specs.Option.{option_map}
+use Rattle.std.specs.Global.{Vec}
 use Rattle.pcl_base.specs.declared.dpi.Dpi.{Dpi}
 use Rattle.pcl_base.specs.declared.method.Method.TheVariants.{Delta}
 use Rattle.pcl_base.specs.Size.{page_height, page_row_bytes}
@@ -9,6 +11,7 @@ use Rattle.pcl_rows.specs.Rows.{Decodes}
 use Rattle.pcl_page.specs.Situation.{Sheet}
 use Rattle.pcl_page.specs.Performing.{Shows}
 use Rattle.pcl_same.specs.declared.keeping.KeptPage.{KeptPage}
+use Rattle.pcl_same.specs.declared.keeping.PageKeeper.{PageKeeper}
 use Rattle.pcl_same.specs.declared.kept_bitmap.KeptBitmap.{KeptBitmap}
 
 -- ---- rows
@@ -43,6 +46,20 @@ pub record KeepsPage (page : Page) (kept : KeptPage) : Type 0 where
   pub copies : kept.copies ≡ page.copies
   pub bitmap : KeepsPicture page.bitmap kept.bitmap
 
+-- a page more is kept
+abbrev pub KeepsMore : List KeptPage → Page → List KeptPage → Type 0
+KeepsMore old page new = (kept : KeptPage) × (new ≡ old ++ kept ∷ []) × KeepsPage page kept
+
+-- the same of pages that are kept as long as they take few bytes
+abbrev pub KeepsWithin : Option (List KeptPage) → Page → Option (List KeptPage) → Type 0
+KeepsWithin old page None = Unit {0}
+KeepsWithin None page (Some new) = ⊥
+KeepsWithin (Some old) page (Some new) = KeepsMore old page new
+
+-- the pages that a keeper has, if it has all
+abbrev pub kept_pages : PageKeeper → Option (List KeptPage)
+kept_pages keeper = option_map (λ (pages : Vec KeptPage). pages.items) keeper.pages
+
 -- pages that show the sheets are kept, one by one
 abbrev pub KeepAll : Dpi → List Sheet → List KeptPage → Type 0
 KeepAll dpi [] [] = Unit {0}
@@ -50,3 +67,8 @@ KeepAll dpi [] (kept ∷ others) = ⊥
 KeepAll dpi (sheet ∷ sheets) [] = ⊥
 KeepAll dpi (sheet ∷ sheets) (kept ∷ others) =
     (page : Page) × Shows dpi page sheet × KeepsPage page kept × KeepAll dpi sheets others
+
+-- the same where all are kept
+abbrev pub KeepAllIfAny : Dpi → List Sheet → Option (List KeptPage) → Type 0
+KeepAllIfAny dpi sheets None = Unit {0}
+KeepAllIfAny dpi sheets (Some kept) = KeepAll dpi sheets kept

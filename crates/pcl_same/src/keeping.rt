@@ -50,6 +50,58 @@ impl KeptPage {
     }
 }
 
+/// Keeps the pages of a job as they come, as long as they take few bytes.
+#[derive(Drop)]
+pub struct PageKeeper {
+    /// The pages that came: none once they took too many bytes, or memory ran out.
+    pub(crate) pages: Option<Vec<KeptPage>>,
+    /// How many bytes more they may take.
+    pub(crate) room: usize,
+}
+
+impl PageKeeper {
+    ghost use Rattle.std.specs.Prelude.{◌≡◌, [], Some, IfSome};
+    ghost use Rattle.pcl_same.specs.Kept.{KeepsWithin, kept_pages};
+
+    /// Before the first page. The pages may take this many bytes.
+    pub fn new(alloc: Global, room: usize) -> PageKeeper
+        ensures { kept_pages result ≡ Some [] }
+    {
+        PageKeeper {
+            pages: Some(Vec::new(alloc)),
+            room,
+        }
+    }
+
+    /// Keeps the next page. Where the pages take too many bytes with it, or memory runs out, none is kept.
+    pub fn keep(&mut self, page: &Page)
+        ensures { KeepsWithin (kept_pages self.old) page.now (kept_pages self.new) }
+    {
+        let Some(pages) = self.pages.take() else {
+            return;
+        };
+        let mut pages = pages;
+        let Ok(kept) = KeptPage::new(*pages.allocator(), page) else {
+            return;
+        };
+        let Some(room) = self.room.checked_sub(kept.bitmap.bytes()) else {
+            return;
+        };
+        if pages.push(kept).is_ok() {
+            self.room = room;
+            self.pages = Some(pages);
+        }
+    }
+
+    /// The job whose pages came, and which asks for this: none where they aren't kept.
+    pub fn finish<'a>(self, asks: Asks<'a>) -> Option<KeptJob<'a>>
+        ensures { IfSome result (λ job. (kept_pages self ≡ Some job.pages.items) × (job.asks ≡ asks.entry)) }
+    {
+        let pages = self.pages?;
+        Some(KeptJob { pages, asks })
+    }
+}
+
 /// Performs a job by a profile, and keeps its pages and what it asks of the printer. One page at a time is held as dots.
 pub fn keep_job<'a>(
     alloc: Global,
@@ -83,7 +135,7 @@ impl Model for Keeper {
 }
 
 impl PageSink for Keeper {
-    ghost use Rattle.pcl_same.specs.inner.Pages.{KeepsMore};
+    ghost use Rattle.pcl_same.specs.Kept.{KeepsMore};
 
     ghost takes = { KeepsMore };
 

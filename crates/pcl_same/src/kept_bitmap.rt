@@ -55,6 +55,12 @@ impl KeptBitmap {
         })
     }
 
+    /// How many bytes it takes.
+    pub fn bytes(&self) -> usize {
+        let starts = self.starts.len().saturating_mul(size_of::<usize>());
+        self.data.len().saturating_add(starts)
+    }
+
     /// The data of row `y`, the topmost row 0.
     fn row_data(&self, y: u32) -> &[u8]
         requires { y < page_height self.now.size self.now.dpi }

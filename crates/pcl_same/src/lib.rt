@@ -26,5 +26,5 @@ pub use comparison::{
 pub use fault::{Job, SameFault};
 pub use images::differing_dots;
 pub use jobs::{read_by, same, same_asked};
-pub use keeping::{KeptJob, keep_job};
+pub use keeping::{KeptJob, PageKeeper, keep_job};
 pub use laws::{one_answer, one_asked_answer};

@@ -18,12 +18,6 @@ use Rattle.pcl_same.specs.declared.comparing.Comparer.TheInside.{Inside}
 use Rattle.pcl_same.specs.Differing.{IsFirstDot}
 use Rattle.pcl_same.specs.Kept.{KeepsPage}
 
--- ---- the first job
-
--- a page more is kept
-abbrev pub KeepsMore : List KeptPage → Page → List KeptPage → Type 0
-KeepsMore old page new = (kept : KeptPage) × (new ≡ old ++ kept ∷ []) × KeepsPage page kept
-
 -- ---- a page of the second job
 
 -- how two pages of one resolution differ

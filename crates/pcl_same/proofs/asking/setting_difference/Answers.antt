@@ -22,4 +22,19 @@ returns c =
     let below_12 = then_setting one other Depletion _ c.differing-13.result below_11 c.differing-13.ensures in
     let below_13 = then_setting one other RasterQuality _ c.differing-14.result below_12 c.differing-14.ensures in
     let below_14 = then_setting one other SheetSide _ c.differing-15.result below_13 c.differing-15.ensures in
-    rw (c.or-14.ensures, c.or-13.ensures, c.or-12.ensures, c.or-11.ensures, c.or-10.ensures, c.or-9.ensures, c.or-8.ensures, c.or-7.ensures, c.or-6.ensures, c.or-5.ensures, c.or-4.ensures, c.or-3.ensures, c.or-2.ensures, c.or.ensures) (all_same one other _ below_14)
+    rw (
+      c.or-14.ensures,
+      c.or-13.ensures,
+      c.or-12.ensures,
+      c.or-11.ensures,
+      c.or-10.ensures,
+      c.or-9.ensures,
+      c.or-8.ensures,
+      c.or-7.ensures,
+      c.or-6.ensures,
+      c.or-5.ensures,
+      c.or-4.ensures,
+      c.or-3.ensures,
+      c.or-2.ensures,
+      c.or.ensures,
+    ) (all_same one other _ below_14)
