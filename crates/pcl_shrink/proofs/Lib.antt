@@ -6,5 +6,5 @@ mod Shorter
 mod Looked
 mod Asked
 mod Listed
-mod Refusing
+mod Found
 mod Everywhere

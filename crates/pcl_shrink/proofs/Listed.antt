@@ -1,6 +1,17 @@
--- The texts of a job's pages, listed.
+-- The texts of a job's pages, listed, and its pages, if they are kept.
 use Rattle.std.proofs.Common.{◌≡◌, ℕ, suc, List, [], ◌∷◌, ◌++◌, length, refl, sym, ap, subst, ◌∙◌, append_assoc, append-nil}
-use Rattle.pcl_shrink.proofs.Names.{Dpi, Sheet, Hands, AreLeastTexts, TakesText}
+use Rattle.pcl_shrink.proofs.Names.{Dpi, Sheet, Hands, AreLeastTexts, PagesRead, ReadsPage, TakesText, KeepsWithin}
+
+-- of what is taken the texts, and the pages
+pub texts_taken : (dpi : Dpi) (sheets : List Sheet) (old new : PagesRead) → Hands ReadsPage dpi sheets old new
+    → Hands TakesText dpi sheets old.texts new.texts
+texts_taken dpi [] old new h = ap (λ (p : PagesRead). p.texts) h
+texts_taken dpi (sheet ∷ sheets) old new h = (h.0, h.1.texts, h.2, h.3.text, texts_taken dpi sheets h.1 new h.4)
+
+pub pages_kept : (dpi : Dpi) (sheets : List Sheet) (old new : PagesRead) → Hands ReadsPage dpi sheets old new
+    → Hands KeepsWithin dpi sheets old.kept new.kept
+pages_kept dpi [] old new h = ap (λ (p : PagesRead). p.kept) h
+pages_kept dpi (sheet ∷ sheets) old new h = (h.0, h.1.kept, h.2, h.3.kept, pages_kept dpi sheets h.1 new h.4)
 
 pub texts_listed : (dpi : Dpi) (sheets : List Sheet) (old : List (List ℕ)) {new : List (List ℕ)} → Hands TakesText dpi sheets old new
     → (texts : List (List ℕ)) × AreLeastTexts dpi sheets texts × (new ≡ old ++ texts)

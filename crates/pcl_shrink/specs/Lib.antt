@@ -2,5 +2,4 @@ pub mod Shrinking
 pub mod Texts
 pub mod Asking
 pub mod Looking
-pub mod Outcome
 pub mod inner

@@ -1,7 +1,5 @@
 //! A job written again with its letters as soft fonts or as macros, page by page where that takes fewer bytes.
 
-ghost use Rattle.pcl_shrink.specs.Outcome.{IsOutcome};
-
 use crate::asking::{append_end, append_page_start, append_page_text};
 use crate::proposals::says_length;
 use crate::reading::ReadJob;
@@ -16,7 +14,7 @@ use std::marker::Model;
 /// A proposal of a smaller job with the same pages, which asks for what a job asks for, with these letters as soft fonts or as macros
 /// (docs/GLYPHS.md), and with these texts for the pages and stretches of pages where that takes fewer bytes. Where the dots of the pages
 /// lie at 600 dots per inch is given if that counts. None where no page has letters, or where it has as many bytes as the job. Nothing is
-/// promised of it but that the input is accepted. A refusal is the job's.
+/// promised of it. The pages are those that the texts print: these may take far less time than the job, which is performed once.
 pub fn letter_job<'b, P: ShrinkWatcher>(
     source: ReadJob<'_>,
     shifts: &'b [Shift],
@@ -24,27 +22,16 @@ pub fn letter_job<'b, P: ShrinkWatcher>(
     texts: &'b [Vec<u8>],
     lettering: &'b Lettering,
     watcher: P,
-) -> Result<Option<Vec<u8>>, JobFault>
-    ensures { IsOutcome source.entry.profile source.entry.dpi source.entry.job.now result }
-{
-    let writer = LetterWriter::new(source, shifts, asks, texts, lettering, watcher);
-    let writer = after_pages(source, writer)?;
-    Ok(writer.finish()?)
-}
-
-/// A sink after the pages of a job.
-fn after_pages<S: PageSink + Drop>(source: ReadJob<'_>, sink: S) -> Result<S, JobFault>
-    ensures { IsOutcome source.entry.profile source.entry.dpi source.entry.job.now result }
-{
-    let mut sink = sink;
-    perform_by(
-        source.alloc,
-        source.job,
-        source.profile,
-        source.dpi,
-        &mut sink,
-    )?;
-    Ok(sink)
+) -> Result<Option<Vec<u8>>, AllocError> {
+    let mut writer = LetterWriter::new(source, shifts, asks, texts, lettering, watcher);
+    for text in texts {
+        match perform_by(source.alloc, text, source.profile, source.dpi, &mut writer) {
+            Ok(()) => {}
+            Err(JobFault::Refused(_)) => return Ok(None),
+            Err(JobFault::Memory) => return Err(AllocError),
+        }
+    }
+    writer.finish()
 }
 
 /// Writes the pages that come. A universal exit may delete fonts and macros: so the pages up to the next one are a stretch, which is

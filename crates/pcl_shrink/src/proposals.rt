@@ -1,10 +1,10 @@
 //! What a job may be written as.
 
-ghost use Rattle.pcl_shrink.specs.Outcome.{RefusesWith};
 ghost use Rattle.pcl_shrink.specs.inner.Proposals.{HasProposed};
 
 use crate::Candidate;
 use crate::candidate::Proposal;
+use crate::keeping::room_of;
 use crate::letter_jobs::letter_job;
 use crate::raster_jobs::{asked_len, plain_job};
 use crate::rasters::{Text, shortest_texts};
@@ -15,11 +15,13 @@ use crate::watching::ShrinkWatcher;
 use pcl_base::JobFault;
 use pcl_lettering::Lettering;
 use pcl_page::{Asks, Doubt};
+use pcl_same::KeptJob;
 use pcl_shapes::Collection;
+use std::alloc::AllocError;
 
 /// What is proposed for a job, and what it is measured by.
 #[derive(Drop)]
-pub struct Proposed {
+pub struct Proposed<'a> {
     /// The shortest job that was made, of which nothing is promised: none where none is shorter than the job.
     pub proposal: Option<Proposal>,
     /// How many bytes the least page texts of the job take, with what it asks for around them.
@@ -28,57 +30,63 @@ pub struct Proposed {
     pub pages: usize,
     /// What printers may read otherwise in it, if there is anything.
     pub doubt: Option<Doubt>,
+    /// The job, kept, if its pages take few bytes.
+    pub kept: Option<KeptJob<'a>>,
 }
 
 /// Proposes a job with the pages of a job, which asks for what that asks for: its pages as their shortest rasters, or, where that is
 /// shorter, with letters. Where the dots of its pages lie at 600 dots per inch is given if that counts. A refusal is the job's.
-pub fn propose<P: ShrinkWatcher>(
-    source: ReadJob<'_>,
+pub fn propose<'a, P: ShrinkWatcher>(
+    source: ReadJob<'a>,
     shifts: &[Shift],
     watcher: P,
-) -> Result<Proposed, JobFault>
+) -> Result<Proposed<'a>, JobFault>
     ensures { HasProposed source.entry.profile source.entry.dpi source.entry.job.now result }
 {
-    let alloc = source.alloc;
-    let (texts, found) = page_texts(source, shifts, watcher)?;
+    let room = room_of(source.dpi);
+    let (texts, found) = page_texts(source, shifts, room, watcher)?;
+    let Found {
+        shapes,
+        keeper,
+        asks,
+        doubt,
+    } = found;
     let pages = texts.len();
-    let limit = asked_len(alloc, &found.asks, &texts)?;
-    let doubt = found.doubt;
-    let proposal = proposal_of(source, shifts, texts, found, watcher)?;
+    let limit = asked_len(source.alloc, &asks, &texts)?;
+    let proposal = proposal_of(source, shifts, texts, &asks, shapes, watcher)?;
     Ok(Proposed {
         proposal,
         limit,
         pages,
         doubt,
+        kept: keeper.finish(asks),
     })
 }
 
-/// The shorter of the texts of the pages, with what is asked around them, and of a job with letters found by this: none where neither is
+/// The shorter of the texts of the pages, with this asked around them, and of a job with letters among these shapes: none where neither is
 /// shorter than the job, nor where the job counts on what stays in the printer, so that only the job itself asks for the same, nor where
 /// a page has dots that no page of 300 dots per inch has at 600.
 fn proposal_of<P: ShrinkWatcher>(
     source: ReadJob<'_>,
     shifts: &[Shift],
     texts: Vec<Text>,
-    found: Found<'_>,
+    asks: &Asks<'_>,
+    shapes: Collection,
     watcher: P,
-) -> Result<Option<Proposal>, JobFault>
-    ensures { RefusesWith source.entry.profile source.entry.dpi source.entry.job.now result }
-{
+) -> Result<Option<Proposal>, AllocError> {
     let alloc = source.alloc;
     let limit = source.job.len();
-    let Found { shapes, asks, .. } = found;
     if asks.lasts || shifts.contains(&Shift::Other) {
         return Ok(None);
     }
     let by = raster_kind(&texts);
     let plain = shortest_texts(alloc, texts, shifts)?;
-    match propose_letters(source, shifts, &asks, &plain, shapes, watcher)? {
+    match propose_letters(source, shifts, asks, &plain, shapes, watcher)? {
         Some(job) => Ok(Some(Proposal {
             job,
             by: Candidate::Glyphs,
         })),
-        None => Ok(proposal_by(by, plain_job(alloc, &asks, plain, limit)?)),
+        None => Ok(proposal_by(by, plain_job(alloc, asks, plain, limit)?)),
     }
 }
 
@@ -104,9 +112,7 @@ fn propose_letters<P: ShrinkWatcher>(
     plain: &[Vec<u8>],
     shapes: Collection,
     watcher: P,
-) -> Result<Option<Vec<u8>>, JobFault>
-    ensures { RefusesWith source.entry.profile source.entry.dpi source.entry.job.now result }
-{
+) -> Result<Option<Vec<u8>>, AllocError> {
     if shifts.contains(&Shift::HalfLower) && says_length(asks) {
         return Ok(None);
     }
@@ -129,9 +135,7 @@ fn lettered<P: ShrinkWatcher>(
     plain: &[Vec<u8>],
     lettering: &Lettering,
     watcher: P,
-) -> Result<Option<Vec<u8>>, JobFault>
-    ensures { RefusesWith source.entry.profile source.entry.dpi source.entry.job.now result }
-{
+) -> Result<Option<Vec<u8>>, AllocError> {
     if lettering.is_empty() {
         Ok(None)
     } else {

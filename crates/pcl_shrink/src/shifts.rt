@@ -1,12 +1,14 @@
 //! Where the dots of pages of 300 dots per inch lie at 600.
 
-ghost use Rattle.pcl_shrink.specs.Outcome.{IsOutcome};
+ghost use Rattle.pcl_shrink.specs.inner.Kept.{IsReadFinely};
 
+use crate::keeping::room_of;
 use crate::watching::{Pass, ShrinkWatcher};
 use pcl_base::{Dpi, JobFault, Profile};
 use pcl_bitmap::{Bitmap, trimmed_len};
 use pcl_page::{Doubt, Page, PageSink, perform_doubted};
 use pcl_patterns::{FontKind, Form};
+use pcl_same::{KeptJob, PageKeeper};
 use pcl_shapes::are_equal;
 use std::alloc::{AllocError, Global};
 use std::marker::Model;
@@ -24,41 +26,47 @@ pub enum Shift {
 
 /// What is known of a job at 600 dots per inch.
 #[derive(Drop)]
-pub struct Fine {
+pub struct Fine<'a> {
     /// The shift of each page, if these were looked for.
     pub shifts: Vec<Shift>,
     /// What printers may read otherwise, if there is anything.
     pub doubt: Option<Doubt>,
+    /// The job at this resolution, if its pages take few bytes.
+    pub kept: Option<KeptJob<'a>>,
 }
 
-impl Fine {
+impl<'a> Fine<'a> {
     /// Nothing is known.
-    pub fn unknown(alloc: Global) -> Fine {
+    pub fn unknown(alloc: Global) -> Fine<'a> {
         Fine {
             shifts: Vec::new(alloc),
             doubt: None,
+            kept: None,
         }
     }
 }
 
 /// What is known of a job that a profile accepts at 600 dots per inch. A refusal is the job's.
-pub fn look_finely<P: ShrinkWatcher>(
+pub fn look_finely<'a, P: ShrinkWatcher>(
     alloc: Global,
-    job: &[u8],
+    job: &'a [u8],
     profile: Profile,
     watcher: P,
-) -> Result<Fine, JobFault>
-    ensures { IsOutcome profile Dpi.Dpi600 job.now result }
+) -> Result<Fine<'a>, JobFault>
+    ensures { IsReadFinely profile job.now result }
 {
     let mut finder = ShiftFinder {
         shifts: Vec::new(alloc),
+        keeper: PageKeeper::new(alloc, room_of(Dpi::Dpi600)),
         watcher,
     };
     let mut doubt = None;
-    perform_doubted(alloc, job, profile, Dpi::Dpi600, &mut doubt, &mut finder)?;
+    let asks = perform_doubted(alloc, job, profile, Dpi::Dpi600, &mut doubt, &mut finder)?;
+    let ShiftFinder { shifts, keeper, .. } = finder;
     Ok(Fine {
-        shifts: finder.shifts,
+        shifts,
         doubt,
+        kept: keeper.finish(asks),
     })
 }
 
@@ -138,25 +146,32 @@ fn is_pair(rows: &[u8], row_bytes: usize) -> bool {
     lower.is_empty() || are_equal(upper, lower)
 }
 
-/// Finds the shift of each page that comes.
+/// Finds the shift of each page that comes, and keeps it.
 #[derive(Drop)]
 struct ShiftFinder<P> {
     shifts: Vec<Shift>,
+    keeper: PageKeeper,
     watcher: P,
 }
 
 impl<P> Model for ShiftFinder<P> {
-    // Nothing is said of what was found.
-    ghost Value = { Unit {0} };
+    ghost use Rattle.std.specs.Prelude.{List, Option};
+    ghost use Rattle.pcl_same.specs.Kept.{kept_pages};
+    ghost use Rattle.pcl_same.specs.declared.keeping.KeptPage.{KeptPage};
 
-    ghost view = { λ _. tt };
+    ghost Value = { Option (List KeptPage) };
+
+    ghost view = { λ a. kept_pages a.keeper };
 }
 
 impl<P: ShrinkWatcher> PageSink for ShiftFinder<P> {
-    ghost takes = { λ old page new. Unit {0} };
+    ghost use Rattle.pcl_same.specs.Kept.{KeepsWithin};
+
+    ghost takes = { KeepsWithin };
 
     fn page(&mut self, page: &Page) -> Result<(), AllocError> {
         self.shifts.push(shift_of(&page.bitmap))?;
+        self.keeper.keep(page);
         self.watcher.pages_passed(Pass::Paint, self.shifts.len());
         Ok(())
     }

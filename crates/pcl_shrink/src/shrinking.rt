@@ -7,11 +7,11 @@ ghost use Rattle.pcl_page.specs.Accepting.{IsAccepted};
 ghost use Rattle.pcl_page.specs.declared.doubts.Readers.TheVariants as reader;
 ghost use Rattle.pcl_shrink.specs.Shrinking.{IsShrunk, IsShrunkAt, IsShrunkEverywhere, IsShrunkEverywhereBy};
 ghost use Rattle.pcl_shrink.specs.inner.Best.{best_bytes, IsBest, IsShorter};
-ghost use Rattle.pcl_shrink.specs.inner.Kept.{AreKept, IsAcceptedAlso};
+ghost use Rattle.pcl_shrink.specs.inner.Kept.{AreKept, AreKeptSoFar, IsAcceptedAlso, IsKeptAlsoIfAny, IsKeptIfAny};
 ghost use Rattle.pcl_shrink.specs.inner.Proposals.{IsBestWithin, IsLimit, IsMeasured, IsWithin};
 
 use crate::candidate::Proposal;
-use crate::keeping::{KeptJobs, Reading, keep_jobs};
+use crate::keeping::{KeptJobs, KeptSoFar, Reading, keep_jobs};
 use crate::looking::is_same;
 use crate::proposals::{Proposed, propose};
 use crate::raster_jobs::asked_job;
@@ -23,6 +23,7 @@ use crate::{Candidate, Shrunk};
 use pcl_base::{Dpi, JobFault, Profile};
 use pcl_meaning::written_jobs_say_copies_and_sizes;
 use pcl_page::{Doubt, Readers, one_meaning};
+use pcl_same::KeptJob;
 use std::alloc::{AllocError, Global};
 
 /// The smallest job that is found with the pages of a job, dot for dot, and which asks the printer for what that asks for. It is
@@ -93,7 +94,7 @@ pub fn shrink_by<P: ShrinkWatcher>(
         first: dpi,
         also: None,
     };
-    shrink_at(alloc, job, at, &Fine::unknown(alloc), readers, watcher)
+    shrink_at(alloc, job, at, Fine::unknown(alloc), readers, watcher)
 }
 
 /// The same at each of 300 and 600 dots per inch at which a job is accepted: what is written has its pages at both, where both accept it.
@@ -155,7 +156,7 @@ pub fn shrink_everywhere_by<P: ShrinkWatcher>(
 {
     one_meaning();
     match look_finely(alloc, job, profile, watcher) {
-        Ok(fine) => shrink_fine(alloc, job, profile, &fine, readers, watcher),
+        Ok(fine) => shrink_fine(alloc, job, profile, fine, readers, watcher),
         Err(JobFault::Refused(_)) => {
             shrink_by(alloc, job, profile, Dpi::Dpi300, readers, watcher)
         }
@@ -168,11 +169,12 @@ fn shrink_fine<P: ShrinkWatcher>(
     alloc: Global,
     job: &[u8],
     profile: Profile,
-    fine: &Fine,
+    fine: Fine<'_>,
     readers: Readers,
     watcher: P,
 ) -> Result<Shrunk, JobFault>
-    ensures { IsAccepted profile Dpi600 job.now → IsShrunkEverywhereBy readers profile job.now result }
+    ensures { IsAccepted profile Dpi600 job.now → IsKeptIfAny profile Dpi600 job.now fine.entry.kept
+        → IsShrunkEverywhereBy readers profile job.now result }
 {
     one_meaning();
     let at = Reading {
@@ -194,11 +196,12 @@ fn shrink_at<P: ShrinkWatcher>(
     alloc: Global,
     job: &[u8],
     at: Reading,
-    fine: &Fine,
+    fine: Fine<'_>,
     readers: Readers,
     watcher: P,
 ) -> Result<Shrunk, JobFault>
-    ensures { IsAcceptedAlso at.profile at.also job.now → IsShrunkAt readers at.profile at.first at.also job.now result }
+    ensures { IsAcceptedAlso at.profile at.also job.now → IsKeptAlsoIfAny at.profile at.also job.now fine.entry.kept
+        → IsShrunkAt readers at.profile at.first at.also job.now result }
 {
     let source = ReadJob {
         alloc,
@@ -209,7 +212,7 @@ fn shrink_at<P: ShrinkWatcher>(
     let proposed = propose(source, &fine.shifts, watcher)?;
     match heeded(readers, proposed.doubt.or(fine.doubt)) {
         Some(doubt) => Ok(as_it_came(alloc, job, &proposed, doubt)?),
-        None => shrink_to(alloc, job, at, proposed, watcher),
+        None => shrink_to(alloc, job, at, proposed, fine.kept, watcher),
     }
 }
 
@@ -227,7 +230,7 @@ fn heeded(readers: Readers, doubt: Option<Doubt>) -> Option<Doubt>
 fn as_it_came(
     alloc: Global,
     job: &[u8],
-    proposed: &Proposed,
+    proposed: &Proposed<'_>,
     doubt: Doubt,
 ) -> Result<Shrunk, AllocError>
     ensures same { IfOk result (λ shrunk. shrunk.job.items ≡ job.now) }
@@ -242,15 +245,18 @@ fn as_it_came(
     })
 }
 
-/// The best of a job and of what is proposed for it, at these resolutions.
+/// The best of a job and of what is proposed for it, at these resolutions. It may be kept at the other one already.
 fn shrink_to<P: ShrinkWatcher>(
     alloc: Global,
     job: &[u8],
     at: Reading,
-    proposed: Proposed,
+    proposed: Proposed<'_>,
+    also: Option<KeptJob<'_>>,
     watcher: P,
 ) -> Result<Shrunk, JobFault>
-    ensures shrunk { IsAcceptedAlso at.profile at.also job.now → IsMeasured at.profile at.first job.now proposed.limit proposed.pages
+    ensures shrunk { IsAcceptedAlso at.profile at.also job.now
+        → IsMeasured at.profile at.first job.now proposed.entry.limit proposed.entry.pages
+        → IsKeptIfAny at.profile at.first job.now proposed.entry.kept → IsKeptAlsoIfAny at.profile at.also job.now also.entry
         → IsShrunkAt reader.Profile at.profile at.first at.also job.now result }
     ensures sure { IfOk result (λ shrunk. shrunk.doubt ≡ None) }
 {
@@ -258,32 +264,36 @@ fn shrink_to<P: ShrinkWatcher>(
         proposal,
         limit,
         pages,
+        kept,
         ..
     } = proposed;
-    let best = best_of(alloc, job, at, proposal, limit, watcher)?;
+    let kept = KeptSoFar { first: kept, also };
+    let best = best_of(alloc, job, at, proposal, limit, kept, watcher)?;
     one_meaning();
     Ok(best_or_input(alloc, job, best, pages)?)
 }
 
 /// The best of the job, of what is proposed for it, and of the least page texts with what the job asks for around them, which have this
-/// many bytes at least: none where it is the job. Pages are kept only where something is compared, once what proposes has gone.
+/// many bytes at least: none where it is the job. The job is kept already where its pages take few bytes; else it is kept only where
+/// something is compared, once what proposes has gone.
 fn best_of<P: ShrinkWatcher>(
     alloc: Global,
     job: &[u8],
     at: Reading,
     proposal: Option<Proposal>,
     limit: usize,
+    kept: KeptSoFar<'_>,
     watcher: P,
 ) -> Result<Option<Proposal>, JobFault>
     ensures { IsAcceptedAlso at.profile at.also job.now → IsLimit at.profile at.first job.now limit
-        → IsBestWithin at.profile at.first at.also job.now result }
+        → AreKeptSoFar at.profile at.first at.also job.now kept.entry → IsBestWithin at.profile at.first at.also job.now result }
 {
     one_meaning();
     written_jobs_say_copies_and_sizes();
     if proposal.is_none() && job.len() <= limit {
         return Ok(None);
     }
-    let kept = keep_jobs(alloc, job, at)?;
+    let kept = keep_jobs(alloc, job, at, kept)?;
     watcher.pages_passed(Pass::Compare, kept.first.asks().pages.len());
     let best = looked_at(alloc, &kept, at, job, proposal)?;
     within(alloc, &kept, at, job, best, limit)

@@ -8,26 +8,30 @@ use crate::shifts::{Shift, form_of, shift_at};
 use crate::watching::{NoWatcher, Pass, ShrinkWatcher};
 use pcl_base::{Dpi, JobFault, Profile};
 use pcl_page::{Asks, Doubt, Page, PageSink, perform_doubted};
+use pcl_same::PageKeeper;
 use pcl_shapes::Collection;
 use std::alloc::{AllocError, Global};
 use std::marker::Model;
 
-/// What the letters of a job are found by.
+/// What is found in a job.
 #[derive(Drop)]
 pub struct Found<'a> {
-    /// The shapes of its pages. Nothing is promised of them.
+    /// The shapes of its pages, by which its letters are found. Nothing is promised of them.
     pub shapes: Collection,
+    /// Its pages, if they take few bytes.
+    pub keeper: PageKeeper,
     /// What it asks of the printer.
     pub asks: Asks<'a>,
     /// What printers may read otherwise, if there is anything.
     pub doubt: Option<Doubt>,
 }
 
-/// The texts of the pages of a job as rasters, and what letters are found by of those pages whose dots are whole at 600 dots per inch too,
-/// or half a dot lower there. A refusal is the job's.
+/// The texts of the pages of a job as rasters, and what is found in it: the shapes of those pages whose dots are whole at 600 dots per
+/// inch too, or half a dot lower there, and its pages, if these take no more than this many bytes. A refusal is the job's.
 pub fn page_texts<'a, P: ShrinkWatcher>(
     source: ReadJob<'a>,
     shifts: &[Shift],
+    room: usize,
     watcher: P,
 ) -> Result<(Vec<Text>, Found<'a>), JobFault>
     ensures { HasTexts source.entry.profile source.entry.dpi source.entry.job.now result }
@@ -41,6 +45,7 @@ pub fn page_texts<'a, P: ShrinkWatcher>(
     let mut writer = TextWriter {
         texts: Vec::new(alloc),
         shapes: Collection::new(alloc, form_of(profile, dpi, shifts)),
+        keeper: PageKeeper::new(alloc, room),
         shifts,
         watcher,
     };
@@ -48,6 +53,7 @@ pub fn page_texts<'a, P: ShrinkWatcher>(
     let asks = perform_doubted(alloc, job, profile, dpi, &mut doubt, &mut writer)?;
     let found = Found {
         shapes: writer.shapes,
+        keeper: writer.keeper,
         asks,
         doubt,
     };
@@ -69,7 +75,7 @@ pub fn texts_alone(
         profile,
         dpi,
     };
-    match page_texts(source, &[], NoWatcher) {
+    match page_texts(source, &[], 0, NoWatcher) {
         Ok((texts, _)) => Ok(texts),
         Err(fault) => Err(fault),
     }
@@ -92,35 +98,37 @@ fn collect(
     }
 }
 
-/// Writes the pages that come, and collects their shapes.
+/// Writes the pages that come, collects their shapes, and keeps them.
 #[derive(Drop)]
 struct TextWriter<'b, P> {
     texts: Vec<Text>,
     shapes: Collection,
+    keeper: PageKeeper,
     /// Where the dots of the pages lie at 600 dots per inch, if that counts.
     shifts: &'b [Shift],
     watcher: P,
 }
 
 impl<'b, P> Model for TextWriter<'b, P> {
-    ghost use Rattle.std.specs.Prelude.{ℕ, List};
-    ghost use Rattle.pcl_shrink.specs.Texts.{least_of};
+    ghost use Rattle.pcl_same.specs.Kept.{kept_pages};
+    ghost use Rattle.pcl_shrink.specs.Texts.{PagesRead, least_of};
 
-    ghost Value = { List (List ℕ) };
+    ghost Value = { PagesRead };
 
-    ghost view = { λ a. least_of a.texts.items };
+    ghost view = { λ a. record { texts = least_of a.texts.items; kept = kept_pages a.keeper } };
 }
 
 impl<'b, P: ShrinkWatcher> PageSink for TextWriter<'b, P> {
-    ghost use Rattle.pcl_shrink.specs.Texts.{TakesText};
+    ghost use Rattle.pcl_shrink.specs.Texts.{ReadsPage};
 
-    ghost takes = { λ old page new. TakesText old page new };
+    ghost takes = { ReadsPage };
 
     fn page(&mut self, page: &Page) -> Result<(), AllocError> {
         let text = page_text(*self.texts.allocator(), page)?;
         let shift = shift_at(self.shifts, self.texts.len());
         collect(&mut self.shapes, page, shift, text.shortest_len())?;
         self.texts.push(text)?;
+        self.keeper.keep(page);
         self.watcher.pages_passed(Pass::Read, self.texts.len());
         Ok(())
     }

@@ -12,6 +12,7 @@ use Rattle.pcl_shrink.specs.Asking.{asked_job}
 use Rattle.pcl_shrink.specs.Texts.{AreLeastTexts}
 use Rattle.pcl_shrink.specs.Shrinking.{IsSmallerJobAt}
 use Rattle.pcl_shrink.specs.inner.Best.{IsBest, best_bytes}
+use Rattle.pcl_shrink.specs.inner.Kept.{IsKeptIfAny}
 use Rattle.pcl_shrink.specs.declared.candidate.Proposal.{Proposal}
 use Rattle.pcl_shrink.specs.declared.proposals.Proposed.{Proposed}
 
@@ -30,7 +31,8 @@ pub record IsMeasured (profile : Profile) (dpi : Dpi) (job : List ℕ) (limit co
   pub counted : count ≡ length limit_is.pages
 
 abbrev pub HasProposed : Profile → Dpi → List ℕ → Result Proposed JobFault → Type 0
-HasProposed profile dpi job (Ok proposed) = IsMeasured profile dpi job proposed.limit proposed.pages
+HasProposed profile dpi job (Ok proposed) =
+    IsMeasured profile dpi job proposed.limit proposed.pages × IsKeptIfAny profile dpi job proposed.kept
 HasProposed profile dpi job (Err (Refused refusal)) = IsRefusalBy profile dpi job refusal
 HasProposed profile dpi job (Err Memory) = Unit {0}
 

@@ -3,9 +3,9 @@ use Rattle.pcl_shrink.proofs.Names.{IsSmallerJobAt}
 use Rattle.pcl_shrink.proofs.shrinking.shrink_to.Goals as goal
 
 pub returns-clause-shrunk : goal.returns-clause-shrunk
-returns-clause-shrunk g c = λ accepted measured.
+returns-clause-shrunk g c = λ accepted measured kept also.
     let job = c.args.job.now in
-    let smaller = c.in_ok-best.ensures accepted measured.limit_is in
+    let smaller = c.in_ok-best.ensures accepted measured.limit_is (kept, also) in
     let s = subst (IsSmallerJobAt c.args.at.profile c.args.at.first c.args.at.also job) (sym c.in_ok-best_or_input.ensures.job) smaller in
     record {
       smaller = s;

@@ -1,12 +1,18 @@
-use Rattle.pcl_shrink.proofs.Names.{ap, sym, subst, accepted_pages, has_pages, AreLeastTexts, least_of}
-use Rattle.pcl_shrink.proofs.Listed.{texts_from_none}
+use Rattle.pcl_shrink.proofs.Names.{ap, sym, subst, accepted_pages, has_pages, all_kept_within, AreLeastTexts, KeepAllIfAny, PagesRead, least_of}
+use Rattle.pcl_shrink.proofs.Listed.{pages_kept, texts_from_none, texts_taken}
 use Rattle.pcl_shrink.proofs.texts.page_texts.Goals as goal
 
 pub returns : goal.returns
 returns g c =
     let h = c.in_ok-asks.ensures.0 in
-    let listed = texts_from_none c.args.source.dpi (accepted_pages h) c.perform_doubted.new.sink h.handed.1
-    (ap least_of c.new.ensures.items) in (
-      (accepted_pages h, has_pages h, subst (AreLeastTexts c.args.source.dpi (accepted_pages h)) (sym c.writer.view_is) listed),
-      c.in_ok-asks.ensures.1,
+    let dpi = c.args.source.dpi in
+    let sheets = accepted_pages h in
+    let new = c.perform_doubted.new.sink in
+    let listed = texts_from_none dpi sheets new.texts (texts_taken dpi sheets _ new h.handed.1) (ap least_of c.new.ensures.items) in
+    let kept = all_kept_within dpi sheets new.kept c.new-3.ensures (pages_kept dpi sheets _ new h.handed.1) in (
+      (sheets, has_pages h, subst (AreLeastTexts dpi sheets) (sym (ap (λ (p : PagesRead). p.texts) c.writer.view_is)) listed),
+      (
+        c.in_ok-asks.ensures.1,
+        (sheets, has_pages h, subst (KeepAllIfAny dpi sheets) (sym (ap (λ (p : PagesRead). p.kept) c.writer.view_is)) kept),
+      ),
     )
