@@ -56,10 +56,7 @@ fn white_bytes(row: &[u8], most: usize) -> usize {
 }
 
 /// A page whose upper left corner is this one of another, of which it has the dots from there on.
-pub fn page_from(alloc: Global, page: Page, corner: Corner) -> Result<Page, AllocError> {
-    if corner.is_of_page() {
-        return Ok(page);
-    }
+pub fn page_from(alloc: Global, page: &Page, corner: Corner) -> Result<Page, AllocError> {
     let mut bitmap = Bitmap::new(alloc, page.size, page.dpi)?;
     paint_from(&page.bitmap, corner, &mut bitmap);
     Ok(Page {

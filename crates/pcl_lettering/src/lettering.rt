@@ -100,13 +100,17 @@ impl Lettering {
     }
 }
 
-/// The letters of pages that were collected: none, at once, where these have no shapes.
+/// The letters of pages that were collected: none, at once, where these have no shapes. The shapes, by which they are found, are given up.
 fn letters_of(alloc: Global, collection: &mut Collection) -> Result<Letters, AllocError> {
     if collection.placed.is_empty() && collection.tiles.is_empty() {
         return Ok(Letters::new(alloc));
     }
     join_shapes(alloc, collection)?;
-    find_letters(alloc, collection)
+    let letters = find_letters(alloc, collection)?;
+    collection.placed = Vec::new(alloc);
+    collection.tiles = Vec::new(alloc);
+    collection.rows = Vec::new(alloc);
+    Ok(letters)
 }
 
 /// Writes the pages of a job with its letters and its rules, one after the other.

@@ -7,18 +7,15 @@ use crate::corners::{bits_of, corner_of, page_from};
 use crate::rule_writing::{RulePen, append_rules, sparse_rules};
 use crate::shortening::shortened;
 use crate::sparing::are_surely_shorter;
-use pcl_bitmap::{Bitmap, Page, trimmed_len};
+use pcl_bitmap::{Bitmap, Ink, Page, trimmed_len};
 use pcl_patterns::{Dot, Letter, Letters, Patterns, StampInk, stamp};
 use pcl_plan::plan;
-use pcl_shapes::{Rule, erase_rules};
+use pcl_shapes::{Rule, ink_rules};
 use pcl_writer::write_page;
 use std::alloc::{AllocError, Global};
 
 /// This many rows of a page are without their letters at a time.
 const BAND_ROWS: u32 = 512;
-
-/// No letter has more rows than these, nor stands further above or below its line.
-const MOST_ROWS: u32 = 2_048;
 
 /// The form feed that ends a page.
 pub const FORM_FEED: u8 = 12;
@@ -41,17 +38,6 @@ impl<'a> Taken<'a> {
     /// Whether all of the page is sent as a raster.
     pub fn is_empty(self) -> bool {
         self.letters.is_empty() && self.rules.is_empty()
-    }
-
-    /// The same with other rules.
-    fn with_rules(self, rules: &'a [Rule]) -> Taken<'a> {
-        Taken {
-            patterns: self.patterns,
-            found: self.found,
-            letters: self.letters,
-            rules,
-            free_id: self.free_id,
-        }
     }
 }
 
@@ -100,28 +86,32 @@ pub fn shortest_rest(
     page: &Page,
     pen: RulePen,
 ) -> Result<Rest, AllocError> {
-    let mut shortest = rest_with(alloc, taken, taken.rules, page, pen)?;
+    let mut others = page_without(alloc, taken, page)?;
+    ink_rules(taken.rules, Ink::White, &mut others.bitmap);
+    let mut shortest = rest_with(alloc, &others, taken.rules, taken.free_id, pen)?;
     let sparse = sparse_rules(alloc, taken.rules)?;
     if !sparse.is_empty() && sparse.len() < taken.rules.len() {
-        shortest = shortest.or_shorter(rest_with(alloc, taken, &sparse, page, pen)?);
+        ink_rules(taken.rules, Ink::Black, &mut others.bitmap);
+        ink_rules(&sparse, Ink::White, &mut others.bitmap);
+        shortest = shortest.or_shorter(rest_with(alloc, &others, &sparse, taken.free_id, pen)?);
     }
     if !shortest.is_sure {
-        shortest = shortest.or_shorter(rest_with(alloc, taken, &[], page, pen)?);
+        ink_rules(taken.rules, Ink::Black, &mut others.bitmap);
+        shortest = shortest.or_shorter(rest_with(alloc, &others, &[], taken.free_id, pen)?);
     }
     Ok(shortest)
 }
 
-/// The rest of a page with these rules as rectangles.
+/// The rest of a page with these rules as rectangles, of which this is the page without them and its letters.
 fn rest_with(
     alloc: Global,
-    taken: Taken<'_>,
+    others: &Page,
     rules: &[Rule],
-    page: &Page,
+    free_id: u32,
     pen: RulePen,
 ) -> Result<Rest, AllocError> {
-    let others = page_without(alloc, taken.with_rules(rules), page)?;
     let mut rectangles = Vec::new(alloc);
-    let pen = append_rules(alloc, rules, pen, taken.free_id, &mut rectangles)?;
+    let pen = append_rules(alloc, rules, pen, free_id, &mut rectangles)?;
     let is_sure = rectangles.len() <= white_rows(&others.bitmap, rules)
         || are_surely_shorter(alloc, &others.bitmap, rules, rectangles.len())?;
     let mut text = raster_text(alloc, others)?;
@@ -144,21 +134,29 @@ fn white_rows(bitmap: &Bitmap, rules: &[Rule]) -> usize {
 }
 
 /// The page text of a page as it is sent beside letters and rectangles, without its form feed.
-fn raster_text(alloc: Global, page: Page) -> Result<Vec<u8>, AllocError> {
+fn raster_text(alloc: Global, page: &Page) -> Result<Vec<u8>, AllocError> {
     let corner = corner_of(&page.bitmap);
-    let page = page_from(alloc, page, corner)?;
-    let least = plan(alloc, &page)?;
-    let mut text = Vec::new(alloc);
-    write_page(&page, &least, &mut text)?;
-    text.pop();
-    shortened(alloc, &text, &page, corner)
+    let text = if corner.is_of_page() {
+        least_text(alloc, page)?
+    } else {
+        least_text(alloc, &page_from(alloc, page, corner)?)?
+    };
+    shortened(alloc, &text, page, corner)
 }
 
-/// A page without the dots of some letters and rules.
+/// The least page text of a page, without its form feed.
+fn least_text(alloc: Global, page: &Page) -> Result<Vec<u8>, AllocError> {
+    let least = plan(alloc, page)?;
+    let mut text = Vec::new(alloc);
+    write_page(page, &least, &mut text)?;
+    text.pop();
+    Ok(text)
+}
+
+/// A page without the dots of its letters.
 fn page_without(alloc: Global, taken: Taken<'_>, page: &Page) -> Result<Page, AllocError> {
     let mut bitmap = Bitmap::new(alloc, page.size, page.dpi)?;
     paint_without(alloc, taken, &page.bitmap, &mut bitmap)?;
-    erase_rules(taken.rules, &mut bitmap);
     Ok(Page {
         size: page.size,
         copies: page.copies,
@@ -180,22 +178,38 @@ fn paint_without(
 {
     let row_bytes = bitmap.size().row_bytes(bitmap.dpi());
     let band_bytes = row_bytes.saturating_mul(BAND_ROWS as usize).max(1);
+    let reach = reach_of(taken);
     let mut bytes = Vec::new(alloc);
     let mut top: u32 = 0;
     for band in whole.bytes().chunks(band_bytes) {
         bytes.clear();
         bytes.extend_from_slice(band)?;
-        whiten(&mut bytes, row_bytes, top, taken);
+        whiten(&mut bytes, row_bytes, top, taken, reach);
         paint(&bytes, row_bytes, top, bitmap);
         top = top.saturating_add(BAND_ROWS);
     }
     Ok(())
 }
 
-/// Makes the dots of some letters white in a band of a page, rows of this many bytes from row `top` on.
-fn whiten(bytes: &mut [u8], row_bytes: usize, top: u32, taken: Taken<'_>) {
+/// How many rows the letters of a page reach above or below the lines that they stand on, at most.
+fn reach_of(taken: Taken<'_>) -> u32 {
+    let mut reach: u32 = 0;
+    for letter in taken.letters {
+        if let Some(pattern) = taken.found.pattern_of(taken.patterns, letter.glyph) {
+            let first = taken.found.first_row_of(letter);
+            let end = first.saturating_add(pattern.height);
+            let far = letter.baseline.abs_diff(first);
+            reach = reach.max(far).max(letter.baseline.abs_diff(end));
+        }
+    }
+    reach
+}
+
+/// Makes the dots of some letters, which reach so many rows from their lines, white in a band of a page, rows of this many bytes from row
+/// `top` on.
+fn whiten(bytes: &mut [u8], row_bytes: usize, top: u32, taken: Taken<'_>, reach: u32) {
     let end = top.saturating_add(BAND_ROWS);
-    for letter in letters_near(taken.letters, top, end) {
+    for letter in letters_near(taken.letters, top, end, reach) {
         let first = taken.found.first_row_of(letter);
         if first < end {
             if let Some(pattern) = taken.found.pattern_of(taken.patterns, letter.glyph) {
@@ -210,11 +224,11 @@ fn whiten(bytes: &mut [u8], row_bytes: usize, top: u32, taken: Taken<'_>) {
     }
 }
 
-/// Those of the letters of a page, from the topmost line down, that stand near these rows: of others no dot is in them.
-fn letters_near(letters: &[Letter], top: u32, end: u32) -> &[Letter] {
-    let start = letters.partition_point(|letter| letter.baseline.saturating_add(MOST_ROWS) < top);
+/// Those of the letters of a page, from the topmost line down, that stand so near these rows: of others no dot is in them.
+fn letters_near(letters: &[Letter], top: u32, end: u32, reach: u32) -> &[Letter] {
+    let start = letters.partition_point(|letter| letter.baseline.saturating_add(reach) < top);
     let letters = letters.get(start..).unwrap_or(&[]);
-    let count = letters.partition_point(|letter| letter.baseline <= end.saturating_add(MOST_ROWS));
+    let count = letters.partition_point(|letter| letter.baseline <= end.saturating_add(reach));
     letters.get(..count).unwrap_or(&[])
 }
 

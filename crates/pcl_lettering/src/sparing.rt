@@ -1,7 +1,7 @@
 //! What the raster of a page saves where its rules are sent as rectangles.
 
-use pcl_bitmap::Bitmap;
-use pcl_shapes::{RowRules, Rule, are_equal, blacken, row_bytes};
+use pcl_bitmap::{Bitmap, Ink};
+use pcl_shapes::{RowRules, Rule, are_equal, ink_dots, row_bytes};
 use std::alloc::{AllocError, Global};
 use std::mem::swap;
 
@@ -56,7 +56,7 @@ impl<'a> RuledRows<'a> {
         }
         self.row.extend_from_slice(row)?;
         for rule in self.rules.in_row.iter() {
-            blacken(&mut self.row, rule.left, rule.width);
+            ink_dots(&mut self.row, rule.left, rule.width, Ink::Black);
         }
         Ok(())
     }

@@ -21,9 +21,12 @@ const SHAPE_LIMIT: usize = 4_000_000;
 
 /// After this many shapes, and one more for this many bytes of the texts of the pages, no further pages are looked at either: shapes
 /// of text take some thirty bytes each in a raster.
-const FIRST_SHAPES: usize = 65_536;
+const FIRST_SHAPES: usize = 32_768;
 
 const SHAPE_BYTES: usize = 24;
+
+/// After this many tiles, and one more for as many bytes of the texts, no further pictures are cut in tiles.
+const FIRST_TILES: usize = 65_536;
 
 /// What is kept of patterns may take a byte for this many of the texts of the pages, beside what is always allowed.
 const BYTES_FOR_PATTERNS: usize = 4;
@@ -63,8 +66,8 @@ pub struct Collection {
     pub rows: Vec<Row>,
     /// For each page, how many rows come before its own.
     pub starts: Vec<usize>,
-    /// How many shapes may be kept before a page is looked at.
-    shape_limit: usize,
+    /// How many bytes the texts of the pages take as rasters, with that of the page that comes.
+    text_bytes: usize,
     /// How many bytes the text of the page that comes takes as a raster.
     page_bytes: usize,
 }
@@ -89,7 +92,7 @@ impl Collection {
             tiles: Vec::new(alloc),
             rows: Vec::new(alloc),
             starts: Vec::new(alloc),
-            shape_limit: FIRST_SHAPES,
+            text_bytes: 0,
             page_bytes: 0,
         }
     }
@@ -98,8 +101,7 @@ impl Collection {
     pub fn add_room(&mut self, bytes: usize) {
         self.page_bytes = bytes;
         self.patterns.add_room(bytes / BYTES_FOR_PATTERNS);
-        let limit = self.shape_limit.saturating_add(bytes / SHAPE_BYTES);
-        self.shape_limit = limit.min(SHAPE_LIMIT);
+        self.text_bytes = self.text_bytes.saturating_add(bytes);
     }
 
     /// Passes over a page: none of its rules and shapes is collected.
@@ -151,7 +153,7 @@ impl Collection {
                     rules,
                     tiles: &[],
                 };
-                let tiles = find_tiles(alloc, page, self.room_for_shapes())?;
+                let tiles = find_tiles(alloc, page, self.room_for_tiles())?;
                 self.collect_tiles(&tiles)?;
                 Ok(tiles)
             }
@@ -161,8 +163,14 @@ impl Collection {
 
     /// How many shapes more may be kept before a page is looked at.
     fn room_for_shapes(&self) -> usize {
-        let kept = self.placed.len().saturating_add(self.tiles.len());
-        self.shape_limit.saturating_sub(kept)
+        let limit = FIRST_SHAPES.saturating_add(self.text_bytes / SHAPE_BYTES);
+        limit.min(SHAPE_LIMIT).saturating_sub(self.placed.len())
+    }
+
+    /// How many tiles more may be kept.
+    fn room_for_tiles(&self) -> usize {
+        let limit = FIRST_TILES.saturating_add(self.text_bytes / SHAPE_BYTES);
+        limit.min(SHAPE_LIMIT).saturating_sub(self.tiles.len())
     }
 
     /// Collects tiles of a page.

@@ -1,6 +1,6 @@
 //! Dots of rows.
 
-use pcl_bitmap::{Bitmap, first_difference};
+use pcl_bitmap::{Bitmap, Ink, first_difference};
 
 /// Row `y` of a page: nothing past the lowest one.
 pub fn row_at(bitmap: &Bitmap, y: u32) -> &[u8] {
@@ -21,22 +21,16 @@ pub fn is_again(bitmap: &Bitmap, y: u32) -> bool {
     y > 0 && are_equal(row_at(bitmap, y), row_at(bitmap, y.saturating_sub(1)))
 }
 
-/// Makes this many dots of a row white, from `left` on.
-pub fn whiten(row: &mut [u8], left: u32, width: u32) {
+/// Inks this many dots of a row, from `left` on.
+pub fn ink_dots(row: &mut [u8], left: u32, width: u32, ink: Ink) {
     let end = left.saturating_add(width);
     for place in left / 8..end.div_ceil(8) {
         if let Some(byte) = row.get_mut(place as usize) {
-            *byte &= !dots_of_byte(place, left, end);
-        }
-    }
-}
-
-/// Makes this many dots of a row black, from `left` on.
-pub fn blacken(row: &mut [u8], left: u32, width: u32) {
-    let end = left.saturating_add(width);
-    for place in left / 8..end.div_ceil(8) {
-        if let Some(byte) = row.get_mut(place as usize) {
-            *byte |= dots_of_byte(place, left, end);
+            let dots = dots_of_byte(place, left, end);
+            match ink {
+                Ink::Black => *byte |= dots,
+                Ink::White => *byte &= !dots,
+            }
         }
     }
 }
@@ -54,7 +48,7 @@ pub fn black_dots(row: &[u8], start: u32, end: u32) -> u32 {
 }
 
 /// The bits of the byte in a place of a row whose dots are those from `left` up to the one before `right`.
-pub fn dots_of_byte(place: u32, left: u32, right: u32) -> u8 {
+fn dots_of_byte(place: u32, left: u32, right: u32) -> u8 {
     let mut bits: u8 = 0xFF;
     if place == left / 8 {
         bits &= 0xFF >> (left % 8);

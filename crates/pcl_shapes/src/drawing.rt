@@ -1,8 +1,9 @@
 //! The dots of the shapes of a page.
 
-use crate::dots::dots_of_byte;
+use crate::dots::ink_dots;
 use crate::runs::BlackRun;
 use crate::shapes::{Extent, Shapes};
+use pcl_bitmap::Ink;
 use pcl_patterns::{Pattern, number_of_place, row_bytes_of, rows_len};
 use std::alloc::{AllocError, Global};
 
@@ -175,13 +176,11 @@ impl<'a> Drawings<'a> {
         let row = usize::from(y.saturating_sub(extent.top));
         let start = row.saturating_mul(row_bytes_of(extent.width()));
         let start = self.place_of(number).saturating_add(start);
+        let start = start.min(self.bytes.len());
+        let (_, row) = self.bytes.split_at_mut(start);
         let left = u32::from(run.start.saturating_sub(extent.left));
-        let right = u32::from(run.end.saturating_sub(extent.left));
-        for place in left / 8..right.div_ceil(8) {
-            if let Some(byte) = self.bytes.get_mut(start.saturating_add(place as usize)) {
-                *byte |= dots_of_byte(place, left, right);
-            }
-        }
+        let width = u32::from(run.end.saturating_sub(run.start));
+        ink_dots(row, left, width, Ink::Black);
     }
 }
 

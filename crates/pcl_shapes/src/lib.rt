@@ -28,8 +28,8 @@ mod upright_rules;
 mod words;
 
 pub use collecting::{Collection, PlacedShape};
-pub use dots::{are_equal, blacken};
+pub use dots::{are_equal, ink_dots};
 pub use edges::append_edges;
 pub use row_rules::RowRules;
 pub use rows::row_bytes;
-pub use rules::{Rule, Rules, erase_rules};
+pub use rules::{Rule, Rules, ink_rules};

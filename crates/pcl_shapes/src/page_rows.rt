@@ -1,13 +1,13 @@
 //! The rows of a page without its rules, and without the tiles of its pictures.
 
 use crate::bands::TILE_SIDE;
-use crate::dots::{are_equal, blacken, is_again, row_at, whiten};
+use crate::dots::{are_equal, ink_dots, is_again, row_at};
 use crate::row_rules::RowRules;
 use crate::rules::Rule;
 use crate::shapes::Extent;
 use crate::tiles::Tile;
 use pcl_base::Dpi;
-use pcl_bitmap::Bitmap;
+use pcl_bitmap::{Bitmap, Ink};
 use pcl_patterns::short_number;
 use std::alloc::{AllocError, Global};
 use std::mem::swap;
@@ -88,7 +88,7 @@ impl<'a> PageRows<'a> {
         }
         self.row.extend_from_slice(row_at(self.bitmap, y))?;
         for rule in self.rules.in_row.iter() {
-            whiten(&mut self.row, rule.left, rule.width);
+            ink_dots(&mut self.row, rule.left, rule.width, Ink::White);
         }
         self.whiten_tiles(y)
     }
@@ -140,10 +140,11 @@ impl<'a> PageRows<'a> {
             if tile.top > first.top {
                 break;
             }
-            blacken(
+            ink_dots(
                 &mut self.tile_dots,
                 u32::from(tile.left),
                 u32::from(tile.width()),
+                Ink::Black,
             );
             count = count.saturating_add(1);
         }

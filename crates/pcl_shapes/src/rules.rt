@@ -125,8 +125,8 @@ pub fn is_border(black: u32, length: u32) -> bool {
     black.saturating_mul(BORDER_PART) <= length
 }
 
-/// Makes the dots of rules white.
-pub fn erase_rules(rules: &[Rule], bitmap: &mut Bitmap)
+/// Inks the dots of rules.
+pub fn ink_rules(rules: &[Rule], ink: Ink, bitmap: &mut Bitmap)
     ensures size { bitmap.new.size ≡ bitmap.old.size }
     ensures dpi { bitmap.new.dpi ≡ bitmap.old.dpi }
     ensures picture { IsPicture bitmap.old → IsPicture bitmap.new }
@@ -137,7 +137,7 @@ pub fn erase_rules(rules: &[Rule], bitmap: &mut Bitmap)
             rule.top,
             u64::from(rule.width),
             u64::from(rule.height),
-            Ink::White,
+            ink,
         );
     }
 }
