@@ -22,8 +22,12 @@
 //!
 //! A raster where a reset leaves the cursor stands half a dot lower at 600 dots per inch: for both a raster starts there, for two bytes
 //! more, 40 around its rows and 10 for one of a byte. A stroke of forty dots goes as a macro below a top margin of half a dot, which takes
-//! four bytes more: 80 for the macro (11, 7 to go up, 7 for its raster, 7 for its first row, 43 for the others, 5), 2 before it, 9 and 28 of
-//! the page text, `ESC*b3M` 5, `ESC*p0x227Y` 9, 11 to run it, and 3 after.
+//! four bytes more: 80 for the macro (11, 7 to go up, 7 for its raster, 7 for its first row, 43 for the others, 5), 2 before it, 9 and 28
+//! of the page text, `ESC*b3M` 5, `ESC*p0x227Y` 9, 11 to run it, and 3 after.
+//!
+//! A row of dots in turn has four bytes by method 1: its byte 256 times, and 44 times. So it takes 9, and the first one 2 more for the
+//! method: 29,702 for the 3,300 rows of a page, with 38 around them. As row data over the row above each takes 338 bytes, so such a page
+//! isn't kept while it is read.
 #![tactic(auto)]
 
 mod doubts;
@@ -200,6 +204,7 @@ fn main(rt: HostRuntime) -> Result<(), RunFault> {
         print_shrunk(&rt, case.name, &job, case.dpi)?;
     }
     print_letters(&rt)?;
+    print_checkerboard(&rt)?;
     let folder = std::env::args(&rt)?.nth(1);
     print_doubts(&rt, folder.as_ref().map_or(".", |folder| folder.as_str()))
 }
@@ -240,6 +245,22 @@ fn print_letters<R: Print + AllocGlobal>(rt: &R) -> io::Result<()> {
         Dpi::Dpi600,
     )?;
     print_everywhere(rt, &letters)
+}
+
+/// Prints the line of a page of dots in turn.
+fn print_checkerboard<R: Print + AllocGlobal>(rt: &R) -> io::Result<()> {
+    let mut job = Vec::from_slice(rt.alloc(), b"\x1b&l0E\x1b*p0x0Y\x1b*t300R\x1b*r0A")?;
+    for _ in 0..1_650 {
+        append_dots(0x55, &mut job)?;
+        append_dots(0xAA, &mut job)?;
+    }
+    print_shrunk(rt, "a page of dots in turn", &job, Dpi::Dpi300)
+}
+
+/// Appends a row of a raster, as wide as a page, all of whose bytes are this one.
+fn append_dots(byte: u8, job: &mut Vec<u8>) -> Result<(), AllocError> {
+    job.extend_from_slice(b"\x1b*b300W")?;
+    job.extend_from_slice(&[byte; 300])
 }
 
 /// Prints how many jobs go as they came where printers may read them otherwise, and no others.
