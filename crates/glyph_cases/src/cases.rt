@@ -728,8 +728,8 @@ pub const CASES: [GlyphCase; 75] = [
         rectangles: &[[90, 110, 1000, 3]],
         ..MOVED_LINE
     },
-    // A box is a character of 3 bytes, a row that is repeated and two runs, in place of 60: 6 for the offset and 156 around the lines, of 11
-    // and 8 codes.
+    // A box is a character of 3 bytes, a row that is repeated and two runs, in place of 60: 6 for the offset and 156 around the lines, of
+    // 11 and 8 codes.
     GlyphCase {
         name: "boxes on a moved page",
         start: b"\x1b&l36Z",

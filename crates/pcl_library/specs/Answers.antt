@@ -83,8 +83,8 @@ Tells other page answer = answer.outcome ≡ outcome_of other
 
 -- ---- calls on one job
 
--- what an answer tells at a resolution of a job that is read by a profile: of a call that is done this holds, a refusal is the job's, and no
--- argument is wrong; no page is missing, since none is asked for
+-- what an answer tells at a resolution of a job that is read by a profile: of a call that is done this holds, a refusal is the job's, and
+-- no argument is wrong; no page is missing, since none is asked for
 pub record AnswersAt (profile : Profile) (dpi : Dpi) (job : List ℕ) (Done : Answer → Type 0) (answer : Answer) : Type 0 where
   pub performed : IsPerformed answer.outcome
   pub no_page : answer.outcome ≢ 2
@@ -96,7 +96,8 @@ pub record Answers (profile : Profile) (number : ℕ) (job : List ℕ) (Done : D
   pub no_page : answer.outcome ≢ 2
   pub done : answer.outcome ≡ 0 → (dpi : Dpi) × IsSeen profile number job dpi × (answer.resolution ≡ dots_per_inch dpi) × Done dpi answer
   pub refused : answer.outcome ≡ 1
-      → (dpi : Dpi) × IsSeen profile number job dpi × ((refusal : Refusal) × IsRefusalBy profile dpi job refusal × TellsRefusal refusal answer)
+      → (dpi : Dpi) × IsSeen profile number job dpi
+      × ((refusal : Refusal) × IsRefusalBy profile dpi job refusal × TellsRefusal refusal answer)
 
 -- the images in a form of these pages, one after the other
 abbrev pub HasChosenImages : ImageForm → List ℕ → PageChoice → Dpi → Answer → Type 0
@@ -136,7 +137,8 @@ pub record ShowsAt (form : ImageForm) (dpi : Dpi) (job : List ℕ) (choice : Pag
 pub record Shows (number : ℕ) (job : List ℕ) (Done : Dpi → Answer → Type 0) (Missing : Answer → Type 0) (answer : Answer) : Type 0 where
   pub done : answer.outcome ≡ 0 → (dpi : Dpi) × IsSeen Drivers number job dpi × (answer.resolution ≡ dots_per_inch dpi) × Done dpi answer
   pub refused : answer.outcome ≡ 1
-      → (dpi : Dpi) × IsSeen Drivers number job dpi × ((refusal : Refusal) × IsRefusalBy Drivers dpi job refusal × TellsRefusal refusal answer)
+      → (dpi : Dpi) × IsSeen Drivers number job dpi
+      × ((refusal : Refusal) × IsRefusalBy Drivers dpi job refusal × TellsRefusal refusal answer)
   pub missing : answer.outcome ≡ 2 → Missing answer
 
 -- a least raster job of the job's pages, and where one of a format is asked for its certificate, which a check reads

@@ -73,7 +73,8 @@ job_accepted {profile} {dpi} {text} {deeds} t {pages} n read leads fits few =
     let performed : performance_of profile dpi job commands ≡ done (at_end dpi last) =
     ap (λ (p : Performance). then_on p (after_end dpi (length job))) c.0 ∙ ended_there t.profile dpi (length job) fits in
     let accepted = ap (λ (p : Performance). p.refusal) performed in
-    let reading : IsReading profile job commands = record { pieces = r.pieces; each = r.each profile []; spelled = r.spelled; said = refl } in
+    let reading : IsReading profile job commands =
+    record { pieces = r.pieces; each = r.each profile []; spelled = r.spelled; said = refl } in
     record {
       meaning = record { commands = commands; reading = reading; accepted = accepted; ejected = sym (ap pages_of performed) };
       asks = record {

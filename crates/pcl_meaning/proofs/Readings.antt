@@ -104,8 +104,10 @@ parameters_said : (prefix : Prefix) (middle : List Parameter) (end : Parameter) 
     × ((at begin : ℕ) → AreSaid (parameter_commands prefix at begin middle end bytes) (deeds ++ last ∷ []))
 parameters_said prefix [] end [] a m = (λ profile. tt, λ at begin. (m, tt))
 parameters_said prefix (parameter ∷ middle) end (deed ∷ deeds) a m =
-    let rest = parameters_said prefix middle end deeds a.2 m in
-    (λ profile. (a.0 profile, rest.0 profile), λ at begin. let behind = begin + length (parameter_bytes parameter) in (a.1, rest.1 behind behind))
+    let rest = parameters_said prefix middle end deeds a.2 m in (
+      λ profile. (a.0 profile, rest.0 profile),
+      λ at begin. let behind = begin + length (parameter_bytes parameter) in (a.1, rest.1 behind behind),
+    )
 parameters_said prefix middle end deeds a m = absurd a
 
 -- ---- parameters that are numbers
@@ -191,7 +193,8 @@ module _ {prefix : Prefix} {before : List ℕ} {deeds : List Deed} (r : ReadsIns
   set_last (setting spelled small named alone known stays) last =
       let checks : (profile : Profile) → PassesChecks profile prefix (number_parameter digits letter) [] =
       λ profile. checks_are profile _ digits letter 0 spelled small named known (rw alone refl) in
-      end_inside (λ profile. record { field = (spelled.0, tt); letter = last; checks = checks profile; stays = stays }) (named, value_is digits spelled, refl)
+      end_inside (λ profile. record { field = (spelled.0, tt); letter = last; checks = checks profile; stays = stays })
+      (named, value_is digits spelled, refl)
 
 -- ---- a row that is sent
 

@@ -96,13 +96,15 @@ start_read dpi {copies} size le =
     let sizes : code_of size ≤ 65535 = grind arith in
     let dots : dots_per_inch dpi ≤ 65535 = grind arith in
     let wide : page_width size dpi ≤ 65535 = omega (arith, width_small size dpi) in
-    let c : IsSetting (prefix 38 108) 120 (decimal copies) copies Copies = setting (decimal_spelled _ (omega arith)) le refl refl refl refl in
+    let c : IsSetting (prefix 38 108) 120 (decimal copies) copies Copies =
+    setting (decimal_spelled _ (omega arith)) le refl refl refl refl in
     let s : IsSetting (prefix 38 108) 97 (decimal (code_of size)) (code_of size) PageSize =
     setting (decimal_spelled _ (omega arith)) sizes refl refl refl refl in
     let margin : IsSetting (prefix 38 108) 69 (48 ∷ []) 0 TopMargin = setting ((refl, tt), refl) (lit≤ tt) refl refl refl refl in
     let across : IsSetting (prefix 42 112) 120 (48 ∷ []) 0 (Move Horizontal PclUnit) =
     setting ((refl, tt), refl) (lit≤ tt) refl refl refl refl in
-    let down : IsSetting (prefix 42 112) 89 (48 ∷ []) 0 (Move Vertical PclUnit) = setting ((refl, tt), refl) (lit≤ tt) refl refl refl refl in
+    let down : IsSetting (prefix 42 112) 89 (48 ∷ []) 0 (Move Vertical PclUnit) =
+    setting ((refl, tt), refl) (lit≤ tt) refl refl refl refl in
     let fine : IsSetting (prefix 42 116) 82 (decimal (dots_per_inch dpi)) (dots_per_inch dpi) RasterResolution =
     setting (decimal_spelled _ (omega arith)) dots refl refl refl refl in
     let width : IsSetting (prefix 42 114) 115 (decimal (page_width size dpi)) (page_width size dpi) RasterWidth =

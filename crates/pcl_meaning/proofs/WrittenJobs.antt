@@ -7,7 +7,8 @@ use Rattle.pcl_meaning.proofs.Jobs.{IsAgain, written_again}
 pub asks_as_said : {profile : Profile} {dpi : Dpi} {job output : List ℕ} (w : IsJobOfBy profile dpi job output)
     → HasAsksBy profile dpi output (said_for w.pages)
 asks_as_said {profile} {dpi} w =
-    subst (λ (bytes : List ℕ). HasAsksBy profile dpi bytes (said_for w.pages)) (sym w.spelled) (written_again w.texts w.meaning w.print).asks
+    subst (λ (bytes : List ℕ). HasAsksBy profile dpi bytes (said_for w.pages)) (sym w.spelled)
+    (written_again w.texts w.meaning w.print).asks
 
 -- page texts of the job's pages between two resets
 unfoldable pub job_of_texts : (profile : Profile) (dpi : Dpi) (job start body output texts : List ℕ) (pages : List Sheet)

@@ -74,7 +74,8 @@ dots_of number {pages} (Some place) (Some picture) m n k =
       dots = k.same;
     }
 
-pub dots_kept : {profile : Profile} (dpi : Dpi) (job : List ℕ) (number : ℕ) {pages : List Sheet} (skip : Option ℕ) {old : Chosen} (new : Chosen)
+pub dots_kept : {profile : Profile} (dpi : Dpi) (job : List ℕ) (number : ℕ) {pages : List Sheet} (skip : Option ℕ)
+    {old : Chosen} (new : Chosen)
     {result : Result Picture Fault} → HasPagesBy profile dpi job pages → SomeIff skip (1 ≤ number) (number - 1) → old.skip ≡ skip
     → old.kept ≡ None → Hands takes dpi pages old new → result ≡ ok_or new.kept NoSuchPage → IsPageDots profile dpi job number result
 dots_kept dpi job number {pages} skip new m n s k h e = rw e (dots_of number skip new.kept m n (keeps dpi pages skip new s k h))

@@ -116,7 +116,8 @@ pub unmet_by : {left other : Option (List Bool)} (met : Bool) → left ≡ other
 unmet_by met same is by = rw (← same) (rw is at by)
 
 pub none_shown : (form : ImageForm) (profile : Profile) (dpi : Dpi) (job : List ℕ) (choice : PageChoice) (held : Option (List ℕ))
-    (fault : Fault) → ArePageImages form profile dpi job choice (Err fault) → IsPagesPreview form profile dpi job choice held held (Err fault)
+    (fault : Fault) → ArePageImages form profile dpi job choice (Err fault)
+    → IsPagesPreview form profile dpi job choice held held (Err fault)
 none_shown form profile dpi job choice held (Refused refusal) n = (n, Keeps-refl held)
 none_shown form profile dpi job choice held NoSuchPage n = (n, Keeps-refl held)
 none_shown form profile dpi job choice held Memory n = Keeps-refl held

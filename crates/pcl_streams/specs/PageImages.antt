@@ -70,7 +70,8 @@ images_in form [] = []
 images_in form (page ∷ later) = image_in form page.bitmap ++ images_in form later
 
 -- the bytes are the images in a form of the pages of a job that a profile accepts that are asked for
-pub record AreImagesIn (form : ImageForm) (profile : Profile) (dpi : Dpi) (job : List ℕ) (choice : PageChoice) (bytes : List ℕ) : Type 0 where
+pub record AreImagesIn (form : ImageForm) (profile : Profile) (dpi : Dpi) (job : List ℕ) (choice : PageChoice)
+    (bytes : List ℕ) : Type 0 where
   pub sheets : List Sheet
   pub meaning : HasPagesBy profile dpi job sheets
   pub there : AreThere choice (length sheets)

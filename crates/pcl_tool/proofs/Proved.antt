@@ -114,7 +114,8 @@ written_output {dpi} {job} (Some format) output {pages} old new meaning same ope
     subst (λ (f : Option Format). AreProvedIn dpi f pages g.texts old.certificate new.certificate) same g.proved in
     let few : length p.proofs < 2 ^ 32 = omega (arith, p.proved.0, job_fits meaning) in
     record {
-      job_is = written_job (job_of_texts Stated dpi job old.bytes new.bytes output.job.items g.texts pages meaning opened g.print g.bytes closed);
+      job_is = written_job (job_of_texts Stated dpi job old.bytes new.bytes output.job.items
+          g.texts pages meaning opened g.print g.bytes closed);
       certified = record {
         proofs = p.proofs;
         can_be_said = (few, p.can_be_said);

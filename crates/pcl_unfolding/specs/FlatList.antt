@@ -38,8 +38,8 @@ abbrev pub or_as_before : Situation → Result Situation Kind → Situation
 or_as_before s (Ok later) = later
 or_as_before s (Err kind) = s
 
--- a call's end ends the raster; and everything is set as it was when the macro began, but the page size, the cursor and its stack; a page that
--- is marked and moved by that has dots at two offsets
+-- a call's end ends the raster; and everything is set as it was when the macro began, but the page size, the cursor and its stack; a page
+-- that is marked and moved by that has dots at two offsets
 abbrev pub returned : Dpi → Situation → Situation → Situation
 returned dpi entered s =
     with_lasting (is_marked s && not (lie_together s.settings.asked entered.settings.asked))
@@ -171,8 +171,8 @@ flat_list dpi commands = in_turn (add dpi (unfolded macro_limit dpi commands)) 0
 abbrev pub performed_by : Dpi → Unfolding → Performance
 performed_by dpi u = record { situation = now dpi u.items; refusal = u.refusal }
 
--- performing commands by the stated profile, and then the input's end, leads to the situation after their flat list, and is refused where that doesn't
--- go on
+-- performing commands by the stated profile, and then the input's end, leads to the situation after their flat list, and is refused
+-- where that doesn't go on
 abbrev pub PerformingIsUnfolding : Type 0
 PerformingIsUnfolding = (dpi : Dpi) (end : ℕ) (commands : List Said)
     → performance Stated dpi end commands ≡ then_on (performed_by dpi (flat_list dpi commands)) (after_end dpi end)

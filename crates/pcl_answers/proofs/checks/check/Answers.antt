@@ -26,7 +26,8 @@ seen_beside : {F : Type 0} {acts : F → FileAct → F → Type 0} {files : F} (
     → IsFileRead acts files asked.output.now (Ok output) → IsFileRead acts files asked.certificate.now (Ok certificate)
     → lent ≡ performed asked.beside one other → one ≡ input.items → other ≡ output.items → IsSeenAt asked.resolution Stated lent dpi
     → i ≡ input.items → o ≡ output.items → k ≡ certificate.items → IsCheckedBeside asked.beside dpi i o k result
-    → AreRead acts files asked input output certificate × IsSeenAt asked.resolution Stated (performed asked.beside input.items output.items) dpi
+    → AreRead acts files asked input output certificate × IsSeenAt asked.resolution Stated
+    (performed asked.beside input.items output.items) dpi
     × IsCheckedBeside asked.beside dpi input.items output.items certificate.items result
 seen_beside asked dpi result a b c lent p q seen r s t checked =
     (record { input_is = a; output_is = b; certificate_is = c }, rw (← p, ← q, ← lent) seen, rw (← r, ← s, ← t) checked)

@@ -12,7 +12,8 @@ pub loop-kind-preserved : goal.loop-kind-preserved
 loop-kind-preserved c =
     All-more (λ (kind : Kind). IsKindName c.args.name.now kind → ⊥) kinds c.loop-kind.kind-index Truncated
     (omega (arith, c.loop-kind-test.true)) c.loop-kind.invariant
-    (λ named. let equal = c.eq_ignore_ascii_case.ensures.test.1 (rw c.name.ensures named) in let unequal = c.if-eq_ignore_ascii_case.false in cc)
+    (λ named. let equal = c.eq_ignore_ascii_case.ensures.test.1 (rw c.name.ensures named) in
+    let unequal = c.if-eq_ignore_ascii_case.false in cc)
 
 pub returns : goal.returns
 returns c =

@@ -12,5 +12,6 @@ returns-in_err-write_all g c =
 
 pub returns : goal.returns
 returns g c =
-    output_written _ _ _ _ _ _ _ (omega (arith, c.if-len-limit.false, c.len.ensures)) (rw c.deref.ensures.value at c.in_ok-write_all.ensures)
+    output_written _ _ _ _ _ _ _ (omega (arith, c.if-len-limit.false, c.len.ensures))
+    (rw c.deref.ensures.value at c.in_ok-write_all.ensures)
     (rw c.deref-2.ensures.value at c.write_all-2.ensures)
