@@ -205,8 +205,8 @@ fn reach_of(taken: Taken<'_>) -> u32 {
     reach
 }
 
-/// Makes the dots of some letters, which reach so many rows from their lines, white in a band of a page, rows of this many bytes from row
-/// `top` on.
+/// Makes the dots of some letters white in a band of a page, rows of this many bytes from row `top` on. The letters reach this many rows
+/// from their lines.
 fn whiten(bytes: &mut [u8], row_bytes: usize, top: u32, taken: Taken<'_>, reach: u32) {
     let end = top.saturating_add(BAND_ROWS);
     for letter in letters_near(taken.letters, top, end, reach) {
@@ -224,7 +224,7 @@ fn whiten(bytes: &mut [u8], row_bytes: usize, top: u32, taken: Taken<'_>, reach:
     }
 }
 
-/// Those of the letters of a page, from the topmost line down, that stand so near these rows: of others no dot is in them.
+/// Those of the letters of a page, from the topmost line down, whose lines are within reach of these rows: of others no dot is in them.
 fn letters_near(letters: &[Letter], top: u32, end: u32, reach: u32) -> &[Letter] {
     let start = letters.partition_point(|letter| letter.baseline.saturating_add(reach) < top);
     let letters = letters.get(start..).unwrap_or(&[]);
