@@ -5,7 +5,7 @@ use crate::macro_writing::MacroWriter;
 use crate::rule_writing::RulePen;
 use pcl_bitmap::Page;
 use pcl_font_text::{FontLayout, append_fonts, append_unit, lay_out};
-use pcl_letters::{find_letters, join_shapes};
+use pcl_letters::find_letters;
 use pcl_macro_text::{MacroLayout, append_definitions, append_settings, lay_out_macros};
 use pcl_patterns::{Form, Letters};
 use pcl_shapes::{Collection, Rules};
@@ -105,7 +105,6 @@ fn letters_of(alloc: Global, collection: &mut Collection) -> Result<Letters, All
     if collection.placed.is_empty() && collection.tiles.is_empty() {
         return Ok(Letters::new(alloc));
     }
-    join_shapes(alloc, collection)?;
     let letters = find_letters(alloc, collection)?;
     collection.placed = Vec::new(alloc);
     collection.tiles = Vec::new(alloc);

@@ -1,14 +1,15 @@
 //! The shapes that are printed as letters.
 
-use crate::frequency::{Frequency, find_frequency};
+use crate::frequency::Frequency;
+use crate::joining::join_shapes;
 use crate::standing::{LineCount, Standing};
 use pcl_patterns::{Letter, LetterGlyph, Letters, number_of_place};
 use pcl_shapes::{Collection, PlacedShape};
 use std::alloc::{AllocError, Global};
 
-/// The letters of a job: the shapes of patterns that are so frequent that they take fewer bytes so.
-pub fn find_letters(alloc: Global, collection: &Collection) -> Result<Letters, AllocError> {
-    let frequency = find_frequency(alloc, collection)?;
+/// The letters of a job: the shapes of patterns that are so frequent that they take fewer bytes so, some of them joined.
+pub fn find_letters(alloc: Global, collection: &mut Collection) -> Result<Letters, AllocError> {
+    let frequency = join_shapes(alloc, collection)?;
     let standing = Standing::new(alloc, collection, &frequency)?;
     let mut found = Letters::new(alloc);
     append_letters(collection, &standing, &frequency, &mut found)?;

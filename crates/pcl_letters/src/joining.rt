@@ -37,16 +37,28 @@ struct Apart<'a> {
     uses: &'a [usize],
 }
 
-/// Joins shapes that stand above each other on a line, where that takes fewer bytes.
-pub fn join_shapes(alloc: Global, collection: &mut Collection) -> Result<(), AllocError> {
+/// Joins shapes that stand above each other on a line, where that takes fewer bytes. Gives what the shapes of each pattern take then.
+pub fn join_shapes(alloc: Global, collection: &mut Collection) -> Result<Frequency, AllocError> {
     let frequency = find_frequency(alloc, collection)?;
-    for _ in 0..ROUNDS {
-        if !join_once(alloc, collection, &frequency)? {
-            // No round after this one finds any pair either.
-            break;
+    if join_in_rounds(alloc, collection, &frequency)? {
+        find_frequency(alloc, collection)
+    } else {
+        Ok(frequency)
+    }
+}
+
+/// Joins shapes two by two until there are none to join, or they have as many parts as they may. Says whether there were any.
+fn join_in_rounds(
+    alloc: Global,
+    collection: &mut Collection,
+    frequency: &Frequency,
+) -> Result<bool, AllocError> {
+    for round in 0..ROUNDS {
+        if !join_once(alloc, collection, frequency)? {
+            return Ok(round > 0);
         }
     }
-    Ok(())
+    Ok(true)
 }
 
 /// Joins shapes two by two, and says whether there were any to join.
@@ -126,7 +138,7 @@ fn pair_of(patterns: &Patterns, first: &PlacedShape, second: &PlacedShape) -> Op
         return None;
     }
     let right = u32::from(second.x.checked_sub(first.x)?);
-    let width = patterns.get(first.pattern)?.width;
+    let width = patterns.width_of(first.pattern)?;
     (right < width).then_some(Pair {
         first: first.pattern,
         second: second.pattern,
@@ -253,27 +265,91 @@ fn count_joined(
     pairs: &IndexMap<Pair, usize>,
 ) -> Result<IndexMap<Pair, usize>, AllocError> {
     let mut counts = IndexMap::new(alloc);
-    let mut is_joined = false;
+    if pairs.is_empty() {
+        return Ok(counts);
+    }
+    let mut walk = PairWalk::new(collection, pairs);
     for place in 0..collection.placed.len() {
-        if is_joined {
-            is_joined = false;
-        } else if let Some(pair) = pair_at(collection, place, pairs) {
+        if let Part::First(pair) = walk.part_at(collection, place, pairs) {
             count_pair(pair, &mut counts)?;
-            is_joined = true;
         }
     }
     Ok(counts)
 }
 
-/// The pair at a place, if it is to be joined: one of these, and no less frequent than the next one, which overlaps it.
-fn pair_at(collection: &Collection, place: usize, pairs: &IndexMap<Pair, usize>) -> Option<Pair> {
-    let pair = two_at(collection, place)?;
-    let count = *pairs.get(&pair)?;
-    let next = match two_at(collection, place.saturating_add(1)) {
-        Some(next) => pairs.get(&next).copied().unwrap_or(0),
-        None => 0,
-    };
-    (count >= next).then_some(pair)
+/// One of the pairs that may be joined, and how often it is there.
+#[derive(Clone, Copy)]
+struct Counted {
+    pair: Pair,
+    count: usize,
+}
+
+impl Counted {
+    /// The pair at a place, if it is one of these.
+    fn at(collection: &Collection, place: usize, pairs: &IndexMap<Pair, usize>) -> Option<Counted> {
+        let pair = two_at(collection, place)?;
+        let count = *pairs.get(&pair)?;
+        Some(Counted { pair, count })
+    }
+
+    /// Whether it is less frequent than the next one, which overlaps it.
+    fn is_rarer_than(self, next: Option<Counted>) -> bool {
+        match next {
+            Some(next) => self.count < next.count,
+            None => false,
+        }
+    }
+}
+
+/// Which part a shape has where pairs are joined.
+#[derive(Clone, Copy)]
+enum Part {
+    Alone,
+    /// It is the first one of this pair.
+    First(Pair),
+    /// It is the second one of the pair that the shape before it is the first of.
+    Second,
+}
+
+/// Goes from shape to shape, and says which are joined.
+#[derive(Clone, Copy)]
+struct PairWalk {
+    /// The pair at the next place, if it is one of those that may be joined.
+    next: Option<Counted>,
+    /// Whether the shape at the next place is the second one of a pair.
+    is_joined: bool,
+}
+
+impl PairWalk {
+    /// Before the first shape.
+    fn new(collection: &Collection, pairs: &IndexMap<Pair, usize>) -> PairWalk {
+        PairWalk {
+            next: Counted::at(collection, 0, pairs),
+            is_joined: false,
+        }
+    }
+
+    /// The part of the shape at the next place, which this is, where these pairs may be joined.
+    fn part_at(
+        &mut self,
+        collection: &Collection,
+        place: usize,
+        pairs: &IndexMap<Pair, usize>,
+    ) -> Part {
+        let here = self.next;
+        self.next = Counted::at(collection, place.saturating_add(1), pairs);
+        if self.is_joined {
+            self.is_joined = false;
+            return Part::Second;
+        }
+        match here {
+            Some(here) if !here.is_rarer_than(self.next) => {
+                self.is_joined = true;
+                Part::First(here.pair)
+            }
+            _ => Part::Alone,
+        }
+    }
 }
 
 /// The pair of the two shapes from a place on.
@@ -337,18 +413,18 @@ fn join_items(
     numbers: &IndexMap<Pair, u32>,
 ) {
     let mut count: usize = 0;
-    let mut is_joined = false;
+    let mut walk = PairWalk::new(collection, pairs);
     for place in 0..collection.placed.len() {
-        let pair = pair_at(collection, place, pairs);
-        if is_joined {
-            is_joined = false;
-        } else if let Some(shape) = collection.placed.get(place).copied() {
-            let shape = joined_shape(shape, pair, numbers);
+        let pair = match walk.part_at(collection, place, pairs) {
+            Part::Alone => None,
+            Part::First(pair) => Some(pair),
+            Part::Second => continue,
+        };
+        if let Some(shape) = collection.placed.get(place).copied() {
             if let Some(free) = collection.placed.get_mut(count) {
-                *free = shape;
+                *free = joined_shape(shape, pair, numbers);
             }
             count = count.saturating_add(1);
-            is_joined = pair.is_some();
         }
     }
     collection.placed.truncate(count);

@@ -8,4 +8,3 @@ mod joining;
 mod standing;
 
 pub use finding::find_letters;
-pub use joining::join_shapes;

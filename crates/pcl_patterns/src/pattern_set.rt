@@ -103,6 +103,13 @@ impl Patterns {
         })
     }
 
+    /// How wide the pattern of a number is, in dots, if its dots are kept.
+    pub fn width_of(&self, number: u32) -> Option<u32> {
+        let kept = self.kept_at(number)?;
+        kept.start?;
+        Some(u32::from(kept.width))
+    }
+
     /// How many bytes what prints a pattern takes, once for the job.
     pub fn definition_bytes(&self, number: u32) -> usize {
         self.kept_at(number)

@@ -61,6 +61,7 @@ pub struct PageKeeper {
 
 impl PageKeeper {
     ghost use Rattle.std.specs.Prelude.{◌≡◌, [], Some, IfSome};
+    ghost use Rattle.std.specs.Option.{option_map};
     ghost use Rattle.pcl_same.specs.Kept.{KeepsWithin, kept_pages};
 
     /// Before the first page. The pages may take this many bytes.
@@ -95,7 +96,8 @@ impl PageKeeper {
 
     /// The job whose pages came, and which asks for this: none where they aren't kept.
     pub fn finish<'a>(self, asks: Asks<'a>) -> Option<KeptJob<'a>>
-        ensures { IfSome result (λ job. (kept_pages self ≡ Some job.pages.items) × (job.asks ≡ asks.entry)) }
+        ensures pages { option_map (λ job. job.pages.items) result ≡ kept_pages self }
+        ensures asks { IfSome result (λ job. job.asks ≡ asks.entry) }
     {
         let pages = self.pages?;
         Some(KeptJob { pages, asks })

@@ -24,5 +24,6 @@ returns g c =
           length-map texts (λ (t : Text). t.least.items),
         );
       },
-      kept_while_read c.in_ok-texts.found.keeper c.in_ok-texts.found.asks c.finish.result found.1.0 found.1.1 c.finish.ensures,
+      kept_while_read c.in_ok-texts.found.keeper c.in_ok-texts.found.asks c.finish.result found.1.0 found.1.1
+          c.finish.ensures.pages c.finish.ensures.asks,
     )

@@ -11,5 +11,6 @@ returns g c =
     let kept = all_kept_within Dpi600 sheets new c.new-2.ensures h.handed.1 in
     let found = subst (KeepAllIfAny Dpi600 sheets) (sym c.finder.view_is) kept in (
       (sheets, has_pages h),
-      kept_while_read c.finder.inside.keeper _ c.finish.result c.in_ok-asks.ensures.1 (sheets, has_pages h, found) c.finish.ensures,
+      kept_while_read c.finder.inside.keeper _ c.finish.result c.in_ok-asks.ensures.1 (sheets, has_pages h, found)
+          c.finish.ensures.pages c.finish.ensures.asks,
     )
