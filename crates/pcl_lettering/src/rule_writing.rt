@@ -2,7 +2,7 @@
 
 use crate::series::RulesLeft;
 use pcl_patterns::{append_labelled, digit_count};
-use pcl_shapes::Rule;
+use pcl_shapes::{Rule, count_beside};
 use std::alloc::{AllocError, Global};
 
 /// The highest ID of a macro. Those of a job go down from it, as a site's own mostly go up from 0.
@@ -117,15 +117,4 @@ pub fn sparse_rules(alloc: Global, rules: &[Rule]) -> Result<Vec<Rule>, AllocErr
         }
     }
     Ok(sparse)
-}
-
-/// How many rules are in the same rows as this one, with itself.
-fn count_beside(rule: &Rule, rules: &[Rule]) -> u32 {
-    let mut count: u32 = 0;
-    for other in rules {
-        if other.top == rule.top && other.height == rule.height {
-            count = count.saturating_add(1);
-        }
-    }
-    count
 }

@@ -6,7 +6,7 @@ use crate::drawing::Drawings;
 use crate::page_rows::Unpainted;
 use crate::pictures::is_picture;
 use crate::rows::append_rows;
-use crate::rules::{Rule, Rules, find_rules};
+use crate::rules::{Rule, Rules, find_rules, without_bars};
 use crate::runs::{KeptRuns, RowWalk};
 use crate::screening::screen_shapes;
 use crate::shapes::{Extent, Shapes, find_shapes};
@@ -132,7 +132,7 @@ impl Collection {
             self.find_tiles(bitmap, &[])?;
             return Ok(());
         }
-        let rules = find_rules(*self.placed.allocator(), bitmap)?;
+        let rules = self.find_rules(bitmap)?;
         self.rules.add(&rules)?;
         let tiles = self.find_tiles(bitmap, &rules)?;
         self.collect(Unpainted {
@@ -140,6 +140,16 @@ impl Collection {
             rules: &rules,
             tiles: &tiles,
         })
+    }
+
+    /// Finds the rules of a page. Bars of a bar code are none where characters may be compressed.
+    fn find_rules(&self, bitmap: &Bitmap) -> Result<Vec<Rule>, AllocError> {
+        let alloc = *self.placed.allocator();
+        let rules = find_rules(alloc, bitmap)?;
+        match self.form {
+            Form::Characters(kind) if kind.compresses => without_bars(alloc, &rules, kind.scale),
+            _ => Ok(rules),
+        }
     }
 
     /// Finds the tiles of a page without these rules that are printed as characters, and collects them: none where letters are macros,

@@ -32,4 +32,4 @@ pub use dots::{are_equal, ink_dots};
 pub use edges::append_edges;
 pub use row_rules::RowRules;
 pub use rows::row_bytes;
-pub use rules::{Rule, Rules, ink_rules};
+pub use rules::{Rule, Rules, count_beside, ink_rules};

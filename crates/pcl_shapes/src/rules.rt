@@ -10,6 +10,7 @@ use crate::level_rules::append_level_rules;
 use crate::upright_rules::append_upright_rules;
 use pcl_base::Dpi;
 use pcl_bitmap::{Bitmap, Ink};
+use pcl_patterns::rows_len;
 use std::alloc::{AllocError, Global};
 
 /// How many rules of a page are found, at most.
@@ -20,6 +21,9 @@ const SLENDERNESS: u32 = 12;
 
 /// How many of the dots beside a rule may be black, as what touches or crosses it is: one of this many.
 const BORDER_PART: u32 = 4;
+
+/// A bar code has this many bars, which as characters of a few widths take a byte or two each. Fewer take as few bytes as rectangles.
+const LEAST_BARS: u32 = 24;
 
 /// A black rectangle of a page, in dots. Their order is that of printing: equal sizes come in turn.
 #[derive(Clone, Copy, PartialEq, Eq, PartialOrd, Ord)]
@@ -113,6 +117,31 @@ pub fn least_length(dpi: Dpi) -> u32 {
         Dpi::Dpi300 => 63,
         Dpi::Dpi600 => 126,
     }
+}
+
+/// Those of some rules that are no bars of a bar code, which may be characters: upright ones, as many as these in the same rows, each with
+/// no more dots than a letter has. `scale` dots are one at 300 dots per inch.
+pub fn without_bars(alloc: Global, rules: &[Rule], scale: u32) -> Result<Vec<Rule>, AllocError> {
+    let mut kept = Vec::new(alloc);
+    for rule in rules {
+        let may_be_letter = rows_len(rule.width, rule.height, scale) > 0;
+        let is_bar = may_be_letter && rule.width < rule.height;
+        if !is_bar || count_beside(rule, rules) < LEAST_BARS {
+            kept.push(*rule)?;
+        }
+    }
+    Ok(kept)
+}
+
+/// How many rules are in the same rows as this one, with itself.
+pub fn count_beside(rule: &Rule, rules: &[Rule]) -> u32 {
+    let mut count: u32 = 0;
+    for other in rules {
+        if other.top == rule.top && other.height == rule.height {
+            count = count.saturating_add(1);
+        }
+    }
+    count
 }
 
 /// Whether a rectangle is thin enough for a rule.
