@@ -26,10 +26,14 @@ enum Lettered {
 }
 
 impl Lettering {
-    /// The letters and the rules of pages that were collected.
-    pub fn new(alloc: Global, collection: Collection) -> Result<Lettering, AllocError> {
+    /// The letters and the rules of pages that were collected, of a job of this many bytes.
+    pub fn new(
+        alloc: Global,
+        collection: Collection,
+        job_bytes: usize,
+    ) -> Result<Lettering, AllocError> {
         let mut collection = collection;
-        let letters = letters_of(alloc, &mut collection)?;
+        let letters = letters_of(alloc, &mut collection, job_bytes)?;
         Lettering::laid_out(alloc, collection, letters)
     }
 
@@ -100,12 +104,17 @@ impl Lettering {
     }
 }
 
-/// The letters of pages that were collected: none, at once, where these have no shapes. The shapes, by which they are found, are given up.
-fn letters_of(alloc: Global, collection: &mut Collection) -> Result<Letters, AllocError> {
+/// The letters of pages that were collected, of a job of this many bytes: none, at once, where these have no shapes. The shapes, by which
+/// they are found, are given up.
+fn letters_of(
+    alloc: Global,
+    collection: &mut Collection,
+    job_bytes: usize,
+) -> Result<Letters, AllocError> {
     if collection.placed.is_empty() && collection.tiles.is_empty() {
         return Ok(Letters::new(alloc));
     }
-    let letters = find_letters(alloc, collection)?;
+    let letters = find_letters(alloc, collection, job_bytes)?;
     collection.placed = Vec::new(alloc);
     collection.tiles = Vec::new(alloc);
     collection.rows = Vec::new(alloc);

@@ -1,15 +1,28 @@
 //! The shapes that are printed as letters.
 
-use crate::frequency::Frequency;
+use crate::frequency::{Frequency, find_frequency};
 use crate::joining::join_shapes;
 use crate::standing::{LineCount, Standing};
 use pcl_patterns::{Letter, LetterGlyph, Letters, number_of_place};
 use pcl_shapes::{Collection, PlacedShape};
 use std::alloc::{AllocError, Global};
 
-/// The letters of a job: the shapes of patterns that are so frequent that they take fewer bytes so, some of them joined.
-pub fn find_letters(alloc: Global, collection: &mut Collection) -> Result<Letters, AllocError> {
-    let frequency = join_shapes(alloc, collection)?;
+/// A job with letters isn't looked for where shapes take this many times the bytes of the job: what they take is known about.
+const HOPELESS_TIMES: usize = 2;
+
+/// The letters of a job of this many bytes: the shapes of patterns that are so frequent that they take fewer bytes so, some of them joined.
+/// None where all shapes take far more bytes than the job, as those of a page that macros print again and again: then no job with letters
+/// is shorter.
+pub fn find_letters(
+    alloc: Global,
+    collection: &mut Collection,
+    job_bytes: usize,
+) -> Result<Letters, AllocError> {
+    let frequency = find_frequency(alloc, collection)?;
+    if frequency.bytes_of_shapes(alloc, collection)? / HOPELESS_TIMES > job_bytes {
+        return Ok(Letters::new(alloc));
+    }
+    let frequency = join_shapes(alloc, collection, frequency)?;
     let standing = Standing::new(alloc, collection, &frequency)?;
     let mut found = Letters::new(alloc);
     append_letters(collection, &standing, &frequency, &mut found)?;

@@ -49,6 +49,28 @@ impl Frequency {
         usize::try_from(quotient(cost, all.saturating_mul(FINE))).unwrap_or(0)
     }
 
+    /// About how many bytes all shapes take at least: the letters a code each, and what prints them; the others what they take in rasters.
+    pub fn bytes_of_shapes(
+        &self,
+        alloc: Global,
+        collection: &Collection,
+    ) -> Result<usize, AllocError> {
+        let mut bytes: usize = 0;
+        for (place, count) in count_uses(alloc, collection)?.iter().enumerate() {
+            let pattern = number_of_place(place);
+            let taken = if self.is_letter(pattern) {
+                collection
+                    .patterns
+                    .definition_bytes(pattern)
+                    .saturating_add(*count)
+            } else {
+                self.raster_bytes(pattern, *count, *count)
+            };
+            bytes = bytes.saturating_add(taken);
+        }
+        Ok(bytes)
+    }
+
     /// Looks at all patterns once more, which have this many shapes. Says whether there are new letters.
     fn look_again(
         &mut self,

@@ -1,5 +1,4 @@
-//! Shapes of a line joined to one where that takes fewer bytes: those above each other, as the dot and the stem of an i, and rare letters
-//! side by side, of which one definition is sent then in place of two.
+//! Shapes that stand above each other on a line, as the dot and the stem of an i do, joined to one where that takes fewer bytes.
 
 use crate::frequency::{Frequency, count_uses, find_frequency};
 use indexmap::IndexMap;
@@ -17,13 +16,7 @@ const CODE_BYTES: usize = 2;
 /// How many kinds of pairs are counted in a round, at most.
 const PAIR_LIMIT: usize = 65_536;
 
-/// The letters of a word have no more dots between them than this, at 300 per inch.
-const GAP_LIMIT: u32 = 12;
-
-/// Patterns side by side are joined where each has no more shapes than this.
-const RARE_USES: usize = 2;
-
-/// Two patterns in turn on a line, no further apart than the letters of a word, and how they stand. The first one begins further left.
+/// Two patterns in turn on a line that have columns in common, and how they stand. The first one begins further left.
 #[derive(Clone, Copy, PartialEq, Eq, Hash)]
 struct Pair {
     /// The number of the first pattern.
@@ -44,9 +37,13 @@ struct Apart<'a> {
     uses: &'a [usize],
 }
 
-/// Joins shapes that stand above each other on a line, where that takes fewer bytes. Gives what the shapes of each pattern take then.
-pub fn join_shapes(alloc: Global, collection: &mut Collection) -> Result<Frequency, AllocError> {
-    let frequency = find_frequency(alloc, collection)?;
+/// Joins shapes that stand above each other on a line, where that takes fewer bytes. What the shapes of each pattern take is given, and gives
+/// what they take then.
+pub fn join_shapes(
+    alloc: Global,
+    collection: &mut Collection,
+    frequency: Frequency,
+) -> Result<Frequency, AllocError> {
     if join_in_rounds(alloc, collection, &frequency)? {
         find_frequency(alloc, collection)
     } else {
@@ -112,22 +109,19 @@ fn first_pairs(
     collection: &Collection,
     apart: Apart<'_>,
 ) -> Result<IndexMap<Pair, usize>, AllocError> {
-    let pairs = count_pairs(alloc, collection, apart)?;
+    let pairs = count_pairs(alloc, collection)?;
     shorter_pairs(alloc, collection, apart, &pairs)
 }
 
-/// How often each pair is there that may take fewer bytes as one.
+/// How often each pair is there.
 fn count_pairs(
     alloc: Global,
     collection: &Collection,
-    apart: Apart<'_>,
 ) -> Result<IndexMap<Pair, usize>, AllocError> {
     let mut counts = IndexMap::new(alloc);
     for place in 0..collection.placed.len() {
         if let Some(pair) = two_at(collection, place) {
-            if apart.may_be_longer(&collection.patterns, pair) {
-                count_pair(pair, &mut counts)?;
-            }
+            count_pair(pair, &mut counts)?;
         }
     }
     Ok(counts)
@@ -142,20 +136,14 @@ fn count_pair(pair: Pair, counts: &mut IndexMap<Pair, usize>) -> Result<(), Allo
     Ok(())
 }
 
-/// The pair of two shapes, the first of which begins no further right: none where they stand on two lines, or further apart than the
-/// letters of a word, at so many dots.
-fn pair_of(
-    patterns: &Patterns,
-    first: &PlacedShape,
-    second: &PlacedShape,
-    gap: u32,
-) -> Option<Pair> {
+/// The pair of two shapes, the first of which begins no further right: none where they stand on two lines, or beside each other.
+fn pair_of(patterns: &Patterns, first: &PlacedShape, second: &PlacedShape) -> Option<Pair> {
     if first.page != second.page || first.baseline != second.baseline {
         return None;
     }
     let right = u32::from(second.x.checked_sub(first.x)?);
     let width = patterns.width_of(first.pattern)?;
-    (right <= width.saturating_add(gap)).then_some(Pair {
+    (right < width).then_some(Pair {
         first: first.pattern,
         second: second.pattern,
         right,
@@ -193,22 +181,6 @@ fn keep_shorter(
 }
 
 impl<'a> Apart<'a> {
-    /// Whether a pair may take more bytes apart: its patterns have columns in common, or are rare.
-    fn may_be_longer(self, patterns: &Patterns, pair: Pair) -> bool {
-        let width = patterns.width_of(pair.first).unwrap_or(0);
-        pair.right < width || (self.is_rare(pair.first) && self.is_rare(pair.second))
-    }
-
-    /// Whether a pattern has few shapes.
-    fn is_rare(self, pattern: u32) -> bool {
-        self.uses_of(pattern) <= RARE_USES
-    }
-
-    /// How many shapes a pattern has.
-    fn uses_of(self, pattern: u32) -> usize {
-        self.uses.get(pattern as usize).copied().unwrap_or(0)
-    }
-
     /// Whether a pair takes more bytes apart than it does where it is joined so often.
     fn is_longer(
         self,
@@ -255,7 +227,7 @@ impl<'a> Apart<'a> {
 
     /// About how many bytes fewer a pattern takes without this many of its shapes: what prints it isn't sent where none is left.
     fn freed(self, collection: &Collection, pattern: u32, count: usize) -> usize {
-        let all = self.uses_of(pattern);
+        let all = self.uses.get(pattern as usize).copied().unwrap_or(0);
         if !self.frequency.is_letter(pattern) {
             return self.frequency.raster_bytes(pattern, count, all);
         }
@@ -388,8 +360,7 @@ impl PairWalk {
 fn two_at(collection: &Collection, place: usize) -> Option<Pair> {
     let first = collection.placed.get(place)?;
     let second = collection.placed.get(place.saturating_add(1))?;
-    let gap = GAP_LIMIT.saturating_mul(collection.form.scale());
-    pair_of(&collection.patterns, first, second, gap)
+    pair_of(&collection.patterns, first, second)
 }
 
 /// Joins these pairs, if there are any, and drops those for whose patterns there is no room.

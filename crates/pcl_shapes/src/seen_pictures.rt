@@ -2,6 +2,7 @@
 
 use crate::bands::{Band, Grid, Stretch};
 use crate::page_rows::Unpainted;
+use crate::shapes::Extent;
 use crate::tile_counts::TileCounts;
 use crate::tile_grids::numbers_of;
 use std::alloc::{AllocError, Global};
@@ -12,7 +13,7 @@ const LEAST_WIDTH: usize = 16;
 /// A picture has this many runs of black dots for each tile: text, whose letters take fewer bytes yet, has fewer, or tiles that are rare.
 const LEAST_RUNS: usize = 5;
 
-/// The stretches of the pictures of a page, from the topmost rows down, and how often all tiles of the page are there.
+/// The stretches of the pictures of a page, from the topmost rows down, and how often their tiles are there.
 #[derive(Drop)]
 pub struct SeenPictures {
     pub counts: TileCounts,
@@ -35,10 +36,11 @@ pub struct SeenStretch {
 }
 
 impl SeenPictures {
-    /// Those of a page whose tiles lie so, up to about this many tiles.
-    pub fn of_page(
+    /// Those of a part of a page whose tiles lie so, up to about this many tiles.
+    pub fn of_part(
         alloc: Global,
         page: Unpainted<'_>,
+        area: Extent,
         grid: Grid,
         limit: usize,
     ) -> Result<SeenPictures, AllocError> {
@@ -47,10 +49,9 @@ impl SeenPictures {
             tiles: Vec::new(alloc),
             stretches: Vec::new(alloc),
         };
-        let mut band = Band::new(alloc, page, grid, page.area());
-        for number in numbers_of(page, grid, page.area()) {
+        let mut band = Band::new(alloc, page, grid, area);
+        for number in numbers_of(page, grid, area) {
             band.read(grid.top_of(number))?;
-            pictures.counts.add(&band.tiles);
             if pictures.tiles.len() < limit {
                 pictures.append(&band)?;
             }
@@ -75,7 +76,9 @@ impl SeenPictures {
 
     /// Appends a stretch of a band.
     fn append_stretch(&mut self, band: &Band<'_>, stretch: Stretch) -> Result<(), AllocError> {
-        self.tiles.extend_from_slice(stretch.of(&band.tiles))?;
+        let tiles = stretch.of(&band.tiles);
+        self.counts.add(tiles);
+        self.tiles.extend_from_slice(tiles)?;
         self.stretches.push(SeenStretch {
             end: self.tiles.len(),
             left: band.left_of(stretch.start),

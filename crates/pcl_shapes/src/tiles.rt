@@ -76,18 +76,28 @@ pub fn find_tiles(
     limit: usize,
 ) -> Result<Vec<Tile>, AllocError> {
     let mut pictures = Pictures::none(alloc);
-    pictures.read(page, Grid::CORNER, limit)?;
+    pictures.read(page, page.area(), Grid::CORNER, limit)?;
     let Some(area) = pictures.area() else {
         return Ok(Vec::new(alloc));
     };
     let grid = best_grid(alloc, page, area)?;
     if grid != Grid::CORNER {
-        pictures.read(page, grid, limit)?;
+        pictures.read(page, area.with_neighbours(), grid, limit)?;
     }
     pictures.into_characters(alloc)
 }
 
 impl Extent {
+    /// The box with a tile more on each side, as far as these are on the page: tiles of another grid lie further right and down.
+    fn with_neighbours(self) -> Extent {
+        Extent {
+            left: self.left.saturating_sub(TILE_SIDE),
+            top: self.top.saturating_sub(TILE_SIDE),
+            right: self.right.saturating_add(TILE_SIDE),
+            bottom: self.bottom.saturating_add(TILE_SIDE),
+        }
+    }
+
     /// The box of a tile.
     fn of_tile(tile: Tile) -> Extent {
         Extent {
@@ -126,10 +136,18 @@ impl Pictures {
         }
     }
 
-    /// Reads those that lie so, up to about this many tiles, in place of these. Stretches that would gain nothing in one font are left out.
-    fn read(&mut self, page: Unpainted<'_>, grid: Grid, limit: usize) -> Result<(), AllocError> {
+    /// Reads those of a part of a page that lie so, up to about this many tiles, in place of these. Stretches that would gain nothing in one
+    /// font are left out.
+    fn read(
+        &mut self,
+        page: Unpainted<'_>,
+        area: Extent,
+        grid: Grid,
+        limit: usize,
+    ) -> Result<(), AllocError> {
         let alloc = *self.tiles.allocator();
-        let seen = SeenPictures::of_page(alloc, page, grid, limit.saturating_mul(SEEN_TILES))?;
+        let limit_seen = limit.saturating_mul(SEEN_TILES);
+        let seen = SeenPictures::of_part(alloc, page, area, grid, limit_seen)?;
         self.tiles.clear();
         self.stretches.clear();
         let mut start: usize = 0;
@@ -190,7 +208,8 @@ impl Pictures {
             return Ok(Vec::new(alloc));
         }
         let fonts = CodeFonts::of(alloc, &self.tiles)?;
-        let kept = self.shorter(alloc, &fonts)?;
+        let mut kept = self;
+        kept.keep_shorter(alloc, &fonts)?;
         if kept.are_few() || !kept.pay(alloc)? {
             return Ok(Vec::new(alloc));
         }
@@ -198,23 +217,25 @@ impl Pictures {
         Ok(tiles)
     }
 
-    /// Those of the stretches that gain more than what leads from font to font takes.
-    fn shorter(&self, alloc: Global, fonts: &CodeFonts) -> Result<Pictures, AllocError> {
-        let mut kept = Pictures::none(alloc);
+    /// Keeps those of the stretches that gain more than what leads from font to font takes. Their tiles move to the front.
+    fn keep_shorter(&mut self, alloc: Global, fonts: &CodeFonts) -> Result<(), AllocError> {
+        let mut kept = Vec::new(alloc);
+        let mut count: usize = 0;
         let mut start: usize = 0;
         for stretch in self.stretches.iter() {
             let tiles = self.tiles.get(start..stretch.end).unwrap_or(&[]);
             if fonts.bytes_between(tiles) < stretch.gain {
-                kept.tiles.extend_from_slice(tiles)?;
-                kept.stretches.push(PictureStretch {
-                    end: kept.tiles.len(),
-                    raster_bytes: stretch.raster_bytes,
-                    gain: stretch.gain,
+                count = move_forward(&mut self.tiles, start, stretch.end, count);
+                kept.push(PictureStretch {
+                    end: count,
+                    ..*stretch
                 })?;
             }
             start = stretch.end;
         }
-        Ok(kept)
+        self.tiles.truncate(count);
+        self.stretches = kept;
+        Ok(())
     }
 
     /// Whether all stretches together take fewer bytes as characters than in the raster: where others of the page are none, each of these
@@ -233,6 +254,20 @@ impl Pictures {
         }
         Ok(gain > 0)
     }
+}
+
+/// Moves the tiles from the place `start` up to the one before `end` to an earlier place, and gives the place after them.
+fn move_forward(tiles: &mut [Tile], start: usize, end: usize, place: usize) -> usize {
+    let mut place = place;
+    for from in start..end {
+        if let Some(tile) = tiles.get(from).copied() {
+            if let Some(free) = tiles.get_mut(place) {
+                *free = tile;
+            }
+            place = place.saturating_add(1);
+        }
+    }
+    place
 }
 
 /// Appends the tiles of a stretch that aren't white, two as one where they are often side by side. `seen` are all its tiles.

@@ -118,9 +118,10 @@ fn append_rule_through(
     Ok(())
 }
 
-/// The rule through a stack of rows whose dots are black: it goes up and down as far as they are. None where that is no rule.
+/// The rule through a stack of rows whose dots are black: it goes up and down as far as they are. None where that is no rule, or where what
+/// touches it is in these rows.
 fn rule_through(page: &PageStretches<'_>, stack: Rule) -> Option<Rule> {
-    if !is_slender(page.height(), stack.width) {
+    if !is_slender(page.height(), stack.width) || !is_bordered(page, stack) {
         return None;
     }
     let top = top_of(page, stack);
@@ -168,26 +169,31 @@ fn is_black(bitmap: &Bitmap, y: u32, rectangle: Rule) -> bool {
 
 /// Whether a black rectangle is a rule: long and thin, and mostly white on its left and right.
 fn is_upright_rule(page: &PageStretches<'_>, rule: Rule) -> bool {
-    let end = rule.left.saturating_add(rule.width);
-    let left = match rule.left.checked_sub(1) {
-        Some(beside) => black_in_column(page, beside, rule),
-        None => 0,
-    };
     rule.height >= least_length(page.bitmap.dpi())
         && is_slender(rule.height, rule.width)
-        && is_border(left, rule.height)
-        && is_border(black_in_column(page, end, rule), rule.height)
+        && is_bordered(page, rule)
 }
 
-/// How many dots of column `x` are black in the rows of a rule.
-fn black_in_column(page: &PageStretches<'_>, x: u32, rule: Rule) -> u32 {
+/// Whether a rectangle is mostly white on its left and right.
+fn is_bordered(page: &PageStretches<'_>, rectangle: Rule) -> bool {
+    let end = rectangle.left.saturating_add(rectangle.width);
+    let left = match rectangle.left.checked_sub(1) {
+        Some(beside) => black_in_column(page, beside, rectangle),
+        None => 0,
+    };
+    is_border(left, rectangle.height)
+        && is_border(black_in_column(page, end, rectangle), rectangle.height)
+}
+
+/// How many dots of column `x` are black in the rows of a rectangle.
+fn black_in_column(page: &PageStretches<'_>, x: u32, rectangle: Rule) -> u32 {
     let mut count: u32 = 0;
-    let mut y = rule.top;
-    for _ in 0..rule.height {
-        if y >= rule.bottom() {
+    let mut y = rectangle.top;
+    for _ in 0..rectangle.height {
+        if y >= rectangle.bottom() {
             break;
         }
-        let end = page.end_of(y).min(rule.bottom());
+        let end = page.end_of(y).min(rectangle.bottom());
         let black = black_dots(row_at(page.bitmap, y), x, x.saturating_add(1));
         count = count.saturating_add(black.saturating_mul(end.saturating_sub(y)));
         y = end;

@@ -116,7 +116,7 @@ fn propose_letters<P: ShrinkWatcher>(
     if shifts.contains(&Shift::HalfLower) && says_length(asks) {
         return Ok(None);
     }
-    let lettering = Lettering::new(source.alloc, shapes)?;
+    let lettering = Lettering::new(source.alloc, shapes, source.job.len())?;
     lettered(source, shifts, asks, plain, &lettering, watcher)
 }
 
