@@ -45,6 +45,40 @@ const BOXES: [Rectangle; 24] = [
     [520, 310, 40, 12],
 ];
 
+/// Bars of two widths, at distances of 16, 24 and 32 dots.
+const BARS: [Rectangle; 30] = [
+    [0, 101, 16, 200],
+    [32, 101, 8, 200],
+    [56, 101, 16, 200],
+    [88, 101, 8, 200],
+    [104, 101, 16, 200],
+    [136, 101, 16, 200],
+    [160, 101, 16, 200],
+    [192, 101, 16, 200],
+    [224, 101, 8, 200],
+    [248, 101, 8, 200],
+    [264, 101, 8, 200],
+    [280, 101, 8, 200],
+    [296, 101, 16, 200],
+    [328, 101, 8, 200],
+    [352, 101, 8, 200],
+    [376, 101, 16, 200],
+    [408, 101, 8, 200],
+    [424, 101, 8, 200],
+    [440, 101, 8, 200],
+    [464, 101, 16, 200],
+    [496, 101, 16, 200],
+    [520, 101, 16, 200],
+    [552, 101, 16, 200],
+    [584, 101, 16, 200],
+    [616, 101, 16, 200],
+    [648, 101, 8, 200],
+    [672, 101, 8, 200],
+    [688, 101, 8, 200],
+    [712, 101, 16, 200],
+    [736, 101, 16, 200],
+];
+
 /// Pages of letters, in lines, and of rectangles.
 #[derive(Clone, Copy)]
 pub struct GlyphCase {
@@ -672,38 +706,7 @@ pub const CASES: [GlyphCase; 75] = [
     // one or two, and 202 for the 199 rows like it.
     GlyphCase {
         name: "more bars than pay",
-        rectangles: &[
-            [0, 101, 16, 200],
-            [32, 101, 8, 200],
-            [56, 101, 16, 200],
-            [88, 101, 8, 200],
-            [104, 101, 16, 200],
-            [136, 101, 16, 200],
-            [160, 101, 16, 200],
-            [192, 101, 16, 200],
-            [224, 101, 8, 200],
-            [248, 101, 8, 200],
-            [264, 101, 8, 200],
-            [280, 101, 8, 200],
-            [296, 101, 16, 200],
-            [328, 101, 8, 200],
-            [352, 101, 8, 200],
-            [376, 101, 16, 200],
-            [408, 101, 8, 200],
-            [424, 101, 8, 200],
-            [440, 101, 8, 200],
-            [464, 101, 16, 200],
-            [496, 101, 16, 200],
-            [520, 101, 16, 200],
-            [552, 101, 16, 200],
-            [584, 101, 16, 200],
-            [616, 101, 16, 200],
-            [648, 101, 8, 200],
-            [672, 101, 8, 200],
-            [688, 101, 8, 200],
-            [712, 101, 16, 200],
-            [736, 101, 16, 200],
-        ],
+        rectangles: &BARS,
         ..RULE
     },
     // 22 as a rectangle. A raster that starts at the rule takes five bytes more than the white one there, and 11 for its row: 16 beside
@@ -734,6 +737,14 @@ pub const CASES: [GlyphCase; 75] = [
         name: "boxes on a moved page",
         start: b"\x1b&l36Z",
         rectangles: &BOXES,
+        ..RULE
+    },
+    // 2 for the reset, 6 for the offset, 79 for the font, 64 for two characters of a row that is repeated, 33 of the page text, 8 for the
+    // selection, 9 to the line, 30 codes, 19 spaces between them, a form feed, and the reset.
+    GlyphCase {
+        name: "more bars than pay, on a moved page",
+        start: b"\x1b&l36Z",
+        rectangles: &BARS,
         ..RULE
     },
     // 2 for the reset, 79 for the font, 460 for its characters, 33 of the page text, 8 for the selection, 20 for the line feed and its

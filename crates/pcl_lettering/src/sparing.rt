@@ -6,9 +6,9 @@ use pcl_shapes::{RowRules, Rule, are_equal, ink_dots, row_bytes};
 use std::alloc::{AllocError, Global};
 use std::mem::swap;
 
-/// Rectangles are surely shorter where the raster is shorter without their dots by three halves of their bytes: what rows take is known
+/// Rectangles are surely shorter where the raster is shorter without their dots by five quarters of their bytes: what rows take is known
 /// about.
-const SURE_HALVES: usize = 3;
+const SURE_QUARTERS: usize = 5;
 
 /// Whether rectangles of this many bytes surely take fewer than the dots of their rules in the raster of a page, which has no dots of
 /// these here.
@@ -36,7 +36,7 @@ pub fn are_surely_shorter(
         above = row;
     }
     let spared = raster.ruled.saturating_sub(raster.unruled);
-    Ok(spared.saturating_mul(2) >= rectangles.saturating_mul(SURE_HALVES))
+    Ok(spared.saturating_mul(4) >= rectangles.saturating_mul(SURE_QUARTERS))
 }
 
 /// The rows of a page with its rules, where they have dots.

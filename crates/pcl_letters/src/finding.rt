@@ -7,19 +7,20 @@ use pcl_patterns::{Letter, LetterGlyph, Letters, number_of_place};
 use pcl_shapes::{Collection, PlacedShape};
 use std::alloc::{AllocError, Global};
 
-/// A job with letters isn't looked for where shapes take this many times the bytes of the job: what they take is known about.
-const HOPELESS_TIMES: usize = 2;
+/// What shapes take is taken to be less by one part of this many where a job is to be shorter: it is known about.
+const UNSURE_PART: usize = 5;
 
 /// The letters of a job of this many bytes: the shapes of patterns that are so frequent that they take fewer bytes so, some of them joined.
-/// None where all shapes take far more bytes than the job, as those of a page that macros print again and again: then no job with letters
-/// is shorter.
+/// None where all shapes take more bytes than the job, as those of a page that macros print again and again: then no job with letters is
+/// shorter.
 pub fn find_letters(
     alloc: Global,
     collection: &mut Collection,
     job_bytes: usize,
 ) -> Result<Letters, AllocError> {
     let frequency = find_frequency(alloc, collection)?;
-    if frequency.bytes_of_shapes(alloc, collection)? / HOPELESS_TIMES > job_bytes {
+    let bytes = frequency.bytes_of_shapes(alloc, collection)?;
+    if bytes.saturating_sub(bytes / UNSURE_PART) > job_bytes {
         return Ok(Letters::new(alloc));
     }
     let frequency = join_shapes(alloc, collection, frequency)?;
