@@ -739,7 +739,7 @@ pub const CASES: [GlyphCase; 75] = [
         rectangles: &BOXES,
         ..RULE
     },
-    // 2 for the reset, 6 for the offset, 79 for the font, 64 for two characters of a row that is repeated, 33 of the page text, 8 for the
+    // 2 for the reset, 6 for the offset, 79 for the font, 62 for two characters of a row that is repeated, 33 of the page text, 8 for the
     // selection, 9 to the line, 30 codes, 19 spaces between them, a form feed, and the reset.
     GlyphCase {
         name: "more bars than pay, on a moved page",
