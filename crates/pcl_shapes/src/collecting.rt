@@ -21,7 +21,7 @@ const SHAPE_LIMIT: usize = 4_000_000;
 
 /// After this many shapes, and one more for this many bytes of the texts of the pages, no further pages are looked at either: shapes
 /// of text take some thirty bytes each in a raster.
-const FIRST_SHAPES: usize = 32_768;
+const FIRST_SHAPES: usize = 16_384;
 
 const SHAPE_BYTES: usize = 24;
 
@@ -274,7 +274,17 @@ impl Collection {
         let scale = self.form.scale();
         let bottoms = count_bottoms(alloc, page.height(), &shapes.extents, scale)?;
         let mut drawings = Drawings::new(alloc, shapes, stay, scale)?;
+        self.reserve_placed(stay.iter().filter(|stays| !**stays).count())?;
         self.collect_rows(page, &shapes.runs, first, &mut drawings, &bottoms)
+    }
+
+    /// Makes room for this many shapes more, and for a quarter of those that are there at least.
+    fn reserve_placed(&mut self, count: usize) -> Result<(), AllocError> {
+        let len = self.placed.len();
+        if self.placed.capacity().saturating_sub(len) < count {
+            self.placed.reserve_exact(count.max(len / 4))?;
+        }
+        Ok(())
     }
 
     /// Draws the shapes of a page with these runs, of whose rows the first is in this place, and collects them. This many shapes end above

@@ -19,11 +19,12 @@ pub struct BlackRun {
     pub label: u32,
 }
 
-/// After this many labels no further runs are looked for on a page: its shapes are the dots of a picture, and each label takes memory.
+/// After this many labels no further runs are looked for on a page: its shapes are the dots of a picture, and each label takes memory. With
+/// those of a row more they are less than a power of two, by which lists grow.
 fn label_limit(dpi: Dpi) -> u32 {
     match dpi {
-        Dpi::Dpi300 => 131_072,
-        Dpi::Dpi600 => 262_144,
+        Dpi::Dpi300 => 130_000,
+        Dpi::Dpi600 => 260_000,
     }
 }
 
