@@ -180,7 +180,7 @@ const FINE_RULE: GlyphCase = GlyphCase {
     ..RULE
 };
 
-pub const CASES: [GlyphCase; 75] = [
+pub const CASES: [GlyphCase; 76] = [
     LINE,
     GlyphCase {
         name: "one letter",
