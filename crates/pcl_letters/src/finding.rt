@@ -52,6 +52,7 @@ fn append_letters(
 
 /// Appends the tiles of a job, each of which stands on the row below it.
 fn append_tiles(collection: &Collection, found: &mut Letters) -> Result<(), AllocError> {
+    found.letters.reserve_exact(collection.tiles.len())?;
     for tile in collection.tiles.iter() {
         let top = i32::from(tile.baseline.saturating_sub(tile.top));
         append_letter(tile, top, collection.height_of(tile.page), found)?;
