@@ -2,7 +2,6 @@
 
 use crate::bands::{Band, Grid, Stretch};
 use crate::page_rows::Unpainted;
-use crate::shapes::Extent;
 use crate::tile_counts::TileCounts;
 use crate::tile_grids::numbers_of;
 use std::alloc::{AllocError, Global};
@@ -36,11 +35,10 @@ pub struct SeenStretch {
 }
 
 impl SeenPictures {
-    /// Those of a part of a page whose tiles lie so, up to about this many tiles.
-    pub fn of_part(
+    /// Those of a page whose tiles lie so, up to about this many tiles.
+    pub fn of_page(
         alloc: Global,
         page: Unpainted<'_>,
-        area: Extent,
         grid: Grid,
         limit: usize,
     ) -> Result<SeenPictures, AllocError> {
@@ -49,8 +47,8 @@ impl SeenPictures {
             tiles: Vec::new(alloc),
             stretches: Vec::new(alloc),
         };
-        let mut band = Band::new(alloc, page, grid, area);
-        for number in numbers_of(page, grid, area) {
+        let mut band = Band::new(alloc, page, grid, page.area());
+        for number in numbers_of(page, grid, page.area()) {
             band.read(grid.top_of(number))?;
             if pictures.tiles.len() < limit {
                 pictures.append(&band)?;

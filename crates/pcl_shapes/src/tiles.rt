@@ -76,28 +76,18 @@ pub fn find_tiles(
     limit: usize,
 ) -> Result<Vec<Tile>, AllocError> {
     let mut pictures = Pictures::none(alloc);
-    pictures.read(page, page.area(), Grid::CORNER, limit)?;
+    pictures.read(page, Grid::CORNER, limit)?;
     let Some(area) = pictures.area() else {
         return Ok(Vec::new(alloc));
     };
     let grid = best_grid(alloc, page, area)?;
     if grid != Grid::CORNER {
-        pictures.read(page, area.with_neighbours(), grid, limit)?;
+        pictures.read(page, grid, limit)?;
     }
     pictures.into_characters(alloc)
 }
 
 impl Extent {
-    /// The box with a tile more on each side, as far as these are on the page: tiles of another grid lie further right and down.
-    fn with_neighbours(self) -> Extent {
-        Extent {
-            left: self.left.saturating_sub(TILE_SIDE),
-            top: self.top.saturating_sub(TILE_SIDE),
-            right: self.right.saturating_add(TILE_SIDE),
-            bottom: self.bottom.saturating_add(TILE_SIDE),
-        }
-    }
-
     /// The box of a tile.
     fn of_tile(tile: Tile) -> Extent {
         Extent {
@@ -136,18 +126,10 @@ impl Pictures {
         }
     }
 
-    /// Reads those of a part of a page that lie so, up to about this many tiles, in place of these. Stretches that would gain nothing in one
-    /// font are left out.
-    fn read(
-        &mut self,
-        page: Unpainted<'_>,
-        area: Extent,
-        grid: Grid,
-        limit: usize,
-    ) -> Result<(), AllocError> {
+    /// Reads those that lie so, up to about this many tiles, in place of these. Stretches that would gain nothing in one font are left out.
+    fn read(&mut self, page: Unpainted<'_>, grid: Grid, limit: usize) -> Result<(), AllocError> {
         let alloc = *self.tiles.allocator();
-        let limit_seen = limit.saturating_mul(SEEN_TILES);
-        let seen = SeenPictures::of_part(alloc, page, area, grid, limit_seen)?;
+        let seen = SeenPictures::of_page(alloc, page, grid, limit.saturating_mul(SEEN_TILES))?;
         self.tiles.clear();
         self.stretches.clear();
         let mut start: usize = 0;
