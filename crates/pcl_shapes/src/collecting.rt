@@ -20,10 +20,10 @@ use std::marker::Model;
 const SHAPE_LIMIT: usize = 4_000_000;
 
 /// After this many shapes, and one more for this many bytes of the texts of the pages, no further pages are looked at either: shapes
-/// of text take more bytes each in a raster.
-const FIRST_SHAPES: usize = 4_096;
+/// of text take some thirty bytes each in a raster, but at 75 dots per inch ten.
+const FIRST_SHAPES: usize = 32_768;
 
-const SHAPE_BYTES: usize = 30;
+const SHAPE_BYTES: usize = 24;
 
 /// After this many tiles, and one more for as many bytes of the texts, no further pictures are cut in tiles.
 const FIRST_TILES: usize = 65_536;
