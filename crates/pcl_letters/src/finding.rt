@@ -7,7 +7,7 @@ use pcl_patterns::{Letter, LetterGlyph, Letters, number_of_place};
 use pcl_shapes::{Collection, PlacedShape};
 use std::alloc::{AllocError, Global};
 
-/// What shapes take is taken to be less by one part of this many where a job is to be shorter: it is known about.
+/// What shapes take is known about: no letters are looked for only where it is too much even without one part of this many.
 const UNSURE_PART: usize = 5;
 
 /// The letters of a job of this many bytes: the shapes of patterns that are so frequent that they take fewer bytes so, some of them joined.

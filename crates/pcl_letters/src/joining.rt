@@ -37,8 +37,8 @@ struct Apart<'a> {
     uses: &'a [usize],
 }
 
-/// Joins shapes that stand above each other on a line, where that takes fewer bytes. What the shapes of each pattern take is given, and gives
-/// what they take then.
+/// Joins shapes that stand above each other on a line, where that takes fewer bytes. `frequency` is what the shapes of each pattern take;
+/// gives what they take then.
 pub fn join_shapes(
     alloc: Global,
     collection: &mut Collection,

@@ -274,17 +274,7 @@ impl Collection {
         let scale = self.form.scale();
         let bottoms = count_bottoms(alloc, page.height(), &shapes.extents, scale)?;
         let mut drawings = Drawings::new(alloc, shapes, stay, scale)?;
-        self.reserve_placed(stay.iter().filter(|stays| !**stays).count())?;
         self.collect_rows(page, &shapes.runs, first, &mut drawings, &bottoms)
-    }
-
-    /// Makes room for this many shapes more, and for a quarter of those that are there at least.
-    fn reserve_placed(&mut self, count: usize) -> Result<(), AllocError> {
-        let len = self.placed.len();
-        if self.placed.capacity().saturating_sub(len) < count {
-            self.placed.reserve_exact(count.max(len / 4))?;
-        }
-        Ok(())
     }
 
     /// Draws the shapes of a page with these runs, of whose rows the first is in this place, and collects them. This many shapes end above

@@ -119,8 +119,8 @@ pub fn least_length(dpi: Dpi) -> u32 {
     }
 }
 
-/// Those of some rules that are no bars of a bar code, which may be characters: upright ones, as many as these in the same rows, each with
-/// no more dots than a letter has. `scale` dots are one at 300 dots per inch.
+/// Those of some rules that are no bars of a bar code. Bars may be characters: they are upright, `LEAST_BARS` or more are in the same rows,
+/// and each has no more dots than a letter may have. `scale` dots are one at 300 dots per inch.
 pub fn without_bars(alloc: Global, rules: &[Rule], scale: u32) -> Result<Vec<Rule>, AllocError> {
     let mut kept = Vec::new(alloc);
     for rule in rules {
