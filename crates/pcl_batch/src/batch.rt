@@ -1,18 +1,19 @@
 //! A batch: its jobs, one after the other, the report, and how it ends.
 
 ghost use Rattle.std.specs.Prelude.{◌≡◌, IfOk, IfErr};
-ghost use Rattle.pcl_report.specs.Reports.{IsHonest};
+ghost use Rattle.pcl_batch.specs.inner.Reports.{IsHonest};
 ghost use Rattle.pcl_batch.specs.Failing.{HasFailingStatus};
 ghost use Rattle.pcl_batch.specs.inner.Jobs.{IsHonestTally};
 
 use crate::job::write_job;
 use crate::names::Name;
+use crate::paths::Paths;
 use crate::reasons::{Obstacle, Reason};
+use crate::report::{ReportEntry, Totals, header};
 use crate::rewriter::Rewriter;
 use indexmap::IndexSet;
 use itoa::Buffer;
 use pcl_files::{Failure, FileFault, JobFiles, Reporter};
-use pcl_report::{Paths, ReportEntry, Totals, header};
 use pcl_request::{Batch, Destination, Rewriting};
 use pcl_streams::{Fault, write_all};
 use std::alloc::{AllocError, Global};

@@ -1,16 +1,18 @@
 //! One job of a batch: what it is, what lies in its place, and what is to be done.
 
 ghost use Rattle.std.specs.Prelude.{◌≢◌, IfOk};
-ghost use Rattle.pcl_report.specs.Reports.{IsHonest};
+ghost use Rattle.pcl_batch.specs.inner.Reports.{IsHonest};
 ghost use Rattle.pcl_batch.specs.inner.Jobs.{FailsByReason, IsFailing};
 
+use crate::paths::{Paths, file_name};
 use crate::reasons::{Obstacle, Reason};
+use crate::report::{Outcome, ReportEntry};
 use crate::rewriter::Rewriter;
+use crate::sums::{FileSum, Sums, sums_text};
 use crate::writing::write_again;
 use pcl_base::{Dpi, JobFault};
 use pcl_files::{FileKind, JobFiles, read_file, resolve};
 use pcl_page::{Readers, page_count};
-use pcl_report::{FileSum, Outcome, Paths, ReportEntry, Sums, file_name, sums_text};
 use pcl_request::{Batch, Destination, Profiles, Rewriting};
 use pcl_streams::Fault;
 use std::alloc::{AllocError, Global};

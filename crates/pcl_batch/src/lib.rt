@@ -1,12 +1,15 @@
 //! Many jobs, one after the other: each is written again into a folder, beside the digests of both, and a report says what came of
-//! it. What writes one again is given.
+//! it (docs/BATCH.md). What writes one again is given. Nothing is promised of the report's text.
 #![tactic(auto)]
 
 mod batch;
 mod job;
 mod names;
+mod paths;
 mod reasons;
+mod report;
 mod rewriter;
+mod sums;
 mod writing;
 
 pub use names::run_named;

@@ -6,9 +6,10 @@ ghost use Rattle.pcl_batch.specs.inner.Jobs.{FailsByReason};
 
 use crate::job::{Came, Found, Job, find};
 use crate::reasons::{Obstacle, Reason};
+use crate::report::Outcome;
 use crate::rewriter::{Rewriter, Rewritten};
+use crate::sums::{FileSum, sums_text};
 use pcl_files::{Failure, JobFiles, settle, settle_both, write_file};
-use pcl_report::{FileSum, Outcome, sums_text};
 use pcl_streams::{Fault, write_all};
 use std::alloc::{AllocError, Global};
 

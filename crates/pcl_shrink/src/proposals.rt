@@ -12,11 +12,11 @@ use crate::reading::ReadJob;
 use crate::shifts::Shift;
 use crate::texts::{Found, page_texts};
 use crate::watching::ShrinkWatcher;
+use glyph_pages::Lettering;
+use glyph_shapes::Collection;
 use pcl_base::JobFault;
-use pcl_lettering::Lettering;
 use pcl_page::{Asks, Doubt};
 use pcl_same::KeptJob;
-use pcl_shapes::Collection;
 use std::alloc::AllocError;
 
 /// What is proposed for a job, and what it is measured by.

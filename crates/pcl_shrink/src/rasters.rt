@@ -5,9 +5,9 @@ ghost use Rattle.pcl_writer.specs.Appending.{IsWrittenPage};
 
 use crate::shifts::{Shift, shift_at};
 use crate::squares::{coarse_page, common_side};
+use glyph_patterns::append_labelled;
 use pcl_base::Dpi;
 use pcl_page::Page;
-use pcl_patterns::append_labelled;
 use pcl_plan::plan;
 use pcl_writer::write_page;
 use std::alloc::{AllocError, Global};

@@ -4,12 +4,12 @@ ghost use Rattle.pcl_shrink.specs.inner.Kept.{IsReadFinely};
 
 use crate::keeping::room_of;
 use crate::watching::{Pass, ShrinkWatcher};
+use glyph_patterns::{FontKind, Form};
+use glyph_shapes::are_equal;
 use pcl_base::{Dpi, JobFault, Profile};
 use pcl_bitmap::{Bitmap, trimmed_len};
 use pcl_page::{Doubt, Page, PageSink, perform_doubted};
-use pcl_patterns::{FontKind, Form};
 use pcl_same::{KeptJob, PageKeeper};
-use pcl_shapes::are_equal;
 use std::alloc::{AllocError, Global};
 use std::marker::Model;
 

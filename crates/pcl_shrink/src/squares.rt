@@ -3,10 +3,10 @@
 ghost use Rattle.std.specs.Prelude.{◌≡◌, length};
 ghost use Rattle.pcl_bitmap.specs.Bitmap.{IsPicture};
 
+use glyph_shapes::{append_edges, are_equal};
 use pcl_base::{Dpi, ROW_LIMIT};
 use pcl_bitmap::Bitmap;
 use pcl_page::Page;
-use pcl_shapes::{append_edges, are_equal};
 use std::alloc::{AllocError, Global};
 
 /// The number that all sides divide of squares of one ink each, from the upper left corner on, of which a page consists: 0 where it is

@@ -6,10 +6,10 @@ use crate::rasters::{Text, page_text};
 use crate::reading::ReadJob;
 use crate::shifts::{Shift, form_of, shift_at};
 use crate::watching::{NoWatcher, Pass, ShrinkWatcher};
+use glyph_shapes::Collection;
 use pcl_base::{Dpi, JobFault, Profile};
 use pcl_page::{Asks, Doubt, Page, PageSink, perform_doubted};
 use pcl_same::PageKeeper;
-use pcl_shapes::Collection;
 use std::alloc::{AllocError, Global};
 use std::marker::Model;
 

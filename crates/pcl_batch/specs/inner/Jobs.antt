@@ -1,7 +1,7 @@
 -- What came of jobs, and the worst of their statuses.
 use Rattle.std.specs.Prelude.{◌≡◌, ◌≢◌, ◌↔◌}
-use Rattle.pcl_report.specs.Reports.{HasNoFailure}
-use Rattle.pcl_report.specs.declared.report.Outcome.TheVariants as report
+use Rattle.pcl_batch.specs.inner.Reports.{HasNoFailure}
+use Rattle.pcl_batch.specs.declared.report.Outcome.TheVariants as report
 use Rattle.pcl_batch.specs.declared.batch.Tally.{Tally}
 use Rattle.pcl_batch.specs.declared.job.Came.{Came}
 use Rattle.pcl_batch.specs.declared.job.Came.TheVariants.{Done, Failed}

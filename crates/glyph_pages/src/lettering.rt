@@ -1,0 +1,185 @@
+//! What of a job goes as letters and as rules, and how.
+
+use crate::character_writing::CharacterWriter;
+use crate::macro_writing::MacroWriter;
+use crate::rule_writing::RulePen;
+use glyph_fonts::{FontLayout, append_fonts, append_unit, lay_out};
+use glyph_letters::find_letters;
+use glyph_macros::{MacroLayout, append_definitions, append_settings, lay_out_macros};
+use glyph_patterns::{Form, Letters};
+use glyph_shapes::{Collection, Rules};
+use pcl_bitmap::Page;
+use std::alloc::{AllocError, Global};
+
+/// The letters of a job, and its rules.
+#[derive(Drop)]
+pub struct Lettering {
+    letters: Lettered,
+    rules: Rules,
+}
+
+/// The letters of a job: as characters of soft fonts, or as macros.
+#[derive(Drop)]
+enum Lettered {
+    Characters(FontLayout),
+    Macros(MacroLayout),
+}
+
+impl Lettering {
+    /// The letters and the rules of pages that were collected, of a job of this many bytes.
+    pub fn new(
+        alloc: Global,
+        collection: Collection,
+        job_bytes: usize,
+    ) -> Result<Lettering, AllocError> {
+        let mut collection = collection;
+        let letters = letters_of(alloc, &mut collection, job_bytes)?;
+        Lettering::laid_out(alloc, collection, letters)
+    }
+
+    /// These letters of pages that were collected, laid out as their resolution wants.
+    fn laid_out(
+        alloc: Global,
+        collection: Collection,
+        letters: Letters,
+    ) -> Result<Lettering, AllocError> {
+        let Collection {
+            form,
+            widths,
+            rules,
+            patterns,
+            ..
+        } = collection;
+        let letters = match form {
+            Form::Characters(kind) => {
+                Lettered::Characters(lay_out(alloc, kind, &widths, patterns, letters)?)
+            }
+            Form::Macros { scale } => {
+                let layout = lay_out_macros(alloc, scale, &widths, patterns, letters)?;
+                Lettered::Macros(layout)
+            }
+        };
+        Ok(Lettering { letters, rules })
+    }
+
+    /// Whether there is none: no shape takes fewer bytes as a letter, and there is no rule.
+    pub fn is_empty(&self) -> bool {
+        self.rules.is_empty()
+            && match &self.letters {
+                Lettered::Characters(layout) => layout.letters.letters.is_empty(),
+                Lettered::Macros(layout) => layout.letters.letters.is_empty(),
+            }
+    }
+
+    /// Appends what is sent before pages with letters: the fonts or the macros. A reset deletes them.
+    pub fn append_start(&self, alloc: Global, out: &mut Vec<u8>) -> Result<(), AllocError> {
+        match &self.letters {
+            Lettered::Characters(layout) => append_fonts(layout, out),
+            Lettered::Macros(layout) => append_definitions(alloc, layout, out),
+        }
+    }
+
+    /// Appends what makes the fonts or the macros permanent: then a reset leaves them.
+    pub fn append_permanent(&self, out: &mut Vec<u8>) -> Result<(), AllocError> {
+        match &self.letters {
+            Lettered::Characters(layout) => glyph_fonts::append_permanent(layout, out),
+            Lettered::Macros(layout) => glyph_macros::append_permanent(layout, out),
+        }
+    }
+
+    /// Appends what is sent after a reset that left the fonts or the macros, before pages with letters.
+    pub fn append_settings(&self, out: &mut Vec<u8>) -> Result<(), AllocError> {
+        match &self.letters {
+            Lettered::Characters(layout) => append_unit(layout, out),
+            Lettered::Macros(layout) => append_settings(layout, out),
+        }
+    }
+
+    /// Appends what deletes the fonts or the macros.
+    pub fn append_deletion(&self, out: &mut Vec<u8>) -> Result<(), AllocError> {
+        match &self.letters {
+            Lettered::Characters(layout) => glyph_fonts::append_deletion(layout, out),
+            Lettered::Macros(layout) => glyph_macros::append_deletion(layout, out),
+        }
+    }
+}
+
+/// The letters of pages that were collected, of a job of this many bytes: none, at once, where these have no shapes. The shapes, by which
+/// they are found, are given up.
+fn letters_of(
+    alloc: Global,
+    collection: &mut Collection,
+    job_bytes: usize,
+) -> Result<Letters, AllocError> {
+    if collection.placed.is_empty() && collection.tiles.is_empty() {
+        return Ok(Letters::new(alloc));
+    }
+    let letters = find_letters(alloc, collection, job_bytes)?;
+    collection.placed = Vec::new(alloc);
+    collection.tiles = Vec::new(alloc);
+    collection.rows = Vec::new(alloc);
+    Ok(letters)
+}
+
+/// Writes the pages of a job with its letters and its rules, one after the other.
+#[derive(Drop)]
+pub struct PageWriter<'a> {
+    rules: &'a Rules,
+    /// How many pages came.
+    page: u32,
+    letters: FormWriter<'a>,
+    /// The size of rectangles that the printer holds.
+    pen: RulePen,
+}
+
+/// Writes the letters of pages in their form.
+#[derive(Drop)]
+enum FormWriter<'a> {
+    Characters(CharacterWriter<'a>),
+    Macros(MacroWriter<'a>),
+}
+
+impl<'a> PageWriter<'a> {
+    /// At the first page. Whether the line spacing is to be the default again after each page is given.
+    pub fn new(lettering: &'a Lettering, keeps_spacing: bool) -> PageWriter<'a> {
+        PageWriter {
+            rules: &lettering.rules,
+            page: 0,
+            letters: match &lettering.letters {
+                Lettered::Characters(layout) => {
+                    FormWriter::Characters(CharacterWriter::new(layout, keeps_spacing))
+                }
+                Lettered::Macros(layout) => FormWriter::Macros(MacroWriter::new(layout)),
+            },
+            pen: RulePen::new(),
+        }
+    }
+
+    /// Goes on after a reset.
+    pub fn restart(&mut self) {
+        self.pen = RulePen::new();
+        match &mut self.letters {
+            FormWriter::Characters(writer) => writer.restart(),
+            FormWriter::Macros(writer) => writer.restart(),
+        }
+    }
+
+    /// Appends the next page, of which this is a text without letters: that text, or one with letters where it takes fewer bytes, and
+    /// with its rules as rectangles where that takes fewer yet.
+    pub fn append_page(
+        &mut self,
+        page: &Page,
+        plain: &[u8],
+        out: &mut Vec<u8>,
+    ) -> Result<(), AllocError> {
+        let rules = self.rules.of_page(self.page);
+        self.page = self.page.saturating_add(1);
+        self.pen = match &mut self.letters {
+            FormWriter::Characters(writer) => {
+                writer.append_page(page, plain, rules, self.pen, out)?
+            }
+            FormWriter::Macros(writer) => { writer.append_page(page, plain, rules, self.pen, out)? }
+        };
+        Ok(())
+    }
+}

@@ -1,0 +1,249 @@
+//! Rasters of what of a page isn't printed as text.
+
+ghost use Rattle.std.specs.Prelude.{◌≡◌};
+ghost use Rattle.pcl_bitmap.specs.Bitmap.{IsPicture};
+
+use crate::corners::{bits_of, corner_of, page_from};
+use crate::rule_writing::{RulePen, append_rules, sparse_rules};
+use crate::shortening::shortened;
+use crate::sparing::are_surely_shorter;
+use glyph_patterns::{Dot, Letter, Letters, Patterns, StampInk, stamp};
+use glyph_shapes::{Rule, ink_rules};
+use pcl_bitmap::{Bitmap, Ink, Page, trimmed_len};
+use pcl_plan::plan;
+use pcl_writer::write_page;
+use std::alloc::{AllocError, Global};
+
+/// This many rows of a page are without their letters at a time.
+const BAND_ROWS: u32 = 512;
+
+/// The form feed that ends a page.
+pub const FORM_FEED: u8 = 12;
+
+/// What of a page isn't sent as a raster.
+#[derive(Clone, Copy)]
+pub struct Taken<'a> {
+    /// The patterns of the job, and its letters.
+    pub patterns: &'a Patterns,
+    pub found: &'a Letters,
+    /// The letters of the page.
+    pub letters: &'a [Letter],
+    /// The rules of the page.
+    pub rules: &'a [Rule],
+    /// The ID of a macro that no letter has.
+    pub free_id: u32,
+}
+
+impl<'a> Taken<'a> {
+    /// Whether all of the page is sent as a raster.
+    pub fn is_empty(self) -> bool {
+        self.letters.is_empty() && self.rules.is_empty()
+    }
+}
+
+/// What of a page is neither a letter nor, as a rectangle, a rule: a page text without its form feed, and the rectangles. The letters
+/// are appended to it.
+#[derive(Drop)]
+pub struct Rest {
+    pub text: Vec<u8>,
+    /// The size of rectangles that the printer holds after it.
+    pen: RulePen,
+    /// Whether a raster with its rules is surely longer.
+    is_sure: bool,
+}
+
+impl Rest {
+    /// Appends it with the letters of its page, or this text of the page without any where that has no more bytes. Gives the size of
+    /// rectangles that the printer holds then, where it has the letters.
+    pub fn append_if_shorter(
+        self,
+        plain: &[u8],
+        out: &mut Vec<u8>,
+    ) -> Result<Option<RulePen>, AllocError> {
+        if self.text.len() >= plain.len() {
+            out.extend_from_slice(plain)?;
+            return Ok(None);
+        }
+        out.extend_from_slice(&self.text)?;
+        Ok(Some(self.pen))
+    }
+
+    /// The shorter one of two.
+    fn or_shorter(self, other: Rest) -> Rest {
+        if other.text.len() < self.text.len() {
+            other
+        } else {
+            self
+        }
+    }
+}
+
+/// The shortest rest of a page that was found: with all rules as rectangles, with those alone that share their rows with few, or with
+/// none. The printer holds this size of rectangles before it.
+pub fn shortest_rest(
+    alloc: Global,
+    taken: Taken<'_>,
+    page: &Page,
+    pen: RulePen,
+) -> Result<Rest, AllocError> {
+    let mut others = page_without(alloc, taken, page)?;
+    ink_rules(taken.rules, Ink::White, &mut others.bitmap);
+    let mut shortest = rest_with(alloc, &others, taken.rules, taken.free_id, pen)?;
+    let sparse = sparse_rules(alloc, taken.rules)?;
+    if !sparse.is_empty() && sparse.len() < taken.rules.len() {
+        ink_rules(taken.rules, Ink::Black, &mut others.bitmap);
+        ink_rules(&sparse, Ink::White, &mut others.bitmap);
+        shortest = shortest.or_shorter(rest_with(alloc, &others, &sparse, taken.free_id, pen)?);
+    }
+    if !shortest.is_sure {
+        ink_rules(taken.rules, Ink::Black, &mut others.bitmap);
+        shortest = shortest.or_shorter(rest_with(alloc, &others, &[], taken.free_id, pen)?);
+    }
+    Ok(shortest)
+}
+
+/// The rest of a page with these rules as rectangles, of which this is the page without them and its letters.
+fn rest_with(
+    alloc: Global,
+    others: &Page,
+    rules: &[Rule],
+    free_id: u32,
+    pen: RulePen,
+) -> Result<Rest, AllocError> {
+    let mut rectangles = Vec::new(alloc);
+    let pen = append_rules(alloc, rules, pen, free_id, &mut rectangles)?;
+    let is_sure = rectangles.len() <= white_rows(&others.bitmap, rules)
+        || are_surely_shorter(alloc, &others.bitmap, rules, rectangles.len())?;
+    let mut text = raster_text(alloc, others)?;
+    text.extend_from_slice(&rectangles)?;
+    Ok(Rest { text, pen, is_sure })
+}
+
+/// How many rows of the highest of some rules are white on a page without them: each would take a byte at least in a raster with it.
+fn white_rows(bitmap: &Bitmap, rules: &[Rule]) -> usize {
+    let mut count: usize = 0;
+    if let Some(highest) = rules.iter().max_by_key(|rule| rule.height) {
+        let bottom = highest.bottom();
+        for y in highest.top..bottom.min(bitmap.size().height(bitmap.dpi())) {
+            if bitmap.is_blank(y) {
+                count = count.saturating_add(1);
+            }
+        }
+    }
+    count
+}
+
+/// The page text of a page as it is sent beside letters and rectangles, without its form feed.
+fn raster_text(alloc: Global, page: &Page) -> Result<Vec<u8>, AllocError> {
+    let corner = corner_of(&page.bitmap);
+    let text = if corner.is_of_page() {
+        least_text(alloc, page)?
+    } else {
+        least_text(alloc, &page_from(alloc, page, corner)?)?
+    };
+    shortened(alloc, &text, page, corner)
+}
+
+/// The least page text of a page, without its form feed.
+fn least_text(alloc: Global, page: &Page) -> Result<Vec<u8>, AllocError> {
+    let least = plan(alloc, page)?;
+    let mut text = Vec::new(alloc);
+    write_page(page, &least, &mut text)?;
+    text.pop();
+    Ok(text)
+}
+
+/// A page without the dots of its letters.
+fn page_without(alloc: Global, taken: Taken<'_>, page: &Page) -> Result<Page, AllocError> {
+    let mut bitmap = Bitmap::new(alloc, page.size, page.dpi)?;
+    paint_without(alloc, taken, &page.bitmap, &mut bitmap)?;
+    Ok(Page {
+        size: page.size,
+        copies: page.copies,
+        dpi: page.dpi,
+        bitmap,
+    })
+}
+
+/// Paints a page without the dots of some letters, a band of rows at a time.
+fn paint_without(
+    alloc: Global,
+    taken: Taken<'_>,
+    whole: &Bitmap,
+    bitmap: &mut Bitmap,
+) -> Result<(), AllocError>
+    ensures size { bitmap.new.size ≡ bitmap.old.size }
+    ensures dpi { bitmap.new.dpi ≡ bitmap.old.dpi }
+    ensures picture { IsPicture bitmap.new }
+{
+    let row_bytes = bitmap.size().row_bytes(bitmap.dpi());
+    let band_bytes = row_bytes.saturating_mul(BAND_ROWS as usize).max(1);
+    let reach = reach_of(taken);
+    let mut bytes = Vec::new(alloc);
+    let mut top: u32 = 0;
+    for band in whole.bytes().chunks(band_bytes) {
+        bytes.clear();
+        bytes.extend_from_slice(band)?;
+        whiten(&mut bytes, row_bytes, top, taken, reach);
+        paint(&bytes, row_bytes, top, bitmap);
+        top = top.saturating_add(BAND_ROWS);
+    }
+    Ok(())
+}
+
+/// How many rows the letters of a page reach above or below the lines that they stand on, at most.
+fn reach_of(taken: Taken<'_>) -> u32 {
+    let mut reach: u32 = 0;
+    for letter in taken.letters {
+        if let Some(pattern) = taken.found.pattern_of(taken.patterns, letter.glyph) {
+            let first = taken.found.first_row_of(letter);
+            let end = first.saturating_add(pattern.height);
+            let far = letter.baseline.abs_diff(first);
+            reach = reach.max(far).max(letter.baseline.abs_diff(end));
+        }
+    }
+    reach
+}
+
+/// Makes the dots of some letters white in a band of a page, rows of this many bytes from row `top` on. The letters reach this many rows
+/// from their lines.
+fn whiten(bytes: &mut [u8], row_bytes: usize, top: u32, taken: Taken<'_>, reach: u32) {
+    let end = top.saturating_add(BAND_ROWS);
+    for letter in letters_near(taken.letters, top, end, reach) {
+        let first = taken.found.first_row_of(letter);
+        if first < end {
+            if let Some(pattern) = taken.found.pattern_of(taken.patterns, letter.glyph) {
+                let rows = pattern.rows_from(top.saturating_sub(first));
+                let corner = Dot {
+                    x: letter.x,
+                    y: first.saturating_sub(top),
+                };
+                stamp(bytes, row_bytes, corner, rows, StampInk::White);
+            }
+        }
+    }
+}
+
+/// Those of the letters of a page, from the topmost line down, whose lines are within reach of these rows: of others no dot is in them.
+fn letters_near(letters: &[Letter], top: u32, end: u32, reach: u32) -> &[Letter] {
+    let start = letters.partition_point(|letter| letter.baseline.saturating_add(reach) < top);
+    let letters = letters.get(start..).unwrap_or(&[]);
+    let count = letters.partition_point(|letter| letter.baseline <= end.saturating_add(reach));
+    letters.get(..count).unwrap_or(&[])
+}
+
+/// Paints rows of this many bytes from row `top` on. White ones are passed over.
+fn paint(bytes: &[u8], row_bytes: usize, top: u32, bitmap: &mut Bitmap)
+    ensures size { bitmap.new.size ≡ bitmap.old.size }
+    ensures dpi { bitmap.new.dpi ≡ bitmap.old.dpi }
+    ensures picture { IsPicture bitmap.new }
+{
+    let page_width = bitmap.size().width(bitmap.dpi());
+    let mut y = u64::from(top);
+    for row in bytes.chunks(row_bytes.max(1)) {
+        if trimmed_len(row) != 0 {
+            bitmap.paint_row(0, y, 1, page_width.min(bits_of(row)), row);
+        }
+        y = y.saturating_add(1);
+    }
+}

@@ -1,0 +1,102 @@
+//! What the raster of a page saves where its rules are sent as rectangles.
+
+use glyph_patterns::ROW_BYTES;
+use glyph_shapes::{RowRules, Rule, are_equal, ink_dots, row_bytes};
+use pcl_bitmap::{Bitmap, Ink};
+use std::alloc::{AllocError, Global};
+use std::mem::swap;
+
+/// Rectangles are surely shorter where the raster is shorter without their dots by five quarters of their bytes: what rows take is known
+/// about.
+const SURE_QUARTERS: usize = 5;
+
+/// Whether rectangles of this many bytes surely take fewer than the dots of their rules in the raster of a page, which has no dots of
+/// these here.
+pub fn are_surely_shorter(
+    alloc: Global,
+    bitmap: &Bitmap,
+    rules: &[Rule],
+    rectangles: usize,
+) -> Result<bool, AllocError> {
+    let mut raster = RasterBytes {
+        ruled: 0,
+        unruled: 0,
+    };
+    let mut ruled = RuledRows {
+        rules: RowRules::new(alloc, rules),
+        row: Vec::new(alloc),
+        above: Vec::new(alloc),
+    };
+    let mut above: &[u8] = &[];
+    for y in 0..bitmap.size().height(bitmap.dpi()) {
+        let row = bitmap.row(y);
+        if ruled.read(y, row, above)? {
+            raster.add_row(&ruled, above, row);
+        }
+        above = row;
+    }
+    let spared = raster.ruled.saturating_sub(raster.unruled);
+    Ok(spared.saturating_mul(4) >= rectangles.saturating_mul(SURE_QUARTERS))
+}
+
+/// The rows of a page with its rules, where they have dots.
+#[derive(Drop)]
+struct RuledRows<'a> {
+    rules: RowRules<'a>,
+    /// The row that was read last.
+    row: Vec<u8>,
+    /// The row above it: empty above the topmost one.
+    above: Vec<u8>,
+}
+
+impl<'a> RuledRows<'a> {
+    /// Reads row `y`, the next one, which has these dots without the rules, as the row above it has those. Says whether rules have dots in
+    /// one of them: else the row isn't kept.
+    fn read(&mut self, y: u32, row: &[u8], above: &[u8]) -> Result<bool, AllocError> {
+        let is_above_ruled = !self.rules.in_row.is_empty();
+        let has_others = self.rules.step(y)?;
+        let is_ruled = !self.rules.in_row.is_empty();
+        if !is_ruled && !is_above_ruled {
+            return Ok(false);
+        }
+        swap(&mut self.above, &mut self.row);
+        if !is_above_ruled {
+            self.above.clear();
+            self.above.extend_from_slice(above)?;
+        }
+        self.row.clear();
+        if !has_others && are_equal(row, above) {
+            self.row.extend_from_slice(&self.above)?;
+        } else {
+            self.row.extend_from_slice(row)?;
+            for rule in self.rules.in_row.iter() {
+                ink_dots(&mut self.row, rule.left, rule.width, Ink::Black);
+            }
+        }
+        Ok(true)
+    }
+}
+
+/// About how many bytes the rows of a page that rules change take as a raster, with these and without them.
+#[derive(Clone, Copy)]
+struct RasterBytes {
+    ruled: usize,
+    unruled: usize,
+}
+
+impl RasterBytes {
+    /// Adds a row, which has these dots without the rules, and those of the row above.
+    fn add_row(&mut self, ruled: &RuledRows<'_>, above: &[u8], row: &[u8]) {
+        let with_rules = bytes_of_row(&ruled.above, &ruled.row);
+        self.ruled = self.ruled.saturating_add(with_rules);
+        self.unruled = self.unruled.saturating_add(bytes_of_row(above, row));
+    }
+}
+
+/// About how many bytes a row takes: its data and those around them, or none where it is the row above once more.
+fn bytes_of_row(above: &[u8], row: &[u8]) -> usize {
+    match row_bytes(above, row) as usize {
+        0 => 0,
+        data => data.saturating_add(ROW_BYTES),
+    }
+}
