@@ -76,7 +76,8 @@ pub one_step : (profile : Profile) (inside : Option Prefix) (at : ℕ) (bytes : 
     → all_at profile inside at bytes ≡ and_then (step_at profile inside at bytes) (rest_at profile at bytes)
 unfolding outcome
 one_step profile inside at bytes goes =
-    let same = after_same (step_at profile inside at bytes) _ (rest_at profile at bytes) (λ reads e. enough profile (length bytes) (suc (length reads.rest))
+    let same = after_same (step_at profile inside at bytes) _ (rest_at profile at bytes)
+    (λ reads e. enough profile (length bytes) (suc (length reads.rest))
     reads.inside _ reads.rest (step_shorter profile inside at bytes goes e) (omega arith)) in grind (arith, nat_tests, same)
 
 -- ---- sequences
@@ -127,7 +128,13 @@ middle_on profile prefix (parameter ∷ middle) at begin bytes each =
     let behind = flat_map parameter_bytes middle ++ bytes in
     let on = one_step profile (Some prefix) next behind (grind (arith, nat_tests)) in
     rw (append_assoc (parameter_bytes parameter), inside_reads (is_middle parameter behind each.0))
-    (rw (place_of begin (parameter_bytes parameter), on, middle_on profile prefix middle next next bytes each.1, with_fronts, place_further) refl)
+    (rw (
+      place_of begin (parameter_bytes parameter),
+      on,
+      middle_on profile prefix middle next next bytes each.1,
+      with_fronts,
+      place_further,
+    ) refl)
 
 -- the steps from ESC on are those from the first parameter on, whose command has the place of ESC
 first_on : (profile : Profile) (prefix : Prefix) (at : ℕ) {bytes : List ℕ} {read : Result Reads Refusal} → IsPrefix prefix
@@ -164,7 +171,8 @@ ungrouped_front group bytes n = grind arith
 -- the steps from a sequence on
 combined_on : (profile : Profile) (prefix : Prefix) (at : ℕ) (middle : List Parameter) (end : Parameter) (sent bytes : List ℕ)
     → IsPiece profile (combined prefix middle end sent) bytes
-    → all_at profile None at (spelling (combined prefix middle end sent) ++ bytes) ≡ with_front (commands_from at (combined prefix middle end sent))
+    → all_at profile None at (spelling (combined prefix middle end sent) ++ bytes) ≡
+    with_front (commands_from at (combined prefix middle end sent))
     (all_at profile None (at + length (spelling (combined prefix middle end sent))) bytes)
 combined_on profile prefix at middle end sent bytes is =
     let field = end.field in
@@ -185,7 +193,8 @@ combined_on profile prefix at middle end sent bytes is =
 
 -- the steps from any piece on
 piece_again : (profile : Profile) (piece : Piece) (at : ℕ) (bytes : List ℕ) → IsPiece profile piece bytes
-    → all_at profile None at (spelling piece ++ bytes) ≡ with_front (commands_from at piece) (all_at profile None (at + length (spelling piece)) bytes)
+    → all_at profile None at (spelling piece ++ bytes) ≡
+    with_front (commands_from at piece) (all_at profile None (at + length (spelling piece)) bytes)
 piece_again profile (combined prefix middle end sent) at bytes is = combined_on profile prefix at middle end sent bytes is
 piece_again profile piece at bytes is =
     let long = piece_long profile piece bytes is in

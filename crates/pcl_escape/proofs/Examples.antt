@@ -66,7 +66,8 @@ leaving : IsReading Stated (escape (codes "%-12345X@PJL x") ++ 10 ∷ (codes "@P
 leaving = unfold reading in reading_of refl
 
 -- a line without LF goes to the end, whatever it holds
-last_line : IsReading Stated (escape (codes "%-12345X@PJL") ++ 27 ∷ 7 ∷ []) (said 0 (Two 37 88) Minus 123450000 (codes "@PJL" ++ 27 ∷ 7 ∷ []) ∷ [])
+last_line : IsReading Stated (escape (codes "%-12345X@PJL") ++ 27 ∷ 7 ∷ [])
+    (said 0 (Two 37 88) Minus 123450000 (codes "@PJL" ++ 27 ∷ 7 ∷ []) ∷ [])
 last_line = unfold reading in reading_of refl
 
 -- another value of that name skips nothing
@@ -74,7 +75,8 @@ staying : IsReading Stated (escape (codes "%-12344X") ++ 12 ∷ []) (said 0 (Two
 staying = unfold reading in reading_of refl
 
 -- a run of text goes on up to a byte that is none, and silent bytes are none
-two_runs : IsReading Stated (codes "A " ++ 7 ∷ codes "B") (said 0 (One 32) Absent 0 (codes "A ") ∷ said 3 (One 32) Absent 0 (codes "B") ∷ [])
+two_runs : IsReading Stated (codes "A " ++ 7 ∷ codes "B")
+    (said 0 (One 32) Absent 0 (codes "A ") ∷ said 3 (One 32) Absent 0 (codes "B") ∷ [])
 two_runs = unfold reading in reading_of refl
 
 -- a line in lower case is text

@@ -50,7 +50,8 @@ abbrev Shorter : Profile → List ℕ → Type 0
 Shorter profile bytes = (at : ℕ) (more : List ℕ) → length more < length bytes → Reading profile at more
 
 -- ESC, a prefix and middle parameters in front of what a step reads there
-sequence_first : {profile : Profile} (n : ℕ) (prefix : Prefix) (at : ℕ) (middle : List Parameter) {bytes : List ℕ} {read : Result Reads Refusal}
+sequence_first : {profile : Profile} (n : ℕ) (prefix : Prefix) (at : ℕ) (middle : List Parameter)
+    {bytes : List ℕ} {read : Result Reads Refusal}
     → length bytes < n → Shorter profile bytes → IsPrefix prefix → IsUngrouped prefix.group bytes
     → AllByRecursion (IsMiddle profile prefix) middle
     → Inside profile prefix (place_behind at prefix middle) bytes read → Stays read
@@ -61,11 +62,13 @@ sequence_first {profile} (suc n) prefix at middle h next is apart each (is_middl
     let grouped = middle_grouped m in
     rw (← last_joined parameter_bytes middle parameter more)
     (sequence_first n prefix at (middle ++ parameter ∷ []) (omega arith) (λ at rest k. next at rest (omega arith)) is
-    (grouped_any prefix.group more grouped) (middle_more middle each m) (parameter_step profile) (grouped_stays grouped (parameter_step profile)))
+    (grouped_any prefix.group more grouped) (middle_more middle each m) (parameter_step profile)
+    (grouped_stays grouped (parameter_step profile)))
 sequence_first {profile} (suc n) prefix at middle h next is apart each (is_end parameter sent more m) stays =
     let end : IsEnd profile prefix parameter sent = record { field = m.field; letter = m.letter; checks = m.checks; stays = stays } in
     rw (append_assoc (prefix_bytes prefix), append_assoc (flat_map parameter_bytes middle), append_assoc (parameter_bytes parameter) sent)
-    at (piece_first profile (combined prefix middle parameter sent) {at = at} (is, each, end) (next _ more (simp length-append (omega arith))))
+    at (piece_first profile (combined prefix middle parameter sent) {at = at} (is, each, end)
+    (next _ more (simp length-append (omega arith))))
 sequence_first (suc n) prefix at middle h next is apart each (is_wrong f) stays = failing (in_parameter prefix middle is apart each f)
 
 -- a step outside sequences, and what the bytes after it are, say what all the bytes are

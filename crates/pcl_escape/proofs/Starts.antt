@@ -145,7 +145,8 @@ prefix_step {at} {byte} [] p = elim (cases_Bool (is_ungrouped byte)) [
 prefix_step {profile} {at} {byte} (group ∷ rest) p =
     let prefix : Prefix = record { parameterized = byte; group = Some group } in
     by_test (Outside profile at (27 ∷ byte ∷ group ∷ rest)) (is_group group)
-    (λ g. sequence prefix rest (parameter_at profile prefix at rest) (p, g) tt (parameter_step profile) (grouped_stays {at = at} refl (parameter_step profile)))
+    (λ g. sequence prefix rest (parameter_at profile prefix at rest) (p, g) tt
+    (parameter_step profile) (grouped_stays {at = at} refl (parameter_step profile)))
     (λ g. by_test (Outside profile at (27 ∷ byte ∷ group ∷ rest)) (is_ungrouped byte) (λ u. ungrouped_step u g (parameter_step profile))
     (λ u. wrong (bad_group p u g)))
 
@@ -208,7 +209,8 @@ parts_apart _ _ _ letter rest d l = refl
 
 -- a step reads the parameter of a sequence without a group character, and then lines
 ungrouped_again : (profile : Profile) (at parameterized : ℕ) (bytes : List ℕ) → is_ungrouped parameterized ≡ true → IsUngrouped None bytes
-    → start_at profile at (27 ∷ parameterized ∷ bytes) ≡ with_lines (at + 2) (length bytes) (parameter_at profile (ungrouped parameterized) at bytes)
+    → start_at profile at (27 ∷ parameterized ∷ bytes)
+    ≡ with_lines (at + 2) (length bytes) (parameter_at profile (ungrouped parameterized) at bytes)
 unfolding prefix_at ungrouped_at parameter_at field_at
 ungrouped_again profile at parameterized [] p n = at_prefix profile at parameterized [] (grind (arith, nat_tests))
 ungrouped_again profile at parameterized (byte ∷ bytes) p n =
@@ -236,7 +238,8 @@ inside_again {profile} parameterized (Some group) {at} {bytes} p n inside s =
 pub exit_first : (profile : Profile) (at : ℕ) (field : Spelled) (bytes : List ℕ) {read : Result (List ℕ) ℕ} → IsField field
     → is_exit exit_name (field_value field) ≡ true → parameter_checks profile exit_name 88 (field_value field) 0 ≡ Ok 0
     → Lines (at + 3 + length (field_bytes field)) bytes read
-    → start_at profile at (27 ∷ 37 ∷ (parameter_bytes (exit_parameter field) ++ bytes)) ≡ skipped_by bytes (Some (exit_command at field [])) read
+    → start_at profile at (27 ∷ 37 ∷ (parameter_bytes (exit_parameter field) ++ bytes))
+    ≡ skipped_by bytes (Some (exit_command at field [])) read
 exit_first profile at field bytes f x e lines =
     let last : IsLast profile (ungrouped 37) (exit_parameter field) [] = record { field = f; letter = refl; checks = e } in
     ungrouped_again profile at 37 (parameter_bytes (exit_parameter field) ++ bytes) refl

@@ -58,7 +58,8 @@ checked_step {profile} {prefix} {at} field letter rest (Ok len) f l e =
     rw (nothing, ← parameter_joined field letter rest)
     (is_middle parameter rest (record { field = f; letter = grind (arith, nat_tests); checks = passes (omega arith) }))) (λ g.
     let last : is_last letter ≡ true = grind (arith, nat_tests) in
-    let checks : PassesChecks profile prefix parameter (take len rest) = rw (length-take-le len rest taken.fits) (taken.again len (omega arith)) in
+    let checks : PassesChecks profile prefix parameter (take len rest) =
+    rw (length-take-le len rest taken.fits) (taken.again len (omega arith)) in
     let joined : parameter_bytes parameter ++ (take len rest ++ drop len rest) ≡ field_bytes field ++ letter ∷ rest =
     rw take-append-drop (parameter_joined field letter rest) in
     rw (← joined) (is_end parameter (take len rest) (drop len rest) (record { field = f; letter = last; checks = checks })))
@@ -69,7 +70,8 @@ behind_field : {profile : Profile} {prefix : Prefix} {at : ℕ} (field : Spelled
 behind_field field [] f s = rw append-nil (is_wrong (cut field f))
 behind_field {profile} {prefix} {at} field (byte ∷ rest) f s =
     by_test (Inside profile prefix at (field_bytes field ++ byte ∷ rest)) (is_letter prefix byte)
-    (λ l. checked_step field byte rest (parameter_checks profile (parameter_name prefix byte) byte (field_value field) (length rest)) f l refl)
+    (λ l. checked_step field byte rest (parameter_checks profile (parameter_name prefix byte) byte (field_value field) (length rest))
+    f l refl)
     (λ l. is_wrong (no_letter field byte rest f s l))
 
 -- a step reads what the bytes of a parameter begin with
@@ -78,7 +80,8 @@ pub parameter_step : (profile : Profile) {prefix : Prefix} {at : ℕ} {bytes : L
 unfolding parameter_at
 parameter_step profile {prefix} {at} {bytes} =
     let split = field_split in
-    subst (λ (bs : List ℕ). Inside profile prefix at bs (letter_at profile prefix at (field_at bytes).0 (field_at bytes).1)) (sym split.joined)
+    subst (λ (bs : List ℕ). Inside profile prefix at bs (letter_at profile prefix at (field_at bytes).0 (field_at bytes).1))
+    (sym split.joined)
     (behind_field (field_at bytes).0 (field_at bytes).1 split.field split.stops)
 
 -- ---- sequences with a group character
@@ -145,8 +148,13 @@ inside_reads {profile} {prefix} {at} (is_end parameter bytes rest m) =
     let letter = parameter.letter in
     let last : is_last letter ≡ true = m.letter in
     let stops : goes_on letter ≡ false = grind (arith, nat_tests) in
-    let again = (checks_take profile (parameter_name prefix letter) letter (field_value parameter.field) m.checks).again (length (bytes ++ rest)) in
-    rw (parameter_joined parameter.field letter, checks_behind profile prefix at parameter.field letter (bytes ++ rest) m.field (grind arith))
+    let again = (checks_take profile (parameter_name prefix letter) letter
+    (field_value parameter.field) m.checks).again (length (bytes ++ rest)) in
+    rw (
+      parameter_joined parameter.field letter,
+      checks_behind profile prefix at parameter.field letter (bytes ++ rest)
+          m.field (grind arith),
+    )
     (rw (again (simp length-append (omega arith)), stops, take_at bytes rest _ refl, drop_at bytes rest _ refl) refl)
 inside_reads {profile} {prefix} {at} (is_wrong (cut field f)) = simp append-nil at (field_behind profile prefix at field [] f tt)
 inside_reads {profile} {prefix} {at} (is_wrong (no_letter field byte rest f s l)) =

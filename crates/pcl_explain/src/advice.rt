@@ -57,9 +57,11 @@ fn page_control(name: Name) -> Option<&'static str> {
         Name::Three(b'&', b'l', b'O') =>
             "orientation: portrait (0) alone is known; let the program or the driver turn the page",
         Name::Three(b'&', b'l', b'U') =>
-            "left offset: shrink, same, pages and batch know it on a page without marks, and pbm and pgm with --drivers; min and check know 0 alone",
+            "left offset: shrink, same, pages and batch know it on a page without marks, and pbm and pgm with --drivers; \
+            min and check know 0 alone",
         Name::Three(b'&', b'l', b'Z') =>
-            "top offset: shrink, same, pages and batch know it on a page without marks, and pbm and pgm with --drivers; min and check know 0 alone",
+            "top offset: shrink, same, pages and batch know it on a page without marks, and pbm and pgm with --drivers; \
+            min and check know 0 alone",
         Name::Three(b'&', b'l', b'T') => known_to_drivers!("job separation"),
         Name::Three(b'&', b'l', b'X') => "copies: 1 to 99 are known",
         Name::Three(b'&', b'l', b'D') =>

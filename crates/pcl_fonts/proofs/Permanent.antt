@@ -56,7 +56,8 @@ module _ (deletions : ℕ) (es : Entries) {table : FontTable} (history : List Fo
 
   by_history : (b : Bool) → has_permanent history ≡ b → list_any (λ (e : Entry). e.is_permanent) (values_of es) ≡ b
   by_history false none =
-      list_any_none (λ (e : Entry). e.is_permanent) (values_of es) (All-values_from_lookup nat_eq_equiv (λ (e : Entry). e.is_permanent ≡ false) es
+      list_any_none (λ (e : Entry). e.is_permanent) (values_of es)
+      (All-values_from_lookup nat_eq_equiv (λ (e : Entry). e.is_permanent ≡ false) es
       distinct (λ id. kept_as deletions (lookup (nat_eq id) es) history id (of_id id) (unkept id (is_kept history id) refl)))
     where
       unkept : (id : ℕ) (b : Bool) → is_kept history id ≡ b → is_kept history id ≡ false
@@ -67,8 +68,9 @@ module _ (deletions : ℕ) (es : Entries) {table : FontTable} (history : List Fo
       by_entries : (b : Bool) → list_any (λ (e : Entry). e.is_permanent) (values_of es) ≡ b
           → list_any (λ (e : Entry). e.is_permanent) (values_of es) ≡ true
       by_entries true e = e
-      by_entries false e = absurd (false≢true (sym (none_kept history history (λ id. unkept_as deletions (lookup (nat_eq id) es) history id (of_id id)
-          (IfSome-lookup_from_All (λ (e : Entry). e.is_permanent ≡ false) (nat_eq id) es (all_false (λ (e : Entry). e.is_permanent) (values_of es) e)))) ∙ some))
+      by_entries false e = absurd (false≢true (sym (none_kept history history (λ id. unkept_as deletions (lookup (nat_eq id) es)
+          history id (of_id id) (IfSome-lookup_from_All (λ (e : Entry). e.is_permanent ≡ false) (nat_eq id) es
+          (all_false (λ (e : Entry). e.is_permanent) (values_of es) e)))) ∙ some))
 
   pub some_permanent : list_any (λ (e : Entry). e.is_permanent) (values_of es) ≡ has_permanent history
   some_permanent = by_history (has_permanent history) refl

@@ -53,7 +53,8 @@ module _ (deletions : ℕ) (es : Entries) (begun : Option Begun) {table : MacroT
 
   by_history : (b : Bool) → has_permanent history ≡ b → list_any (λ (e : Body). e.is_permanent) (values_of es) ≡ b
   by_history false none =
-      list_any_none (λ (e : Body). e.is_permanent) (values_of es) (All-values_from_lookup nat_eq_equiv (λ (e : Body). e.is_permanent ≡ false) es
+      list_any_none (λ (e : Body). e.is_permanent) (values_of es)
+      (All-values_from_lookup nat_eq_equiv (λ (e : Body). e.is_permanent ≡ false) es
       distinct (λ id. kept_as deletions (lookup (nat_eq id) es) history id (of_id id) (unkept id (is_kept history id) refl)))
     where
       unkept : (id : ℕ) (b : Bool) → is_kept history id ≡ b → is_kept history id ≡ false

@@ -143,7 +143,8 @@ end_reached {S} takes dpi end all whole place interpreter new old now then (Err 
 -- ---- pages that were kept
 
 -- the pages of an accepted job that was performed
-abbrev pub accepted_pages : {S : Type 0} {takes : S → Page → S → Type 0} {profile : Profile} {dpi : Dpi} {job : List ℕ} {done : Unit {0}} {old new : S}
+abbrev pub accepted_pages : {S : Type 0} {takes : S → Page → S → Type 0} {profile : Profile} {dpi : Dpi}
+    {job : List ℕ} {done : Unit {0}} {old new : S}
     → IsPerformed takes profile dpi job (Ok done) old new → List Sheet
 accepted_pages {profile = profile} {dpi} {job} p = pages_of (performance_of profile dpi job p.commands)
 

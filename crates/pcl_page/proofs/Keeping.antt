@@ -130,4 +130,5 @@ is_counted dpi command s {later} e =
 
 -- the end of the input
 pub end_adds : (dpi : Dpi) (s : Situation) → Onward s (at_end dpi s)
-end_adds dpi s = (adds_turned (defaults s.settings.profile) EjectMarked (end_raster dpi s) (ejects EjectMarked (is_marked (end_raster dpi s))) refl).onward
+end_adds dpi s = (adds_turned (defaults s.settings.profile) EjectMarked (end_raster dpi s)
+    (ejects EjectMarked (is_marked (end_raster dpi s))) refl).onward

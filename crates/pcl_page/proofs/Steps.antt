@@ -203,7 +203,8 @@ end_marked takes dpi s copies asked old middle new sink later i m few c a e t ag
     let copied : copies ≡ s.settings.copies = cc (c, i.settings) in
     let shows : Shows dpi t.0 (sheet_of end) = rw (below.0, below.1) (handed_sheet s i.painted (i.sized is) copied t.1) in
     rw is (
-      pages_fit (put_back (with_what_stays s.fonts s.macros (turned_page (defaults s.settings.profile) end))) (omega (arith, i.ejected, count)),
+      pages_fit (put_back (with_what_stays s.fonts s.macros (turned_page (defaults s.settings.profile) end)))
+          (omega (arith, i.ejected, count)),
       (sheet_of end ∷ [], refl, (t.0, later, shows, t.2, refl)),
       again ∙ ap (end_asks s) (e.asks ∙ ap (λ (x : Asked). with_page x (asks_of old.asks)) said ∙ ap (with_page end.settings.asked) i.asks),
     )
@@ -214,7 +215,8 @@ pub end_unmarked : {S : Type 0} (takes : S → Page → S → Type 0) (dpi : Dpi
 end_unmarked takes dpi s old new sink later i m few same again =
     let is : is_marked s ≡ false = cc in
     rw is (
-      pages_fit (put_back (with_what_stays s.fonts s.macros (with_settings (defaults s.settings.profile) (end_raster dpi s)))) (omega (arith, i.ejected)),
+      pages_fit (put_back (with_what_stays s.fonts s.macros (with_settings (defaults s.settings.profile) (end_raster dpi s))))
+          (omega (arith, i.ejected)),
       ([], sym (append-nil s.pages), same),
       again ∙ ap (end_asks s) i.asks,
     )
@@ -225,4 +227,5 @@ end_past {dpi} {s} i m many =
     let end = end_raster dpi s in
     let count = length-append s.pages (sheet_of end ∷ []) in
     let is : is_marked s ≡ true = cc in
-    rw is (pages_past (put_back (with_what_stays s.fonts s.macros (turned_page (defaults s.settings.profile) end))) (omega (arith, i.ejected, count)))
+    rw is (pages_past (put_back (with_what_stays s.fonts s.macros (turned_page (defaults s.settings.profile) end)))
+    (omega (arith, i.ejected, count)))

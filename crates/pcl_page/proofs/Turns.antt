@@ -160,7 +160,8 @@ module _ {S : Type 0} (takes : S → Page → S → Type 0) (dpi : Dpi) (operati
       (a : Answers (outcome dpi operation value old.is_marked old.environment) (Ok effect) old.environment middle.environment)
       (does : ejects effect old.is_marked ≡ true) (few : old.ejected < 256) (size_is : size ≡ old.environment.size)
       (copies_are : copies ≡ old.environment.copies) (asked_is : asked ≡ old.environment.asked) (f : IsFollowed size middle begun)
-      (e : IsEjected asked begun last × Takes takes copies begun sink later) (page : middle.page ≡ old.page) (ejected : middle.ejected ≡ old.ejected) (performed : middle.performed ≡ old.performed)
+      (e : IsEjected asked begun last × Takes takes copies begun sink later)
+      (page : middle.page ≡ old.page) (ejected : middle.ejected ≡ old.ejected) (performed : middle.performed ≡ old.performed)
       (raster : middle.raster ≡ old.raster) (fonts : middle.fonts ≡ old.fonts) (asks : middle.asks ≡ old.asks) where
     done_so : (done : Settings × Effect) × (comes_to ≡ Some done) × (middle.environment ≡ done.0) × (ejects done.1 (is_marked s) ≡ true)
     done_so =

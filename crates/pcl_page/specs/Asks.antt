@@ -11,9 +11,9 @@ pub record Exit : Type 0 where
   pub pages : ℕ
   pub lines : List ℕ
 
--- What each ejected page was asked with and the universal exits that were performed, both in order; how the next page would begin; how the
--- job is separated from the next, where that is said after its last page; whether something counts on what stays in the printer, changes it,
--- ejects a page on some printers, or separates jobs elsewhere; and where that is so, the bytes of the job.
+-- What each ejected page was asked with and the universal exits that were performed, both in order; how the next page would begin; how
+-- the job is separated from the next, where that is said after its last page; whether something counts on what stays in the printer,
+-- changes it, ejects a page on some printers, or separates jobs elsewhere; and where that is so, the bytes of the job.
 pub record Asks : Type 0 where
   pub pages : List AskedPage
   pub exits : List Exit
@@ -57,7 +57,8 @@ abbrev pub with_separation : ℤ → Asks → Asks
 with_separation value asks =
     record asks { separation = Some value; lasts = asks.lasts || (asks.next.is_first || is_some asks.separation) }
 
--- something counts on what stays in the printer, changes it, ejects a page on some printers, or separates jobs elsewhere, where the test holds
+-- something counts on what stays in the printer, changes it, ejects a page on some printers, or separates jobs elsewhere, where the
+-- test holds
 abbrev pub lasting_if : Bool → Asks → Asks
 lasting_if test asks = record asks { lasts = asks.lasts || test }
 

@@ -144,8 +144,8 @@ run_from other value s = None
 abbrev pub run_of : Said → Situation → Situation → Option Run
 run_of command s later = if is_some s.begun then None else run_from (operation_of command.name) command.value later
 
--- A call's end ends the raster, and all is set as before the call but the page size, the cursor and its stack. Where that moves a page that is
--- marked, its dots lie at two offsets, as no other job's.
+-- A call's end ends the raster, and all is set as before the call but the page size, the cursor and its stack. Where that moves a page
+-- that is marked, its dots lie at two offsets, as no other job's.
 abbrev pub macro_ended : Dpi → Option Settings → Situation → Situation
 macro_ended dpi None s = s
 macro_ended dpi (Some saved) s =

@@ -10,9 +10,9 @@ use pcl_request::Layout;
 use std::alloc::{AllocError, Global};
 use std::marker::Model;
 
-/// A text on the pages of a job, by a profile. Of each page it has the number, the resolution, the size, the copies, the sides and the paper
-/// source that the job asks for, how many of its dots are black, the bytes of its least page text (docs/OUTPUT.md), and how many of these
-/// are row data of each method; last come the sums. A refusal is the job's.
+/// A text on the pages of a job, by a profile. Of each page it has the number, the resolution, the size, the copies, the sides and the
+/// paper source that the job asks for, how many of its dots are black, the bytes of its least page text (docs/OUTPUT.md), and how many of
+/// these are row data of each method; last come the sums. A refusal is the job's.
 pub fn describe_pages(
     alloc: Global,
     job: &[u8],

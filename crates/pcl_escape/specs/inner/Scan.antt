@@ -110,7 +110,8 @@ unfoldable pub prefix_at : Profile → ℕ → ℕ → List ℕ → Result Reads
 prefix_at profile at parameterized [] = refuse Truncated at (One parameterized)
 prefix_at profile at parameterized (group ∷ bytes) =
     if is_group group then parameter_at profile (record { parameterized = parameterized; group = Some group }) at bytes
-    else (if is_ungrouped parameterized then ungrouped_at profile at parameterized (group ∷ bytes) else refuse BadSequence at (One parameterized))
+    else (if is_ungrouped parameterized then ungrouped_at profile at parameterized (group ∷ bytes)
+    else refuse BadSequence at (One parameterized))
 
 -- the byte after ESC, and so on
 unfoldable pub sequence_at : Profile → ℕ → List ℕ → Result Reads Refusal
@@ -173,7 +174,8 @@ outcome profile (suc steps) None at (byte ∷ bytes) =
     and_then (step_at profile None at (byte ∷ bytes))
     (λ reads. outcome profile steps reads.inside (at + (length (byte ∷ bytes) - length reads.rest)) reads.rest)
 outcome profile (suc steps) (Some prefix) at bytes =
-    and_then (step_at profile (Some prefix) at bytes) (λ reads. outcome profile steps reads.inside (at + (length bytes - length reads.rest)) reads.rest)
+    and_then (step_at profile (Some prefix) at bytes)
+    (λ reads. outcome profile steps reads.inside (at + (length bytes - length reads.rest)) reads.rest)
 
 -- each step but the last takes a byte
 abbrev pub outcome_of : Profile → List ℕ → Result (List Said) Refusal

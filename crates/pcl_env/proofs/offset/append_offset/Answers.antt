@@ -17,5 +17,6 @@ pub returns : goal.returns
 returns c =
     let same = to_z-of_z w64 c.args.offset c.ranges.offset in
     on_ok_weaker c.append_parts.result
-    (λ rest. spelled c.args.offset c.args.out.now.items (rw same at c.in_ok-append_minus.ensures) (rw same at c.unsigned_abs.ensures.value) rest)
+    (λ rest. spelled c.args.offset c.args.out.now.items (rw same at c.in_ok-append_minus.ensures)
+    (rw same at c.unsigned_abs.ensures.value) rest)
     c.append_parts.ensures

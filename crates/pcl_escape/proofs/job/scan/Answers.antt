@@ -23,11 +23,13 @@ returns-in-Err g c =
 pub loop-inside-smaller : goal.loop-inside-smaller
 loop-inside-smaller g c =
     let goes = more_to_read g (goal.at.loop-inside-smaller g c).After-read_step in
-    step_shorter c.args.profile c.loop-inside.inside (length c.args.job.now - length c.loop-inside.rest.now) c.loop-inside.rest.now goes c.in-Ok.ensures
+    step_shorter c.args.profile c.loop-inside.inside (length c.args.job.now - length c.loop-inside.rest.now)
+    c.loop-inside.rest.now goes c.in-Ok.ensures
 
 pub append-requires : goal.append-requires
 append-requires g c =
-    let placed = step_placed c.args.profile c.loop-inside.inside _ (step_view c.in-Ok.step) c.loop-inside.invariant.is_end c.in-Ok.ensures in
+    let placed = step_placed c.args.profile c.loop-inside.inside _ (step_view c.in-Ok.step)
+    c.loop-inside.invariant.is_end c.in-Ok.ensures in
     λ _. ((refl, tt), placed.0)
 
 pub loop-inside-preserved : goal.loop-inside-preserved
@@ -38,7 +40,8 @@ loop-inside-preserved g c =
     let read = step_view c.in-Ok.step in
     record {
       within = omega arith;
-      same = rw c.in_ok-append.ensures (one_more c.args.profile (g.S.CommandStore.kept c.args.job.now c.loop-inside.store) (length c.args.job.now)
+      same = rw c.in_ok-append.ensures (one_more c.args.profile (g.S.CommandStore.kept c.args.job.now c.loop-inside.store)
+          (length c.args.job.now)
           c.loop-inside.inside c.loop-inside.rest.now read within goes c.in-Ok.ensures ∙ c.loop-inside.invariant.same);
       is_end = (step_placed c.args.profile c.loop-inside.inside _ read c.loop-inside.invariant.is_end c.in-Ok.ensures).1;
     }

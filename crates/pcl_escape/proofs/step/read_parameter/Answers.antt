@@ -16,7 +16,8 @@ checked c = rw (← c.read_field.ensures, c.in-Some.ensures.cases.0, ← c.if-no
 
 pub returns-in_default : goal.returns-in_default
 returns-in_default c = rw (c.refused.ensures, c.name.ensures)
-    (nothing_behind c.args.profile c.args.prefix c.args.at c.args.bytes.now c.read_field.result.1.now c.read_field.ensures c.in_default.ensures.cases)
+    (nothing_behind c.args.profile c.args.prefix c.args.at c.args.bytes.now c.read_field.result.1.now
+    c.read_field.ensures c.in_default.ensures.cases)
 
 pub returns-then-not-is_letter : goal.returns-then-not-is_letter
 unfolding parameter_at

@@ -9,7 +9,8 @@ returns-in-Sides c = λ dpi s i. rw c.in-Sides.is
 
 pub returns-in-MediaType : goal.returns-in-MediaType
 returns-in-MediaType c = λ dpi s i. rw c.in-MediaType.is
-    (subst (λ (test : Bool). IsIn dpi (with_lasting test s) c.last_if-in-MediaType.new.self) i.marked (c.last_if-in-MediaType.ensures.situation dpi s i))
+    (subst (λ (test : Bool). IsIn dpi (with_lasting test s) c.last_if-in-MediaType.new.self) i.marked
+    (c.last_if-in-MediaType.ensures.situation dpi s i))
 
 pub returns-in-JobSeparation : goal.returns-in-JobSeparation
 returns-in-JobSeparation c = λ dpi s i.

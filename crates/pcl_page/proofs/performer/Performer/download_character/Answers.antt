@@ -15,7 +15,8 @@ is_refused profile byte bytes (Some font) there none = rw none refl
 
 -- what was taken or refused follows the situation
 character_taken : {dpi : Dpi} {s : Situation} {old table : FontTable} {profile : Profile} {id code : ℕ} (bytes : List ℕ)
-    (result : Result (Unit {0}) CallFault) (new : Performer) → (length bytes == 0) ≡ false → Holds old s.fonts → id ≡ s.settings.font_id → code ≡ s.settings.character_code
+    (result : Result (Unit {0}) CallFault) (new : Performer) → (length bytes == 0) ≡ false → Holds old s.fonts
+    → id ≡ s.settings.font_id → code ≡ s.settings.character_code
     → profile ≡ s.settings.profile → HasCharacter profile id code bytes result old table
     → (Holds table (character s.settings.font_id s.settings.character_code bytes ∷ s.fonts)
     → IsIn dpi (with_event (character s.settings.font_id s.settings.character_code bytes) s) new)
