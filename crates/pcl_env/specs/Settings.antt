@@ -120,8 +120,7 @@ abbrev pub asked_with : Asking → Value → ℕ → Asked → Asked
 asked_with Sides v vmi asked = record asked { sides = Some (signed_whole v) }
 asked_with OutputBin v vmi asked = record asked { output_bin = Some (signed_whole v) }
 asked_with MediaType v vmi asked = record asked { media_type = Some (signed_whole v) }
-asked_with PaperSource v vmi asked =
-    if int_eq (signed_whole v) (pos 0) then asked else record asked { paper_source = Some (signed_whole v) }
+asked_with PaperSource v _ asked = if int_eq (signed_whole v) (pos 0) then asked else record asked { paper_source = Some (signed_whole v) }
 asked_with SheetSide v vmi asked = asked
 asked_with PageLength v vmi asked = record asked { page_length = Some (signed_whole v *ℤ pos vmi) }
 asked_with LeftOffset v vmi asked = record asked { left_offset = Some (page_offset v) }

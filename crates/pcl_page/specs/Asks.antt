@@ -57,8 +57,7 @@ abbrev pub with_separation : ℤ → Asks → Asks
 with_separation value asks =
     record asks { separation = Some value; lasts = asks.lasts || (asks.next.is_first || is_some asks.separation) }
 
--- something counts on what stays in the printer, changes it, ejects a page on some printers, or separates jobs elsewhere, where the
--- test holds
+-- where the test holds, the job does what `lasts` says
 abbrev pub lasting_if : Bool → Asks → Asks
 lasting_if test asks = record asks { lasts = asks.lasts || test }
 
