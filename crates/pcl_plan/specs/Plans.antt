@@ -4,7 +4,7 @@ use Rattle.pcl_base.specs.Method.{method_code}
 use Rattle.pcl_base.specs.Walks.{Walk, total, IsFeasible, IsLeastCost}
 use Rattle.pcl_output.specs.Tokens.{Token, opening, method, skip, send}
 use Rattle.pcl_output.specs.declared.node.Node.{Node}
-use Rattle.pcl_output.specs.Nodes.{start, Leads, Ends, cost}
+use Rattle.pcl_output.specs.Nodes.{start, Leads, Ends, cost, stays_inside}
 use Rattle.pcl_output.specs.Spelling.{least_spelling}
 use Rattle.pcl_output.specs.Table.{node_number}
 use Rattle.pcl_output.specs.declared.table.RowNumbers.{RowNumbers}
@@ -22,12 +22,6 @@ IsTokenOf (Switch next) ends (method digits current capital) = (current ≡ next
     × (capital ≡ ends)
 IsTokenOf (Row count) ends (send digits bytes) = (length bytes ≡ count) × (digits ≡ least_spelling count)
 IsTokenOf _ ends _ = ⊥
-
--- after a row no sequence is open
-abbrev pub stays_inside : Step → Bool
-stays_inside (Skip rows) = true
-stays_inside (Switch next) = true
-stays_inside (Row count) = false
 
 -- a sequence is opened where none is open
 abbrev pub opened : Bool → List Token → List Token
