@@ -27,23 +27,23 @@ pub becomes_same : {size : Size} {dpi : Dpi} {a b : LeftOver} → a ≡ b → Gi
 becomes_same e = record { splits = λ rows p. (rows, refl, rw (sym e) p); joins = λ rows p. rw e p }
 
 -- a body read to some place, and the comparison so far
-pub record IsBodyReadTo (picture : Picture) (size : Size) (text : List ℕ) (may_be : Bool) (place : Place) (above : List ℕ) : Type 0 where
+pub record IsBodyReadTo (picture : Picture) (size : Size) (text : List ℕ) (can_match : Bool) (place : Place) (above : List ℕ) : Type 0 where
   pub given : List (List ℕ)
   pub becomes : GivesRows size picture.dpi (body_of size picture.dpi text) given (left_at size picture.dpi place above)
   pub row_is : place.row ≡ length given
   pub within : place.row ≤ page_height size picture.dpi
-  pub same : IsTrue place.is_same ↔ (IsTrue may_be × AreRowsAt picture 0 given)
+  pub same : IsTrue place.is_same ↔ (IsTrue can_match × AreRowsAt picture 0 given)
 
 -- rows are a page's first ones where those before a place are, and those from there on
-same_joined : (picture : Picture) {may_be before after : Bool} (given : List (List ℕ)) {more : List (List ℕ)}
+same_joined : (picture : Picture) {can_match before after : Bool} (given : List (List ℕ)) {more : List (List ℕ)}
     → (IsTrue after ↔ (IsTrue before × AreRowsAt picture (length given) more))
-    → (IsTrue before ↔ (IsTrue may_be × AreRowsAt picture 0 given)) → IsTrue after ↔ (IsTrue may_be × AreRowsAt picture 0 (given ++ more))
+    → (IsTrue before ↔ (IsTrue can_match × AreRowsAt picture 0 given)) → IsTrue after ↔ (IsTrue can_match × AreRowsAt picture 0 (given ++ more))
 same_joined picture given {more} later first =
     grind (arith, of_parts given {b = more} (bitmap_rows picture), parts_of given {b = more} (bitmap_rows picture))
 
-pub read_on : {picture : Picture} {size : Size} {text : List ℕ} {may_be : Bool} {place : Place} {above : List ℕ} {next : Place}
-    {below : List ℕ} → IsBodyReadTo picture size text may_be place above → Advances picture size place above next below
-    → IsBodyReadTo picture size text may_be next below
+pub read_on : {picture : Picture} {size : Size} {text : List ℕ} {can_match : Bool} {place : Place} {above : List ℕ} {next : Place}
+    {below : List ℕ} → IsBodyReadTo picture size text can_match place above → Advances picture size place above next below
+    → IsBodyReadTo picture size text can_match next below
 read_on {picture} {place} read advances =
     record {
       given = read.given ++ advances.given;
@@ -54,10 +54,10 @@ read_on {picture} {place} read advances =
     }
 
 -- at the end of the text the other rows are white
-pub read_all : {picture : Picture} {size : Size} {text : List ℕ} {may_be : Bool} {place : Place} {above : List ℕ} {outcome : Bool}
-    → IsBodyReadTo picture size text may_be place above → place.inside ≡ false → place.text.now ≡ end_bytes
+pub read_all : {picture : Picture} {size : Size} {text : List ℕ} {can_match : Bool} {place : Place} {above : List ℕ} {outcome : Bool}
+    → IsBodyReadTo picture size text can_match place above → place.inside ≡ false → place.text.now ≡ end_bytes
     → (IsTrue outcome ↔ (IsTrue place.is_same × AreRowsAt picture place.row
-    (white_rows size picture.dpi (page_height size picture.dpi - place.row)))) → IsOnlyPrinted picture size text may_be outcome
+    (white_rows size picture.dpi (page_height size picture.dpi - place.row)))) → IsOnlyPrinted picture size text can_match outcome
 read_all {picture} {size} {place = place} {above} {outcome} read outside ended same =
     let white = white_rows size picture.dpi (page_height size picture.dpi - place.row) in
     record {

@@ -75,14 +75,14 @@ fn findings_from(
             })
         }
         Err(JobFault::Refused(_)) => {
-            let unread = read_on(alloc, job, refusal, read_as)?;
+            let found = read_on(alloc, job, refusal, read_as)?;
             Ok(Findings {
                 first: Finding {
                     refusal,
                     value: None,
-                    times: unread.times,
+                    times: found.times,
                 },
-                later: unread.later,
+                later: found.later,
             })
         }
         Err(JobFault::Memory) => Err(AllocError),
@@ -91,7 +91,7 @@ fn findings_from(
 
 /// What is found after a sequence that can't be read.
 #[derive(Drop)]
-struct Unread {
+struct FoundAfter {
     /// How many sequences can't be read as the first can't.
     times: usize,
     later: Vec<Finding>,
@@ -103,32 +103,32 @@ fn read_on(
     job: &[u8],
     first: Refusal,
     read_as: ReadAs,
-) -> Result<Unread, AllocError> {
+) -> Result<FoundAfter, AllocError> {
     let mut bytes = Vec::from_slice(alloc, job)?;
-    let mut unread = Unread {
+    let mut found = FoundAfter {
         times: 1,
         later: Vec::new(alloc),
     };
     let mut refused = first;
     for _ in 0..job.len() {
         if !is_of_one_sequence(refused.kind) {
-            return Ok(unread);
+            return Ok(found);
         }
         let start = blank_sequence(&mut bytes, refused.at);
         match next_fault(alloc, &bytes, start, read_as.profile)? {
             Some(refusal) => refused = refusal,
             None => {
-                unread.later = findings_of(alloc, &bytes, read_as, unread.later)?;
-                return Ok(unread);
+                found.later = findings_of(alloc, &bytes, read_as, found.later)?;
+                return Ok(found);
             }
         }
         if refused.kind == first.kind && refused.name == first.name {
-            unread.times = unread.times.saturating_add(1);
+            found.times = found.times.saturating_add(1);
         } else {
-            add_unread(&mut unread.later, refused)?;
+            add_unread(&mut found.later, refused)?;
         }
     }
-    Ok(unread)
+    Ok(found)
 }
 
 /// The next fault of reading from a place on at which a sequence begins, if there is one: what stands before isn't read again.

@@ -1,9 +1,9 @@
 -- How far deeds bring a situation.
 use Rattle.std.proofs.Common.{◌≡◌, ℕ, ◌+◌, ◌≤◌, ◌<◌, false, cond, List, [], ◌∷◌, ◌++◌, length, Some, None, Result, Ok, Err, refl, ap, ◌∙◌, arith}
-use Rattle.pcl_meaning.proofs.Names.{is_some, Dpi, Kind, UnsupportedCommand, Empty, Operation, Reset, ControlMacros, ControlFonts, Value, Said, outcome, Run, managed, after_command, run_from, run_of, Performance, done, in_order, step, then_from, after_adds, tried_as}
+use Rattle.pcl_meaning.proofs.Names.{is_some, Dpi, Kind, UnsupportedCommand, Empty, Operation, Reset, ControlMacros, ControlFonts, Value, Said, outcome, Run, after_macros, after_command, run_from, run_of, Performance, done, in_order, step, then_from, after_adds, checked_as}
 use Rattle.pcl_base.specs.declared.operation.Asking.TheVariants.{SheetSide}
 use Rattle.pcl_base.specs.declared.operation.Operation.TheVariants.{Ask}
-use Rattle.pcl_page.specs.Situation.{Situation, is_marked, drawn, draw_refusal, ◌|>◌, turned_by, drawn_on, counted, prepared, is_ignored, after, page_refusal, within_page_limit, tried}
+use Rattle.pcl_page.specs.Situation.{Situation, is_marked, drawn, draw_refusal, ◌|>◌, turned_by, drawn_on, counted, prepared, is_ignored, after, page_refusal, within_page_limit, after_checked}
 use Rattle.pcl_meaning.proofs.Deeds.{Deed}
 use Rattle.pcl_meaning.proofs.Readings.{IsSaid, AreSaid}
 
@@ -47,7 +47,7 @@ after_same dpi operation command s =
 -- what an operation does to macros, wherever its command stands; a macro control is no deed
 abbrev pub quietly : Operation → Value → Situation → Result Situation Kind
 quietly ControlMacros value s = Err UnsupportedCommand
-quietly operation value s = managed 0 (Some operation) value s
+quietly operation value s = after_macros 0 (Some operation) value s
 
 abbrev pub does : Dpi → Deed → Situation → Result Situation Kind
 does dpi d s = after dpi d.operation (said_of d) (counted s) |> quietly d.operation d.value
@@ -65,7 +65,7 @@ leading_append (lead e fits a) b = lead e fits (leading_append a b)
 
 -- what a deed does to macros: nothing that can run, and it opens no definition
 record IsQuiet (operation : Operation) (value : Value) (s next : Situation) : Type 0 where
-  anywhere : (place : ℕ) → managed place (Some operation) value s ≡ Ok next
+  anywhere : (place : ℕ) → after_macros place (Some operation) value s ≡ Ok next
   runs : run_from (Some operation) value next ≡ None
   begun : next.begun ≡ s.begun
   performed : next.performed ≡ s.performed
@@ -107,10 +107,10 @@ command_done : {dpi : Dpi} (place : ℕ) (command : Said) {d : Deed} {s next : S
     → (after_command dpi place command s ≡ Ok next) × (run_of command s next ≡ None)
 command_done {dpi} place command {d} {s} {next} is done fits few none =
     let closed : is_some s.begun ≡ false = rw none refl in
-    let tried_is : tried dpi command s ≡ Ok done.now =
-    tried_as dpi command s few is.0
+    let checked_is : after_checked dpi command s ≡ Ok done.now =
+    checked_as dpi command s few is.0
     ∙ rw (deed_done dpi command (counted s) is done.drawn_as) (fits_too done.now next done.is_quiet.pages fits) in
-    (rw (closed, tried_is, is.0, is.1) (done.is_quiet.anywhere place), rw (closed, is.0, is.1) done.is_quiet.runs)
+    (rw (closed, checked_is, is.0, is.1) (done.is_quiet.anywhere place), rw (closed, is.0, is.1) done.is_quiet.runs)
 
 -- performing commands that are deeds leads where the deeds do
 pub commands_done : (dpi : Dpi) (f : Said → Run → Situation → Performance) (place : ℕ) (commands : List Said) (deeds : List Deed)

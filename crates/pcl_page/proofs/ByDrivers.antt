@@ -6,7 +6,7 @@ use Rattle.pcl_fonts.specs.declared.header.FontInfo.{FontInfo}
 use Rattle.pcl_fonts.specs.Fields.{has_format, is_plain, info_of}
 use Rattle.pcl_page.specs.Text.{header_refusal, character_refusal}
 use Rattle.pcl_page.specs.Situation.{after, blank_passed, blanks_passed, text_in}
-use Rattle.pcl_page.proofs.Names.{Dpi, Kind, MacroOpen, Asking, SheetSide, Operation, ControlMacros, DownloadCharacter, DownloadFont, PrintText, Stated, Drivers, Refusal, Value, macro_limit, operation_of, option_map, Effect, EjectMarked, Settings, defaults, font_in_use, Outcome, Said, Character, Font, font_after, Action, Keeping, Raster, ends_raster, prints, Situation, at_begin, settings_below, end_raster, turned, turned_by, taken, code_printed, codes_printed, font_now, put_back, asked_for, drawn, drawn_on, draw_refusal, unless_refused, ◌|>◌, is_ignored, prepared, after_named, counted_in_limit, page_refusal, within_page_limit, tried, with_what_stays, at_end, Run, action_of, acted, lasting_by, managed, counting, defining, keeping_of, after_command, run_by, run_from, run_of, macro_ended, Performance, done, unless, then_on, in_order, concluded, and_run, step, commands_left, runs, end_refusal, ended, after_end, performance, performance_of}
+use Rattle.pcl_page.proofs.Names.{Dpi, Kind, MacroOpen, Asking, SheetSide, Operation, ControlMacros, DownloadCharacter, DownloadFont, PrintText, Stated, Drivers, Refusal, Value, macro_limit, operation_of, option_map, Effect, EjectMarked, Settings, defaults, font_in_use, Outcome, Said, Character, Font, font_after, Action, Keeping, Raster, ends_raster, prints, Situation, at_begin, settings_below, end_raster, turned, turned_by, taken, code_printed, codes_printed, font_now, put_back, asked_for, drawn, drawn_on, draw_refusal, unless_refused, ◌|>◌, is_ignored, prepared, after_named, counted_in_limit, page_refusal, within_page_limit, after_checked, with_what_stays, at_end, Run, action_of, acted, lasting_by, after_macros, after_counted, defining, keeping_of, after_command, run_by, run_from, run_of, macro_ended, Performance, done, unless, then_on, in_order, led_to, and_run, step, commands_left, runs, end_refusal, ended, after_end, performance, performance_of}
 use Rattle.pcl_page.proofs.Profiles.{IsStated, set_by_drivers, AreSetAlike, AreTakenAlike, outcome_alike}
 
 -- ---- situations by both profiles
@@ -169,8 +169,8 @@ counted_alike s stated = grind (arith, stated)
 page_limit_alike : LeadsAlike within_page_limit
 page_limit_alike s stated = grind (arith, stated)
 
-tried_alike : (dpi : Dpi) (command : Said) → LeadsAlike (tried dpi command)
-tried_alike dpi command s stated =
+checked_alike : (dpi : Dpi) (command : Said) → LeadsAlike (after_checked dpi command)
+checked_alike dpi command s stated =
     led_on _ _ within_page_limit (led_on _ _ (after_named dpi (operation_of command.name) command) (counted_alike s stated)
     (named_alike dpi (operation_of command.name) command)) page_limit_alike
 
@@ -183,28 +183,28 @@ lasting_alike : (action : Option Action) (s : Situation) → IsStated s.settings
     → StandAlike (lasting_by action s) (lasting_by action (by_drivers s))
 lasting_alike action s stated = grind (arith, stated)
 
-managed_alike : (place : ℕ) (operation : Option Operation) (value : Value) → LeadsAlike (managed place operation value)
-managed_alike place (Some ControlMacros) value s stated =
+after_macros_alike : (place : ℕ) (operation : Option Operation) (value : Value) → LeadsAlike (after_macros place operation value)
+after_macros_alike place (Some ControlMacros) value s stated =
     let lasting = lasting_alike (action_of value) s stated in
     rw lasting.0 (acted_alike place (action_of value) _ lasting.1)
-managed_alike place other value s stated = (refl, stated)
+after_macros_alike place other value s stated = (refl, stated)
 
-counting_alike : (dpi : Dpi) (place : ℕ) (command : Said) → LeadsAlike (counting dpi place command)
-counting_alike dpi place command s stated =
-    led_on _ _ (managed place (operation_of command.name) command.value) (tried_alike dpi command s stated)
-    (managed_alike place (operation_of command.name) command.value)
+after_counted_alike : (dpi : Dpi) (place : ℕ) (command : Said) → LeadsAlike (after_counted dpi place command)
+after_counted_alike dpi place command s stated =
+    led_on _ _ (after_macros place (operation_of command.name) command.value) (checked_alike dpi command s stated)
+    (after_macros_alike place (operation_of command.name) command.value)
 
 defining_alike : (dpi : Dpi) (place : ℕ) (keeping : Keeping) (command : Said) → LeadsAlike (defining dpi place keeping command)
-defining_alike dpi place keeping command s stated = grind (arith, stated, counting_alike dpi place command s stated)
+defining_alike dpi place keeping command s stated = grind (arith, stated, after_counted_alike dpi place command s stated)
 
 command_alike : (dpi : Dpi) (place : ℕ) (command : Said) → LeadsAlike (after_command dpi place command)
 command_alike dpi place command s stated = by_test (is_some s.begun) (keeping_of (operation_of command.name) command.value)
   where
     by_test : (test : Bool) (keeping : Keeping)
-        → AreLedAlike (if test then defining dpi place keeping command s else counting dpi place command s)
-        (if test then defining dpi place keeping command (by_drivers s) else counting dpi place command (by_drivers s))
+        → AreLedAlike (if test then defining dpi place keeping command s else after_counted dpi place command s)
+        (if test then defining dpi place keeping command (by_drivers s) else after_counted dpi place command (by_drivers s))
     by_test true keeping = defining_alike dpi place keeping command s stated
-    by_test false keeping = counting_alike dpi place command s stated
+    by_test false keeping = after_counted_alike dpi place command s stated
 
 -- ---- macros that run
 
@@ -285,17 +285,17 @@ module _ (dpi : Dpi) (running : Said → Run → Situation → Performance) (mac
   and_run_alike command (Some run) (Some other) s alike stated = rw alike.0 (macros_alike command run alike.1 s stated)
   and_run_alike command one other s alike stated = absurd alike
 
-  concluded_alike : (command : Said) (s : Situation) (one other : Result Situation Kind) → AreLedAlike one other
-      → ArePerformedAlike (concluded command s one) (concluded command (by_drivers s) other)
-  concluded_alike command s (Err kind) other alike = tt
-  concluded_alike command s (Ok later) (Err kind) alike = absurd alike
-  concluded_alike command s (Ok later) (Ok other) alike = (ap done alike.0, alike.1)
+  led_to_alike : (command : Said) (s : Situation) (one other : Result Situation Kind) → AreLedAlike one other
+      → ArePerformedAlike (led_to command s one) (led_to command (by_drivers s) other)
+  led_to_alike command s (Err kind) other alike = tt
+  led_to_alike command s (Ok later) (Err kind) alike = absurd alike
+  led_to_alike command s (Ok later) (Ok other) alike = (ap done alike.0, alike.1)
 
   step_alike : (place : ℕ) (command : Said) → PerformsAlike (step dpi running place command) (step dpi running place command)
   step_alike place command s stated =
       performed_on _ _ (λ later. and_run (running command) (run_of command s later) later)
       (λ later. and_run (running command) (run_of command (by_drivers s) later) later)
-      (concluded_alike command s _ _ (command_alike dpi place command s stated))
+      (led_to_alike command s _ _ (command_alike dpi place command s stated))
       (λ later stays. and_run_alike command _ _ later (run_alike command s later stays) stays)
 
 macros_alike : (levels : ℕ) (dpi : Dpi) (all : List Said) → MacrosRunAlike (runs levels dpi all)

@@ -1,7 +1,7 @@
 -- The command that ends a definition counts, and runs no macro.
 use Rattle.std.proofs.Common.{◌≡◌, ℕ, Bool, true, cond, [], Option, Some, None, Result, Ok, refl, sym, ap, ◌∙◌, append-nil, arith}
 use Rattle.pcl_page.proofs.Interpreted.{runs_none}
-use Rattle.pcl_page.proofs.Names.{is_some, Dpi, CallFault, Operation, ControlMacros, Value, operation_of, Said, is_begun, Page, Interpreter, Action, End, Keeping, Kept, Ends, Situation, action_of, control_keeping, keeping_of, counting, defining, after_command, run_by, run_from, run_of, IsAt, IsStepped}
+use Rattle.pcl_page.proofs.Names.{is_some, Dpi, CallFault, Operation, ControlMacros, Value, operation_of, Said, is_begun, Page, Interpreter, Action, End, Keeping, Kept, Ends, Situation, action_of, control_keeping, keeping_of, after_counted, defining, after_command, run_by, run_from, run_of, IsAt, IsStepped}
 
 command_inside : (dpi : Dpi) (place : ℕ) (command : Said) (s : Situation) {keeping : Keeping} → is_some s.begun ≡ true
     → keeping_of (operation_of command.name) command.value ≡ keeping
@@ -32,7 +32,8 @@ stepped_kept takes dpi place command s old sink at some kept =
 pub stepped_ending : {S : Type 0} (takes : S → Page → S → Type 0) (dpi : Dpi) (place : ℕ) (command : Said) (s : Situation)
     (result : Result (Unit {0}) CallFault) (old new : Interpreter) (sink later : S) → IsAt dpi s old → is_begun old.macros ≡ true
     → keeping_of (operation_of command.name) command.value ≡ Ends
-    → IsStepped takes dpi (counting dpi place command s) (run_from (operation_of command.name) command.value) s result old new sink later
+    → IsStepped takes dpi (after_counted dpi place command s) (run_from (operation_of command.name) command.value)
+    s result old new sink later
     → IsStepped takes dpi (after_command dpi place command s) (run_of command s) s result old new sink later
 stepped_ending takes dpi place command s result old new sink later at some ends step =
     let begun : is_some s.begun ≡ true = cc in

@@ -2,14 +2,14 @@
 use Rattle.std.proofs.Common.{◌≡◌, ℕ, ◌+◌, Bool, true, false, cond, List, ◌∷◌, Option, Some, None, Result, Ok, Err, refl, sym, ap, ◌∙◌, append-nil, inl, inr, rules}
 use Rattle.pcl_macros.specs.History.{MacroBody}
 use Rattle.pcl_macros.specs.Table.{places_of}
-use Rattle.pcl_page.proofs.Names.{is_some, option_map, Dpi, CallFault, Refused, Memory, JobFault, Kind, Operation, ControlMacros, Value, operation_of, Effect, Stay, Settings, kept, Outcome, Said, MacroControl, MacroEvent, control, Begun, Controls, macro_at, is_begun, Page, Performer, Interpreter, Begin, Execute, Call, Control, Run, acted, managed, counting, run_by, run_from, run_with, macro_now, IsIn, HandsMore, IsTried, EndDone, IsAt, Enters, IsStepped, IsActed, IsEntered, InterpreterEnds}
+use Rattle.pcl_page.proofs.Names.{is_some, option_map, Dpi, CallFault, Refused, Memory, JobFault, Kind, Operation, ControlMacros, Value, operation_of, Effect, Stay, Settings, kept, Outcome, Said, MacroControl, MacroEvent, control, Begun, Controls, macro_at, is_begun, Page, Performer, Interpreter, Begin, Execute, Call, Control, Run, acted, after_macros, after_counted, run_by, run_from, run_with, macro_now, IsIn, HandsMore, IsTried, EndDone, IsAt, Enters, IsStepped, IsActed, IsEntered, InterpreterEnds}
 use Rattle.pcl_base.specs.declared.fault.JobFault.TheVariants as job
 use Rattle.pcl_env.specs.Outcome.{outcome}
 use Rattle.pcl_macros.proofs.Histories.{holds_after}
-use Rattle.pcl_page.specs.Situation.{Situation, ◌|>◌, is_marked, turned, turned_by, drawn_on, taken, counted, prepared, is_ignored, after, after_named, tried}
+use Rattle.pcl_page.specs.Situation.{Situation, ◌|>◌, is_marked, turned, turned_by, drawn_on, taken, counted, prepared, is_ignored, after, after_named, after_checked}
 use Rattle.pcl_page.proofs.Keeping.{then_from, is_counted}
 use Rattle.pcl_page.proofs.Steps.{only_stays, stays_pages, no_more}
-use Rattle.pcl_page.proofs.Unfolded.{managed_acts}
+use Rattle.pcl_page.proofs.Unfolded.{macros_act}
 
 -- nothing runs
 abbrev pub runs_none : Situation → Option Run
@@ -31,10 +31,10 @@ control_turned dpi value (Some done) s {later} is e =
     rw (← same) (stays_pages done s (control_outcome dpi value (is_marked s) s.settings is))
 
 -- what is refused for macros ejects nothing
-unmanaged_pages : (dpi : Dpi) (place : ℕ) (operation : Option Operation) (command : Said) (s : Situation) {now : Situation} {kind : Kind}
-    → after_named dpi operation command s ≡ Ok now → managed place operation command.value now ≡ Err kind → now.pages ≡ s.pages
+unchanged_pages : (dpi : Dpi) (place : ℕ) (operation : Option Operation) (command : Said) (s : Situation) {now : Situation} {kind : Kind}
+    → after_named dpi operation command s ≡ Ok now → after_macros place operation command.value now ≡ Err kind → now.pages ≡ s.pages
 unfolding after
-unmanaged_pages dpi place (Some ControlMacros) command s {now} e m =
+unchanged_pages dpi place (Some ControlMacros) command s {now} e m =
     let before = prepared dpi ControlMacros s in
     let on = taken dpi ControlMacros command.value before in
     let next = drawn_on dpi ControlMacros command in
@@ -44,71 +44,71 @@ unmanaged_pages dpi place (Some ControlMacros) command s {now} e m =
           let t = then_from on next is in
           let same : t.0 ≡ now = let drawn_is = t.2 in cc in rw (← same) (control_turned dpi command.value _ before refl t.1)
     ] e
-unmanaged_pages dpi place other command s e m = absurd cc
+unchanged_pages dpi place other command s e m = absurd cc
 
 -- the performer performed the command, and nothing was done to macros yet
-pub at_tried : {dpi : Dpi} (command : Said) {s now : Situation} {old middle : Interpreter} → IsAt dpi s old
-    → tried dpi command s ≡ Ok now → IsIn dpi now middle.performer → middle.macros ≡ old.macros → IsAt dpi now middle
-at_tried {dpi} command {s} {now} {middle} at e i same =
+pub at_checked : {dpi : Dpi} (command : Said) {s now : Situation} {old middle : Interpreter} → IsAt dpi s old
+    → after_checked dpi command s ≡ Ok now → IsIn dpi now middle.performer → middle.macros ≡ old.macros → IsAt dpi now middle
+at_checked {dpi} command {s} {now} {middle} at e i same =
     let a = (is_counted dpi command s e).adds in search (rules, same, a.macros)
 
 -- a command, and what it does to macros
 module _ {S : Type 0} (takes : S → Page → S → Type 0) (dpi : Dpi) (place : ℕ) (command : Said) (s : Situation) where
   -- what is done to macros after the rest
-  abbrev managed_by : Situation → Result Situation Kind
-  managed_by = managed place (operation_of command.name) command.value
+  abbrev by_macros : Situation → Result Situation Kind
+  by_macros = after_macros place (operation_of command.name) command.value
 
   -- the macro that then runs
   abbrev runs_by : Situation → Option Run
   runs_by = run_from (operation_of command.name) command.value
 
   -- what is refused for macros leaves the sink as it was
-  unmanaged_sink : (now : Situation) (sink later : S) {kind : Kind} → tried dpi command s ≡ Ok now → managed_by now ≡ Err kind
+  unchanged_sink : (now : Situation) (sink later : S) {kind : Kind} → after_checked dpi command s ≡ Ok now → by_macros now ≡ Err kind
       → HandsMore takes dpi s now sink later → later ≡ sink
-  unmanaged_sink now sink later t e h =
-      let same = unmanaged_pages dpi place (operation_of command.name) command (counted s) (is_counted dpi command s t).after_is e in
+  unchanged_sink now sink later t e h =
+      let same = unchanged_pages dpi place (operation_of command.name) command (counted s) (is_counted dpi command s t).after_is e in
       rw (no_more s.pages h.0 (sym same ∙ h.1)) at h.2
 
-  managed_more : (now then : Situation) (sink later : S) → managed_by now ≡ Ok then → HandsMore takes dpi s now sink later
+  more_of_macros : (now then : Situation) (sink later : S) → by_macros now ≡ Ok then → HandsMore takes dpi s now sink later
       → HandsMore takes dpi s then sink later
-  managed_more now then sink later m h = (h.0, (managed_acts place (operation_of command.name) command.value m).pages ∙ h.1, h.2)
+  more_of_macros now then sink later m h = (h.0, (macros_act place (operation_of command.name) command.value m).pages ∙ h.1, h.2)
 
   stepped_by : (old middle new : Interpreter) (sink later : S) (result : Result (Unit {0}) CallFault) (now : Situation)
-      → middle.running ≡ old.running → tried dpi command s ≡ Ok now → HandsMore takes dpi s now sink later
-      → IsActed dpi (managed_by now) runs_by result middle new
-      → IsStepped takes dpi (counting dpi place command s) runs_by s result old new sink later
-  stepped_by old middle new sink later (Ok unit) now run t h a = (a.0, rw t a.1, a.2, rw run at a.3, managed_more now a.0 sink later a.1 h)
+      → middle.running ≡ old.running → after_checked dpi command s ≡ Ok now → HandsMore takes dpi s now sink later
+      → IsActed dpi (by_macros now) runs_by result middle new
+      → IsStepped takes dpi (after_counted dpi place command s) runs_by s result old new sink later
+  stepped_by old middle new sink later (Ok unit) now run t h a = (a.0, rw t a.1, a.2, rw run at a.3, more_of_macros now a.0 sink later a.1 h)
   stepped_by old middle new sink later (Err (Refused kind)) now run t h a =
       elim a [
-        | inl e ↦ inl (rw t e, unmanaged_sink now sink later t e h)
-        | inr a ↦ inr (a.0, a.1, rw t a.2, a.3, rw run at a.4, a.5, managed_more now a.0 sink later a.2 h)
+        | inl e ↦ inl (rw t e, unchanged_sink now sink later t e h)
+        | inr a ↦ inr (a.0, a.1, rw t a.2, a.3, rw run at a.4, a.5, more_of_macros now a.0 sink later a.2 h)
       ]
-  stepped_by old middle new sink later (Err Memory) now run t h a = inr (a.0, rw t a.1, managed_more now a.0 sink later a.1 h)
+  stepped_by old middle new sink later (Err Memory) now run t h a = inr (a.0, rw t a.1, more_of_macros now a.0 sink later a.1 h)
 
   pub counted_stepped : (operation : Operation) (old middle new : Interpreter) (sink later : S) (result : Result (Unit {0}) CallFault)
       → IsAt dpi s old → IsTried takes dpi command s (Ok operation) middle.performer sink later
       → middle.macros ≡ old.macros → middle.running ≡ old.running → ((t : Situation) → IsAt dpi t middle
-      → IsActed dpi (managed place (Some operation) command.value t) (run_from (Some operation) command.value) result middle new)
-      → IsStepped takes dpi (counting dpi place command s) runs_by s result old new sink later
+      → IsActed dpi (after_macros place (Some operation) command.value t) (run_from (Some operation) command.value) result middle new)
+      → IsStepped takes dpi (after_counted dpi place command s) runs_by s result old new sink later
   counted_stepped operation old middle new sink later result at t same run f =
-      stepped_by old middle new sink later result t.0 run t.2 t.4 (rw t.1 (f t.0 (at_tried command at t.2 t.3 same)))
+      stepped_by old middle new sink later result t.0 run t.2 t.4 (rw t.1 (f t.0 (at_checked command at t.2 t.3 same)))
 
   -- the performer refused it, or memory ran out there
-  pub counted_untried : (old new : Interpreter) (sink later : S) (fault : CallFault)
+  pub counted_unchecked : (old new : Interpreter) (sink later : S) (fault : CallFault)
       → IsTried takes dpi command s (Err fault) new.performer sink later
-      → IsStepped takes dpi (counting dpi place command s) runs_by s (Err fault) old new sink later
-  counted_untried old new sink later (Refused kind) t = inl (rw t.0 refl, t.1)
-  counted_untried old new sink later Memory t =
+      → IsStepped takes dpi (after_counted dpi place command s) runs_by s (Err fault) old new sink later
+  counted_unchecked old new sink later (Refused kind) t = inl (rw t.0 refl, t.1)
+  counted_unchecked old new sink later Memory t =
       elim t [
         | inl same ↦ inl same
-        | inr d ↦ short_by (managed_by d.0) d refl
+        | inr d ↦ short_by (by_macros d.0) d refl
       ]
     where
       short_by : (o : Result Situation Kind)
-          → (d : (now : Situation) × (tried dpi command s ≡ Ok now) × HandsMore takes dpi s now sink later) → managed_by d.0 ≡ o
-          → IsStepped takes dpi (counting dpi place command s) runs_by s (Err Memory) old new sink later
-      short_by (Ok now) d m = inr (now, rw d.1 m, managed_more d.0 now sink later m d.2)
-      short_by (Err kind) d m = inl (unmanaged_sink d.0 sink later d.1 m d.2)
+          → (d : (now : Situation) × (after_checked dpi command s ≡ Ok now) × HandsMore takes dpi s now sink later) → by_macros d.0 ≡ o
+          → IsStepped takes dpi (after_counted dpi place command s) runs_by s (Err Memory) old new sink later
+      short_by (Ok now) d m = inr (now, rw d.1 m, more_of_macros d.0 now sink later m d.2)
+      short_by (Err kind) d m = inl (unchanged_sink d.0 sink later d.1 m d.2)
 
 -- ---- what is done to macros
 

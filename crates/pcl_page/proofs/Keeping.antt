@@ -1,7 +1,7 @@
 -- What a command leaves alone.
 use Rattle.std.proofs.Common.{◌≡◌, ℕ, ◌<◌, Bool, true, false, cond, nat_le, List, [], ◌∷◌, Option, Some, None, Result, Ok, Err, refl, length-append, arith, rules}
 use Rattle.pcl_page.proofs.Names.{nat_tests, Dpi, Kind, TooManyCommands, Operation, PrintText, command_limit, operation_of, Character, Said, Effect, EjectMarked, Settings, defaults, font_in_use, Outcome, outcome, FontInfo, info_of, prints, ends_raster}
-use Rattle.pcl_page.specs.Situation.{Situation, font_now, blank_passed, code_printed, codes_printed, blanks_passed, text_in, draw_refusal, unless_refused, ◌|>◌, end_raster, is_marked, ejects, sheet_of, turned_page, turned, turned_by, drawn, drawn_on, taken, counted, counted_in_limit, prepared, is_ignored, after, after_named, page_refusal, within_page_limit, tried, at_end}
+use Rattle.pcl_page.specs.Situation.{Situation, font_now, blank_passed, code_printed, codes_printed, blanks_passed, text_in, draw_refusal, unless_refused, ◌|>◌, end_raster, is_marked, ejects, sheet_of, turned_page, turned, turned_by, drawn, drawn_on, taken, counted, counted_in_limit, prepared, is_ignored, after, after_named, page_refusal, within_page_limit, after_checked, at_end}
 use Rattle.pcl_page.proofs.Sinks.{Onward, stays_there}
 use Rattle.pcl_page.proofs.Turns.{prepared_page}
 
@@ -118,7 +118,7 @@ pub record IsCounted (dpi : Dpi) (command : Said) (s later : Situation) : Type 0
   pub after_is : after_named dpi (operation_of command.name) command (counted s) ≡ Ok later
   pub adds : Adds (counted s) later
 
-pub is_counted : (dpi : Dpi) (command : Said) (s : Situation) {later : Situation} → tried dpi command s ≡ Ok later
+pub is_counted : (dpi : Dpi) (command : Said) (s : Situation) {later : Situation} → after_checked dpi command s ≡ Ok later
     → IsCounted dpi command s later
 is_counted dpi command s {later} e =
     let named = after_named dpi (operation_of command.name) command in

@@ -4,7 +4,7 @@ use Rattle.pcl_page.proofs.Names.{nat_tests, Dpi, CallFault, Refused, Memory, Ki
 use Rattle.pcl_env.specs.Outcome.{outcome}
 use Rattle.pcl_fonts.specs.History.{has_permanent as is_font_permanent}
 use Rattle.pcl_macros.specs.History.{has_permanent as is_macro_permanent}
-use Rattle.pcl_page.specs.Situation.{Sheet, Situation, turned_page, put_back, with_what_stays, draw_refusal, unless_refused, ◌|>◌, drawn_on, end_raster, is_marked, sheet_of, turned, turned_by, drawn, counted, prepared, is_ignored, after, after_named, at_end, page_refusal, within_page_limit, tried}
+use Rattle.pcl_page.specs.Situation.{Sheet, Situation, turned_page, put_back, with_what_stays, draw_refusal, unless_refused, ◌|>◌, drawn_on, end_raster, is_marked, sheet_of, turned, turned_by, drawn, counted, prepared, is_ignored, after, after_named, at_end, page_refusal, within_page_limit, after_checked}
 use Rattle.pcl_page.proofs.Turns.{prepared_page, with_settings, pages_fit, pages_past, handed_sheet, below_same}
 use Rattle.pcl_page.proofs.Keeping.{drawn_keeps}
 
@@ -17,9 +17,10 @@ pub counted_in : {dpi : Dpi} {s : Situation} {old new : Performer} → IsIn dpi 
 counted_in i e r b m j p a f = search (rules, f, b)
 
 -- a command that is not past the limit, by its operation
-pub tried_as : (dpi : Dpi) (command : Said) {operation : Option Operation} (s : Situation) → s.performed < 100000000
-    → operation_of command.name ≡ operation → tried dpi command s ≡ (after_named dpi operation command (counted s) |> within_page_limit)
-tried_as dpi command s few named =
+pub checked_as : (dpi : Dpi) (command : Said) {operation : Option Operation} (s : Situation) → s.performed < 100000000
+    → operation_of command.name ≡ operation
+    → after_checked dpi command s ≡ (after_named dpi operation command (counted s) |> within_page_limit)
+checked_as dpi command s few named =
     let under : nat_le command_limit s.performed ≡ false = grind (arith, nat_tests) in
     rw (under, named) refl
 
@@ -65,26 +66,27 @@ module _ {S : Type 0} (takes : S → Page → S → Type 0) (dpi : Dpi) (operati
   abbrev turned_with : Settings × Effect → Situation
   turned_with done = turned done.0 done.1 before
 
-  pub tried_ignored : (old new : Performer) (sink : S)
+  pub checked_ignored : (old new : Performer) (sink : S)
       → IsIn dpi s old → old.performed < 100000000 → old.ejected ≤ 256 → operation_of command.name ≡ Some operation
       → (is_some old.raster && is_ignored_in_raster operation) ≡ true → IsIn dpi (counted s) new
       → IsTried takes dpi command s (Ok operation) new sink sink
   unfolding after
-  tried_ignored old new sink i few fit named e now =
+  checked_ignored old new sink i few fit named e now =
       let ignored : is_ignored operation s ≡ true = cc in (
         counted s,
         named,
-        tried_as dpi command s (omega (arith, few, i.performed)) named
+        checked_as dpi command s (omega (arith, few, i.performed)) named
             ∙ rw (ignored, pages_fit (counted s) (omega (arith, i.ejected))) refl,
         now,
         ([], sym (append-nil s.pages), refl),
       )
 
   -- by why it isn't drawn, if it isn't
-  tried_by : (now : Situation) {why : Option Kind}
-      → tried dpi command s ≡ (drawn_on dpi operation command now |> within_page_limit) → draw_refusal dpi operation command now ≡ why
-      → tried dpi command s ≡ (unless_refused why (drawn dpi operation command now) |> within_page_limit)
-  tried_by now is e = is ∙ rw e refl
+  checked_by : (now : Situation) {why : Option Kind}
+      → after_checked dpi command s ≡ (drawn_on dpi operation command now |> within_page_limit)
+      → draw_refusal dpi operation command now ≡ why
+      → after_checked dpi command s ≡ (unless_refused why (drawn dpi operation command now) |> within_page_limit)
+  checked_by now is e = is ∙ rw e refl
 
   -- what is drawn hands over no page
   drawn_fits : (now : Situation) {past : Option Kind} → page_refusal now ≡ past
@@ -93,15 +95,15 @@ module _ {S : Type 0} (takes : S → Page → S → Type 0) (dpi : Dpi) (operati
 
   -- the page was turned: what holds before anything is drawn, and what then is the situation after the command
   pub record IsGone (now : Situation) (sink later : S) : Type 0 where
-    pub tried_is : tried dpi command s ≡ (drawn_on dpi operation command now |> within_page_limit)
+    pub checked_is : after_checked dpi command s ≡ (drawn_on dpi operation command now |> within_page_limit)
     pub fits : page_refusal now ≡ None
     pub handed : HandsMore takes dpi s (drawn dpi operation command now) sink later
     pub quiet : (kind : Kind) → draw_refusal dpi operation command now ≡ Some kind → later ≡ sink
 
   -- nothing is refused where it is drawn
   gone_drawn : (now : Situation) {sink later : S} → IsGone now sink later → draw_refusal dpi operation command now ≡ None
-      → tried dpi command s ≡ Ok (drawn dpi operation command now)
-  gone_drawn now g e = tried_by now g.tried_is e ∙ drawn_fits now g.fits
+      → after_checked dpi command s ≡ Ok (drawn dpi operation command now)
+  gone_drawn now g e = checked_by now g.checked_is e ∙ drawn_fits now g.fits
 
   -- memory ran out after the turn
   gone_short : (now : Situation) (new : Performer) (sink later : S) (why : Option Kind) → IsGone now sink later
@@ -119,17 +121,17 @@ module _ {S : Type 0} (takes : S → Page → S → Type 0) (dpi : Dpi) (operati
   module _ {old : Performer} (i : IsIn dpi s old) (few : old.performed < 100000000) (named : operation_of command.name ≡ Some operation)
       (performed : (is_some old.raster && is_ignored_in_raster operation) ≡ false) where
     -- what it leads to, by the outcome of its operation
-    tried_at : {o : Outcome} → set_to ≡ o
-        → tried dpi command s ≡ (turned_by o before |> drawn_on dpi operation command |> within_page_limit)
+    checked_at : {o : Outcome} → set_to ≡ o
+        → after_checked dpi command s ≡ (turned_by o before |> drawn_on dpi operation command |> within_page_limit)
     unfolding after
-    tried_at is =
+    checked_at is =
         let ignored : is_ignored operation s ≡ false = cc (i.raster, performed) in
-        tried_as dpi command s (omega (arith, few, i.performed)) named ∙ rw (ignored, is) refl
+        checked_as dpi command s (omega (arith, few, i.performed)) named ∙ rw (ignored, is) refl
 
     gone_with : (done : Settings × Effect) (sink later : S) → set_to ≡ Some done → page_refusal (turned_with done) ≡ None
         → HandsMore takes dpi before (turned_with done) sink later → IsGone (turned_with done) sink later
     gone_with done sink later is fits h = record {
-      tried_is = tried_at is;
+      checked_is = checked_at is;
       fits = fits;
       handed =
           let drawn_is = (drawn_keeps dpi operation command {s = turned_with done}).pages in
@@ -151,32 +153,32 @@ module _ {S : Type 0} (takes : S → Page → S → Type 0) (dpi : Dpi) (operati
 
     pub refused_by : (new : Performer) (sink later : S) (o : Outcome) (fault : CallFault) → set_to ≡ o
         → IsTurned takes dpi o before (Err fault) new sink later → IsTried takes dpi command s (Err fault) new sink later
-    refused_by new sink later None (Refused kind) is t = (rw t.0 (tried_at is), t.1)
+    refused_by new sink later None (Refused kind) is t = (rw t.0 (checked_at is), t.1)
     refused_by new sink later (Some done) (Refused kind) is t =
         let free = past_why _ is t.0 refl in
-        (tried_by (turned_with done) (tried_at is) free ∙ drawn_fits (turned_with done) t.0, t.1)
+        (checked_by (turned_with done) (checked_at is) free ∙ drawn_fits (turned_with done) t.0, t.1)
     refused_by new sink later None Memory is t = inl t
     refused_by new sink later (Some done) Memory is t = inl t
 
-    pub tried_drawn : (middle new : Performer) (sink later : S) (o : Outcome) → set_to ≡ o
+    pub checked_drawn : (middle new : Performer) (sink later : S) (o : Outcome) → set_to ≡ o
         → IsTurned takes dpi o before (Ok tt) middle sink later → DrawsOn middle (Ok tt) new
         → IsTried takes dpi command s (Ok operation) new sink later
-    tried_drawn middle new sink later None is t f = absurd t
-    tried_drawn middle new sink later (Some done) is t f =
+    checked_drawn middle new sink later None is t f = absurd t
+    checked_drawn middle new sink later (Some done) is t f =
         let g = gone_with done sink later is t.1 t.2 in
         let d = f (turned_with done) t.0 in
         (drawn dpi operation command (turned_with done), named, gone_drawn (turned_with done) g d.0, d.1, g.handed)
 
     -- a command that is refused where it draws
-    pub tried_undrawn : (middle new : Performer) (sink later : S) (o : Outcome) (fault : CallFault) → set_to ≡ o
+    pub checked_undrawn : (middle new : Performer) (sink later : S) (o : Outcome) (fault : CallFault) → set_to ≡ o
         → IsTurned takes dpi o before (Ok tt) middle sink later → DrawsOn middle (Err fault) new
         → IsTried takes dpi command s (Err fault) new sink later
-    tried_undrawn middle new sink later None fault is t f = absurd t
-    tried_undrawn middle new sink later (Some done) (Refused kind) is t f =
+    checked_undrawn middle new sink later None fault is t f = absurd t
+    checked_undrawn middle new sink later (Some done) (Refused kind) is t f =
         let g = gone_with done sink later is t.1 t.2 in
         let d = f (turned_with done) t.0 in
-        (tried_by (turned_with done) g.tried_is d, g.quiet kind d)
-    tried_undrawn middle new sink later (Some done) Memory is t f =
+        (checked_by (turned_with done) g.checked_is d, g.quiet kind d)
+    checked_undrawn middle new sink later (Some done) Memory is t f =
         gone_short (turned_with done) new sink later _ (gone_with done sink later is t.1 t.2) refl
 
 -- ---- the end of the input

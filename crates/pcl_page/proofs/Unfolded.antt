@@ -1,6 +1,6 @@
 -- Performances of commands and of macros, unfolded.
 use Rattle.std.proofs.Common.{◌≡◌, ℕ, zero, suc, ◌+◌, ◌-◌, ◌<◌, Bool, true, false, cond, List, [], ◌∷◌, ◌++◌, length, Option, Some, None, Result, Ok, Err, refl, sym, ◌∙◌, append-nil, arith, inl, inr, is_some, ◌⊎◌}
-use Rattle.pcl_page.proofs.Names.{Dpi, Kind, MacroDepth, Operation, ControlMacros, Value, macro_limit, operation_of, Settings, Said, Running, Action, Keeping, Situation, tried, Run, action_of, keeping_of, acted, lasting_by, managed, counting, defining, after_command, run_of, macro_ended, Performance, done, stopped, unless, then_on, in_order, concluded, and_run, step, commands_left, runs, run_in, entered, HasLevel, rest_of, resumed, begun_among}
+use Rattle.pcl_page.proofs.Names.{Dpi, Kind, MacroDepth, Operation, ControlMacros, Value, macro_limit, operation_of, Settings, Said, Running, Action, Keeping, Situation, after_checked, Run, action_of, keeping_of, acted, lasting_by, after_macros, after_counted, defining, after_command, run_of, macro_ended, Performance, done, stopped, unless, then_on, in_order, led_to, and_run, step, commands_left, runs, run_in, entered, HasLevel, rest_of, resumed, begun_among}
 use Rattle.pcl_page.proofs.Keeping.{then_from, is_counted}
 use Rattle.pcl_page.proofs.Sinks.{Onward, stays_there, onward_on}
 
@@ -91,16 +91,17 @@ lasting_acts action = grind arith
 acts_on : {s now later : Situation} → ActsOnMacros s now → ActsOnMacros now later → ActsOnMacros s later
 acts_on a b = record { pages = b.pages ∙ a.pages; performed = b.performed ∙ a.performed; asked = b.asked ∙ a.asked }
 
-pub managed_acts : (place : ℕ) (operation : Option Operation) (value : Value) {s later : Situation}
-    → managed place operation value s ≡ Ok later → ActsOnMacros s later
-managed_acts place (Some ControlMacros) value e = acts_on (lasting_acts (action_of value)) (acted_acts place (action_of value) e)
-managed_acts place other value e = same_acts (record { pages = refl; performed = refl; asked = refl }) e
+pub macros_act : (place : ℕ) (operation : Option Operation) (value : Value) {s later : Situation}
+    → after_macros place operation value s ≡ Ok later → ActsOnMacros s later
+macros_act place (Some ControlMacros) value e = acts_on (lasting_acts (action_of value)) (acted_acts place (action_of value) e)
+macros_act place other value e = same_acts (record { pages = refl; performed = refl; asked = refl }) e
 
-counting_counts : (dpi : Dpi) (place : ℕ) (command : Said) {s later : Situation} → counting dpi place command s ≡ Ok later → Counts s later
-counting_counts dpi place command {s} e =
-    let t = then_from (tried dpi command s) (managed place (operation_of command.name) command.value) e in
+after_counted_counts : (dpi : Dpi) (place : ℕ) (command : Said) {s later : Situation}
+    → after_counted dpi place command s ≡ Ok later → Counts s later
+after_counted_counts dpi place command {s} e =
+    let t = then_from (after_checked dpi command s) (after_macros place (operation_of command.name) command.value) e in
     let c = is_counted dpi command s t.1 in
-    let b = managed_acts place (operation_of command.name) command.value t.2 in
+    let b = macros_act place (operation_of command.name) command.value t.2 in
     let o = c.adds.onward in
     record { onward = (o.0, cc (b.pages, o.1), cc (b.asked, o.2)); performed = b.performed ∙ c.adds.performed; few = c.few }
 
@@ -110,13 +111,13 @@ KeptOrCounts s later = ((later ≡ s) × (is_some s.begun ≡ true)) ⊎ Counts 
 
 defining_counts : (dpi : Dpi) (place : ℕ) (keeping : Keeping) (command : Said) {s later : Situation} → is_some s.begun ≡ true
     → defining dpi place keeping command s ≡ Ok later → KeptOrCounts s later
-defining_counts dpi place keeping command b e = grind (arith, counting_counts)
+defining_counts dpi place keeping command b e = grind (arith, after_counted_counts)
 
 pub command_by : (dpi : Dpi) (place : ℕ) (command : Said) {s later : Situation} (begun : Bool) → is_some s.begun ≡ begun
-    → cond begun (defining dpi place (keeping_of (operation_of command.name) command.value) command s) (counting dpi place command s)
+    → cond begun (defining dpi place (keeping_of (operation_of command.name) command.value) command s) (after_counted dpi place command s)
     ≡ Ok later → KeptOrCounts s later
 command_by dpi place command true b e = defining_counts dpi place (keeping_of (operation_of command.name) command.value) command b e
-command_by dpi place command false b e = inr (counting_counts dpi place command e)
+command_by dpi place command false b e = inr (after_counted_counts dpi place command e)
 
 -- ---- performances only add pages
 
@@ -131,13 +132,13 @@ then_grows p s f o g =
       | Some why ↦ o
     ]
 
-concluded_grows : (dpi : Dpi) (place : ℕ) (command : Said) (s : Situation) (o : Result Situation Kind)
-    → after_command dpi place command s ≡ o → Onward s (concluded command s o).situation
-concluded_grows dpi place command s (Ok later) e = elim (command_by dpi place command {s = s} (is_some s.begun) refl e) [
+led_to_grows : (dpi : Dpi) (place : ℕ) (command : Said) (s : Situation) (o : Result Situation Kind)
+    → after_command dpi place command s ≡ o → Onward s (led_to command s o).situation
+led_to_grows dpi place command s (Ok later) e = elim (command_by dpi place command {s = s} (is_some s.begun) refl e) [
   | inl same ↦ rw same.0 (stays_there s)
   | inr counts ↦ counts.onward
 ]
-concluded_grows dpi place command s (Err kind) e = stays_there s
+led_to_grows dpi place command s (Err kind) e = stays_there s
 
 run_grows : (f : Run → Situation → Performance) (run : Option Run) → ((r : Run) → Grows (f r)) → Grows (and_run f run)
 run_grows f None g = stays_there
@@ -146,7 +147,7 @@ run_grows f (Some run) g = g run
 step_grows : (dpi : Dpi) (f : Said → Run → Situation → Performance) (place : ℕ) {command : Said}
     → ((r : Run) → Grows (f command r)) → Grows (step dpi f place command)
 step_grows dpi f place {command} g = λ s.
-    then_grows _ s _ (concluded_grows dpi place command s _ refl) (λ later. run_grows (f command) (run_of command s later) g later)
+    then_grows _ s _ (led_to_grows dpi place command s _ refl) (λ later. run_grows (f command) (run_of command s later) g later)
 
 pub order_grows : (dpi : Dpi) (f : Said → Run → Situation → Performance) (place : ℕ) (commands : List Said)
     → ((command : Said) (r : Run) → Grows (f command r)) → Grows (in_order (step dpi f) place commands)

@@ -19,7 +19,7 @@ use Rattle.pcl_page.specs.declared.macros.Action.{Action}
 use Rattle.pcl_page.specs.declared.macros.Action.TheVariants.{Begin, End, Execute, Call, Control}
 use Rattle.pcl_page.specs.declared.macros.Keeping.{Keeping}
 use Rattle.pcl_page.specs.declared.macros.Keeping.TheVariants.{Kept, Ends, Refused}
-use Rattle.pcl_page.specs.Situation.{Situation, is_marked, end_raster, with_lasting, ◌|>◌, tried}
+use Rattle.pcl_page.specs.Situation.{Situation, is_marked, end_raster, with_lasting, ◌|>◌, after_checked}
 
 -- what a macro control does, by its number
 abbrev pub action_of : Value → Option Action
@@ -94,29 +94,29 @@ lasting_by None s = s
 lasting_by (Some action) s = with_lasting (macro_lasts action (is_macro_defined s)) s
 
 -- what the command at a place does to macros and definitions; a reset deletes the temporary macros
-abbrev pub managed : ℕ → Option Operation → Value → Situation → Result Situation Kind
-managed place (Some Reset) value s = Ok (with_macro_event (control Temporary 0) s)
-managed place (Some UniversalExit) value s = Ok (with_macro_event (control Temporary 0) s)
-managed place (Some ControlMacros) value s = acted place (action_of value) (lasting_by (action_of value) s)
-managed place other value s = Ok s
+abbrev pub after_macros : ℕ → Option Operation → Value → Situation → Result Situation Kind
+after_macros place (Some Reset) value s = Ok (with_macro_event (control Temporary 0) s)
+after_macros place (Some UniversalExit) value s = Ok (with_macro_event (control Temporary 0) s)
+after_macros place (Some ControlMacros) value s = acted place (action_of value) (lasting_by (action_of value) s)
+after_macros place other value s = Ok s
 
 -- ---- one command
 
 -- a command that counts, at this place in the list of commands
-abbrev pub counting : Dpi → ℕ → Said → Situation → Result Situation Kind
-counting dpi place command s = tried dpi command s |> managed place (operation_of command.name) command.value
+abbrev pub after_counted : Dpi → ℕ → Said → Situation → Result Situation Kind
+after_counted dpi place command s = after_checked dpi command s |> after_macros place (operation_of command.name) command.value
 
 -- a command in a definition: one that is kept changes nothing, and doesn't count
 abbrev pub defining : Dpi → ℕ → Keeping → Said → Situation → Result Situation Kind
 defining dpi place Kept command s = Ok s
-defining dpi place Ends command s = counting dpi place command s
+defining dpi place Ends command s = after_counted dpi place command s
 defining dpi place (Refused kind) command s = Err kind
 
 -- the situation after a command, or why it is refused, but for a macro that it runs
 abbrev pub after_command : Dpi → ℕ → Said → Situation → Result Situation Kind
 after_command dpi place command s =
     if is_some s.begun then defining dpi place (keeping_of (operation_of command.name) command.value) command s
-    else counting dpi place command s
+    else after_counted dpi place command s
 
 -- ---- macros that run
 

@@ -54,9 +54,9 @@ in_order step place [] s = done s
 in_order step place (command ∷ commands) s = then_on (step place command s) (in_order step (place + 1) commands)
 
 -- a command by what it led to; a refused one leaves the situation as it was before it
-abbrev pub concluded : Said → Situation → Result Situation Kind → Performance
-concluded command s (Ok later) = done later
-concluded command s (Err kind) = stopped kind command s
+abbrev pub led_to : Said → Situation → Result Situation Kind → Performance
+led_to command s (Ok later) = done later
+led_to command s (Err kind) = stopped kind command s
 
 -- ---- macros
 
@@ -67,7 +67,7 @@ and_run runs (Some run) s = runs run s
 
 abbrev pub step : Dpi → (Said → Run → Situation → Performance) → ℕ → Said → Situation → Performance
 step dpi runs place command s =
-    then_on (concluded command s (after_command dpi place command s)) (λ later. and_run (runs command) (run_of command s later) later)
+    then_on (led_to command s (after_command dpi place command s)) (λ later. and_run (runs command) (run_of command s later) later)
 
 -- the commands that a macro has left, among all commands of the job
 abbrev pub commands_left : List Said → Run → List Said

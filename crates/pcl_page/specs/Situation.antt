@@ -318,8 +318,8 @@ abbrev pub within_page_limit : Situation → Result Situation Kind
 within_page_limit s = unless_refused (page_refusal s) s
 
 -- the situation after a command that counts, the page that it ejects among its pages, or the first reason to refuse it; macros aside
-abbrev pub tried : Dpi → Said → Situation → Result Situation Kind
-tried dpi command s = counted_in_limit s |> after_named dpi (operation_of command.name) command |> within_page_limit
+abbrev pub after_checked : Dpi → Said → Situation → Result Situation Kind
+after_checked dpi command s = counted_in_limit s |> after_named dpi (operation_of command.name) command |> within_page_limit
 
 -- ---- the end of the input
 

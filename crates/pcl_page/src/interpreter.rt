@@ -48,7 +48,7 @@ impl<'a> Interpreter<'a> {
     ghost use Rattle.pcl_page.specs.Performing.{performance};
     ghost use Rattle.pcl_page.specs.Delivering.{HandsOver};
     ghost use Rattle.pcl_page.specs.Situation.{Situation, at_begin};
-    ghost use Rattle.pcl_page.specs.Macros.{action_of, keeping_of, lasting_by, acted, managed, counting, after_command, run_by, run_from, run_of, run_with, macro_ended};
+    ghost use Rattle.pcl_page.specs.Macros.{action_of, keeping_of, lasting_by, acted, after_macros, after_counted, after_command, run_by, run_from, run_of, run_with, macro_ended};
     ghost use Rattle.pcl_page.specs.inner.Reflecting.{EndDone};
     ghost use Rattle.pcl_page.specs.inner.Unfolding.{IsAt, IsSomewhere, resumed, begun_among, work_left, GoesOn, IsStepped, IsActed, IsEntered, InterpreterEnds, IsAsking};
 
@@ -218,7 +218,7 @@ impl<'a> Interpreter<'a> {
         requires begun { (is_begun self.old.macros ≡ false)
             ⊎ (keeping_of (operation_of command.now.name) command.now.value ≡ Keeping.Ends) }
         ensures { (s : Situation) → IsAt dpi s self.old
-            → IsStepped S.takes dpi (counting dpi place (view command.now) s)
+            → IsStepped S.takes dpi (after_counted dpi place (view command.now) s)
             (run_from (operation_of command.now.name) command.now.value) s result self.old self.new sink.old sink.new }
     {
         let operation = self.performer.try_command(command, dpi, sink)?;
@@ -230,7 +230,7 @@ impl<'a> Interpreter<'a> {
         requires begun { (is_begun self.old.macros ≡ false) ⊎ (action_of value ≡ Some Action.End) }
         requires place { place < 2 ^ 63 }
         ensures { (dpi : Dpi) (s : Situation) → IsAt dpi s self.old
-            → IsActed dpi (managed place (Some operation) value s) (run_from (Some operation) value) result self.old self.new }
+            → IsActed dpi (after_macros place (Some operation) value s) (run_from (Some operation) value) result self.old self.new }
     {
         match operation {
             Operation::Reset | Operation::UniversalExit => self

@@ -1,3 +1,3 @@
 pub mod Names
-pub mod Told
+pub mod Unfolded
 pub mod Examples

@@ -120,13 +120,13 @@ body_of size dpi text = record {
 }
 
 -- the only rows that a body prints, and whether they are those of a page that may be its own
-pub record IsOnlyPrinted (picture : Picture) (size : Size) (text : List ℕ) (may_be is_same : Bool) : Type 0 where
+pub record IsOnlyPrinted (picture : Picture) (size : Size) (text : List ℕ) (can_match is_same : Bool) : Type 0 where
   pub rows : List (List ℕ)
   pub printed : RestPrints size picture.dpi (body_of size picture.dpi text) rows
   pub only : (other : List (List ℕ)) → RestPrints size picture.dpi (body_of size picture.dpi text) other → other ≡ rows
-  pub same : IsTrue is_same ↔ (IsTrue may_be × AreRowsAt picture 0 rows)
+  pub same : IsTrue is_same ↔ (IsTrue can_match × AreRowsAt picture 0 rows)
 
 abbrev pub IsBodyVerdict : Picture → Size → List ℕ → Bool → Option Bool → Type 0
-IsBodyVerdict picture size text may_be None =
+IsBodyVerdict picture size text can_match None =
     (rows : List (List ℕ)) → RestPrints size picture.dpi (body_of size picture.dpi text) rows → ⊥
-IsBodyVerdict picture size text may_be (Some is_same) = IsOnlyPrinted picture size text may_be is_same
+IsBodyVerdict picture size text can_match (Some is_same) = IsOnlyPrinted picture size text can_match is_same

@@ -31,7 +31,7 @@ use Rattle.pcl_page.specs.Asks.{with_page, asks_of}
 use Rattle.pcl_page.specs.Marks.{Mark, is_black, dot_at}
 use Rattle.pcl_page.specs.Text.{dots_per_bit}
 use Rattle.pcl_page.specs.Raster.{Raster, row_sent, with_row, row_mark, ends_raster}
-use Rattle.pcl_page.specs.Situation.{Sheet, Situation, raster_for_row, settings_below, is_marked, turned, at_end, page_refusal, tried}
+use Rattle.pcl_page.specs.Situation.{Sheet, Situation, raster_for_row, settings_below, is_marked, turned, at_end, page_refusal, after_checked}
 use Rattle.pcl_page.specs.Delivering.{Hands}
 
 -- a bitmap shows marks
@@ -213,12 +213,12 @@ IsTurned {S} takes dpi outcome s (Err Memory) new old_sink new_sink = new_sink �
 abbrev pub IsTried : {S : Type 0} → (S → Page → S → Type 0) → Dpi → Said → Situation → Result Operation CallFault → Performer → S → S
     → Type 0
 IsTried {S} takes dpi command s (Ok operation) new old_sink new_sink =
-    (later : Situation) × (operation_of command.name ≡ Some operation) × (tried dpi command s ≡ Ok later) × IsIn dpi later new
+    (later : Situation) × (operation_of command.name ≡ Some operation) × (after_checked dpi command s ≡ Ok later) × IsIn dpi later new
     × HandsMore takes dpi s later old_sink new_sink
 IsTried {S} takes dpi command s (Err (Refused kind)) new old_sink new_sink =
-    (tried dpi command s ≡ Err kind) × (new_sink ≡ old_sink)
+    (after_checked dpi command s ≡ Err kind) × (new_sink ≡ old_sink)
 IsTried {S} takes dpi command s (Err Memory) new old_sink new_sink =
-    (new_sink ≡ old_sink) ⊎ ((later : Situation) × (tried dpi command s ≡ Ok later) × HandsMore takes dpi s later old_sink new_sink)
+    (new_sink ≡ old_sink) ⊎ ((later : Situation) × (after_checked dpi command s ≡ Ok later) × HandsMore takes dpi s later old_sink new_sink)
 
 -- the input's end was performed, or it is refused at the end with the empty name, or memory ran out
 abbrev pub EndDone : {S : Type 0} → (S → Page → S → Type 0) → Dpi → ℕ → Situation → Result (Unit {0}) JobFault → Performer → S → S

@@ -26,16 +26,16 @@ impl PageSink for Room {
 
 /// Keeps what it hears.
 #[derive(Drop)]
-struct Told {
-    /// The number of pages that was told last.
+struct Reports {
+    /// The number of pages that was reported last.
     pages: Cell<u32>,
-    /// How often pages were told.
+    /// How often pages were reported.
     times: Cell<u32>,
     /// How often the end was.
     ends: Cell<u32>,
 }
 
-impl Watcher for &Told {
+impl Watcher for &Reports {
     fn pages_done(&self, pages: u32) {
         self.pages.set(pages);
         self.times.set(self.times.get().saturating_add(1));
@@ -48,26 +48,31 @@ impl Watcher for &Told {
 
 /// Asserts what comes of a run where this many pages are taken, and that the watcher is called for each of these, and at
 /// the end.
-fn assert_told(rt: &impl Abort, alloc: Global, taken: u32, wanted: Option<JobFault>) {
-    let told = Told {
+fn assert_reported(rt: &impl Abort, alloc: Global, taken: u32, wanted: Option<JobFault>) {
+    let reports = Reports {
         pages: Cell::new(0),
         times: Cell::new(0),
         ends: Cell::new(0),
     };
-    let fault = perform_watched(alloc, JOB, Dpi::Dpi300, Room(taken), &told).err();
+    let fault = perform_watched(alloc, JOB, Dpi::Dpi300, Room(taken), &reports).err();
     assert_gives(
         rt,
         &taken,
-        &(fault, told.pages.get(), told.times.get(), told.ends.get()),
+        &(
+            fault,
+            reports.pages.get(),
+            reports.times.get(),
+            reports.ends.get(),
+        ),
         &(wanted, taken, taken, 1),
     );
 }
 
 // A watcher doesn't hear of a page that the sink didn't take.
 #[test]
-fn told_of_pages_that_were_taken(rt: HostRuntime) {
+fn pages_that_were_taken_are_reported(rt: HostRuntime) {
     for taken in 0..3 {
-        assert_told(&rt, rt.alloc(), taken, Some(JobFault::Memory));
+        assert_reported(&rt, rt.alloc(), taken, Some(JobFault::Memory));
     }
-    assert_told(&rt, rt.alloc(), 3, None);
+    assert_reported(&rt, rt.alloc(), 3, None);
 }

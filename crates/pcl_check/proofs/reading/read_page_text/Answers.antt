@@ -48,11 +48,11 @@ whole_page picture {rows} n e =
     e ∙ take_all (length rows) all (omega arith)
 
 -- whether the start is that of a page
-abbrev MayBe : Picture → ℕ → Start → Bool → Type 0
-MayBe picture copies start may_be = IsTrue may_be ↔ ((start.size ≡ picture.size) × (start.copies ≡ copies))
+abbrev CanMatch : Picture → ℕ → Start → Bool → Type 0
+CanMatch picture copies start can_match = IsTrue can_match ↔ ((start.size ≡ picture.size) × (start.copies ≡ copies))
 
-same_page : {picture : Picture} {copies : ℕ} {text : List ℕ} (start : Start) {may_be : Bool} → IsStart picture.dpi text (Some start)
-    → MayBe picture copies start may_be → IsBodyVerdict picture start.size start.rest.now may_be (Some true)
+same_page : {picture : Picture} {copies : ℕ} {text : List ℕ} (start : Start) {can_match : Bool} → IsStart picture.dpi text (Some start)
+    → CanMatch picture copies start can_match → IsBodyVerdict picture start.size start.rest.now can_match (Some true)
     → IsPageText picture.dpi picture.size copies (bitmap_rows picture) text
 same_page {picture} {copies} {text} start begun may only =
     let same = only.same.0 refl in
@@ -61,8 +61,8 @@ same_page {picture} {copies} {text} start begun may only =
     only.printed.count ∙ ap (λ (z : Size). page_height z picture.dpi) is.0 in
     rw (sym (whole_page picture count same.1), sym is.1, sym is.0) (printed_text begun.0 begun.1 begun.2 only.printed)
 
-other_page : {picture : Picture} {copies : ℕ} {text : List ℕ} (start : Start) {may_be : Bool} → IsStart picture.dpi text (Some start)
-    → MayBe picture copies start may_be → IsBodyVerdict picture start.size start.rest.now may_be (Some false)
+other_page : {picture : Picture} {copies : ℕ} {text : List ℕ} (start : Start) {can_match : Bool} → IsStart picture.dpi text (Some start)
+    → CanMatch picture copies start can_match → IsBodyVerdict picture start.size start.rest.now can_match (Some false)
     → IsPageText picture.dpi picture.size copies (bitmap_rows picture) text → ⊥
 other_page {picture} start begun may only is =
     let all = bitmap_rows picture in
@@ -73,15 +73,15 @@ other_page {picture} start begun may only is =
     let yes : false ≡ true = only.same.1 (may.1 (body.1, body.0), front) in cc
 
 -- the start is that of the page where size and copies are
-may_be_this : (page : Page) (start : Start) (test : Bool) {may_be : Bool} → test ≡ sameb the_type start.size page.size
-    → (test ≡ true → may_be ≡ (start.copies == page.copies)) → (test ≡ false → may_be ≡ test) → MayBe page.bitmap page.copies start may_be
-may_be_this page start true e m other = (
+can_match_this : (page : Page) (start : Start) (test : Bool) {can_match : Bool} → test ≡ sameb the_type start.size page.size
+    → (test ≡ true → can_match ≡ (start.copies == page.copies)) → (test ≡ false → can_match ≡ test) → CanMatch page.bitmap page.copies start can_match
+can_match_this page start true e m other = (
   λ yes.
       let size = same_true the_type tt start.size page.size (sym e) in
       (size ∙ sym page.size_is, (Decides-eqb start.copies page.copies).0 (sym (m refl) ∙ yes)),
   λ h. m refl ∙ (Decides-eqb start.copies page.copies).1 h.1,
 )
-may_be_this page start false e m is = (
+can_match_this page start false e m is = (
   λ yes. absurd (let not_so = is refl in cc),
   λ h. absurd (let other = true_same the_type start.size page.size (h.0 ∙ page.size_is) in cc),
 )
@@ -100,7 +100,7 @@ returns-in-None c =
 pub returns-in-Some-true : goal.returns-in-Some-true
 returns-in-Some-true c =
     let page = c.args.page.now in
-    let may = may_be_this page c.in-Some.start c.eq.result c.eq.ensures (grind (arith, c.if-eq.branch)) (grind (arith, c.if-eq.branch)) in
+    let may = can_match_this page c.in-Some.start c.eq.result c.eq.ensures (grind (arith, c.if-eq.branch)) (grind (arith, c.if-eq.branch)) in
     rw (sym page.size_is, sym page.dpi_is)
     (same_page c.in-Some.start (rw (sym page.dpi_is) at c.in-Some.ensures) may (rw c.in-Some-true.field-0-test at c.in-Some-true.ensures))
 
@@ -108,7 +108,7 @@ pub returns-in-Some-false : goal.returns-in-Some-false
 returns-in-Some-false c =
     let page = c.args.page.now in
     let start = c.in-Some.start in
-    let may = may_be_this page start c.eq.result c.eq.ensures (grind (arith, c.if-eq.branch)) (grind (arith, c.if-eq.branch)) in
+    let may = can_match_this page start c.eq.result c.eq.ensures (grind (arith, c.if-eq.branch)) (grind (arith, c.if-eq.branch)) in
     let only = rw c.in-Some-false.field-0-test at c.in-Some-false.ensures in
     let begun = rw (sym page.dpi_is) at c.in-Some.ensures in (
       rw (sym page.dpi_is) (start.size, start.copies, only.rows, printed_text begun.0 begun.1 begun.2 only.printed),

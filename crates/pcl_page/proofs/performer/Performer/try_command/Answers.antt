@@ -1,7 +1,7 @@
 use Rattle.std.proofs.Common.{◌≤◌, ◌∙◌, Bool, cond, Option, None, refl, sym, arith}
 use Rattle.pcl_page.proofs.Names.{err_from_is_err_and, view, Raster, rows_in, ends_raster}
 use Rattle.pcl_page.proofs.Turns.{prepared_in}
-use Rattle.pcl_page.proofs.Steps.{counted_in, tried_as, tried_ignored, refused_by, tried_drawn, tried_undrawn}
+use Rattle.pcl_page.proofs.Steps.{counted_in, checked_as, checked_ignored, refused_by, checked_drawn, checked_undrawn}
 use Rattle.pcl_page.proofs.performer.Performer.try_command.Goals as goal
 
 -- a raster that may have ended has no more rows than before
@@ -10,7 +10,7 @@ rows_left ends raster = grind arith
 
 pub returns-in_default : goal.returns-in_default
 returns-in_default g c = λ s i. (
-  tried_as c.args.dpi (view c.args.command.now) s (omega (arith, i.performed)) (sym c.with_name.ensures ∙ c.in_default.is),
+  checked_as c.args.dpi (view c.args.command.now) s (omega (arith, i.performed)) (sym c.with_name.ensures ∙ c.in_default.is),
   refl,
 )
 
@@ -30,7 +30,7 @@ draw-requires g c =
 
 pub returns-then-is_ignored : goal.returns-then-is_ignored
 returns-then-is_ignored g c = λ s i.
-    tried_ignored _ _ _ _ s c.args.self.now _ _ i (omega arith) c.args.self.now.few_pages (sym c.in-Some.ensures)
+    checked_ignored _ _ _ _ s c.args.self.now _ _ i (omega arith) c.args.self.now.few_pages (sym c.in-Some.ensures)
     (sym c.is_ignored.ensures ∙ c.if-is_ignored.true) (counted_in i refl refl refl refl refl refl refl refl)
 
 pub returns-in_err-turn : goal.returns-in_err-turn
@@ -44,13 +44,13 @@ pub returns-in_err-draw : goal.returns-in_err-draw
 returns-in_err-draw g c = λ s i.
     let before = prepared_in (counted_in i refl refl refl refl refl refl refl refl) c.prepare.ensures in
     let p = err_from_is_err_and c.from_residual-in_err-draw.result c.from_residual-in_err-draw.ensures.1 in
-    rw (p.1, p.2) (tried_undrawn _ _ c.in-Some.operation (view c.args.command.now) s i (omega arith) (sym c.in-Some.ensures)
+    rw (p.1, p.2) (checked_undrawn _ _ c.in-Some.operation (view c.args.command.now) s i (omega arith) (sym c.in-Some.ensures)
     (sym c.is_ignored.ensures ∙ c.if-is_ignored.false) c.turn.new.self c.draw.new.self _ _ _ c.in_err-draw.field-0.0 refl
     (c.in_ok-turn.ensures.turned _ before) (λ now there. c.in_err-draw.ensures now there))
 
 pub returns : goal.returns
 returns g c = λ s i.
     let before = prepared_in (counted_in i refl refl refl refl refl refl refl refl) c.prepare.ensures in
-    tried_drawn _ _ c.in-Some.operation (view c.args.command.now) s i (omega arith) (sym c.in-Some.ensures)
+    checked_drawn _ _ c.in-Some.operation (view c.args.command.now) s i (omega arith) (sym c.in-Some.ensures)
     (sym c.is_ignored.ensures ∙ c.if-is_ignored.false) c.turn.new.self c.draw.new.self _ _ _ refl (c.in_ok-turn.ensures.turned _ before)
     (λ now there. c.in_ok-draw.ensures now there)
