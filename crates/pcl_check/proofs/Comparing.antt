@@ -37,7 +37,8 @@ pub record IsBodyReadTo (picture : Picture) (size : Size) (text : List ℕ) (can
 -- rows are a page's first ones where those before a place are, and those from there on
 same_joined : (picture : Picture) {can_match before after : Bool} (given : List (List ℕ)) {more : List (List ℕ)}
     → (IsTrue after ↔ (IsTrue before × AreRowsAt picture (length given) more))
-    → (IsTrue before ↔ (IsTrue can_match × AreRowsAt picture 0 given)) → IsTrue after ↔ (IsTrue can_match × AreRowsAt picture 0 (given ++ more))
+    → (IsTrue before ↔ (IsTrue can_match × AreRowsAt picture 0 given))
+    → IsTrue after ↔ (IsTrue can_match × AreRowsAt picture 0 (given ++ more))
 same_joined picture given {more} later first =
     grind (arith, of_parts given {b = more} (bitmap_rows picture), parts_of given {b = more} (bitmap_rows picture))
 

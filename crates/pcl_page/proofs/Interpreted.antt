@@ -77,7 +77,8 @@ module _ {S : Type 0} (takes : S → Page → S → Type 0) (dpi : Dpi) (place :
       → middle.running ≡ old.running → after_checked dpi command s ≡ Ok now → HandsMore takes dpi s now sink later
       → IsActed dpi (by_macros now) runs_by result middle new
       → IsStepped takes dpi (after_counted dpi place command s) runs_by s result old new sink later
-  stepped_by old middle new sink later (Ok unit) now run t h a = (a.0, rw t a.1, a.2, rw run at a.3, more_of_macros now a.0 sink later a.1 h)
+  stepped_by old middle new sink later (Ok unit) now run t h a =
+      (a.0, rw t a.1, a.2, rw run at a.3, more_of_macros now a.0 sink later a.1 h)
   stepped_by old middle new sink later (Err (Refused kind)) now run t h a =
       elim a [
         | inl e ↦ inl (rw t e, unchanged_sink now sink later t e h)

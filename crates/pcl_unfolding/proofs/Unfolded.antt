@@ -32,20 +32,21 @@ IsUnfoldedAs dpi items performance u = (performance ≡ performed_by dpi u) × G
 unfolded_on : (dpi : Dpi) {old : List Item} (why : Option Refusal) (items : List Item) (next : Situation → Performance)
     (add_next : List Item → Unfolding) → GoesOn old items → IsUnfoldedAs dpi items (next (now dpi items)) (add_next items)
     → IsUnfoldedAs dpi old (unless_performed why (now dpi items) next) (unless why items add_next)
-unfolded_on dpi None items next add_next goes told = (told.0, goes_on_more goes told.1)
-unfolded_on dpi (Some why) items next add_next goes told = (refl, goes)
+unfolded_on dpi None items next add_next goes each = (each.0, goes_on_more goes each.1)
+unfolded_on dpi (Some why) items next add_next goes each = (refl, goes)
 
 turn_unfolded : (dpi : Dpi) (perform : ℕ → Said → Situation → Performance) (add_one : ℕ → Said → List Item → Unfolding)
     → ((place : ℕ) (command : Said) (items : List Item)
     → IsUnfoldedAs dpi items (perform place command (now dpi items)) (add_one place command items))
     → (place : ℕ) (commands : List Said) (items : List Item)
     → IsUnfoldedAs dpi items (in_order perform place commands (now dpi items)) (in_turn add_one place commands items)
-turn_unfolded dpi perform add_one told place [] items = (refl, ([], refl))
-turn_unfolded dpi perform add_one told place (command ∷ commands) items =
+turn_unfolded dpi perform add_one each place [] items = (refl, ([], refl))
+turn_unfolded dpi perform add_one each place (command ∷ commands) items =
     let first = add_one place command items in
-    let one = told place command items in
-    let rest = unfolded_on dpi first.refusal first.items (in_order perform (place + 1) commands) (in_turn add_one (place + 1) commands) one.1
-    (turn_unfolded dpi perform add_one told (place + 1) commands first.items) in
+    let one = each place command items in
+    let rest = unfolded_on dpi first.refusal first.items (in_order perform (place + 1) commands)
+    (in_turn add_one (place + 1) commands) one.1
+    (turn_unfolded dpi perform add_one each (place + 1) commands first.items) in
     (ap (λ (p : Performance). then_on p (in_order perform (place + 1) commands)) one.0 ∙ rest.0, rest.1)
 
 -- ---- the macro that a command runs
@@ -66,7 +67,8 @@ run_is_by control s = grind arith
 -- running a body and unfolding it say the same
 abbrev pub AreUnfolded : Dpi → (Said → Run → Situation → Performance) → Bodies → Type 0
 AreUnfolded dpi run bodies = (command : Said) (control : Option Action) (body : MacroBody) (items : List Item)
-    → IsUnfoldedAs dpi items (run command (run_with (saved_by control (now dpi items)) body) (now dpi items)) (bodies command control body items)
+    → IsUnfoldedAs dpi items (run command (run_with (saved_by control (now dpi items)) body) (now dpi items))
+    (bodies command control body items)
 
 from_unfolded : (operation : Option Operation) (value : Value) (s : Situation)
     → run_from operation value s ≡ run_with_body (control_in operation value) s
@@ -80,12 +82,12 @@ later_unfolded : (run : Said → Run → Situation → Performance) (command : S
     ≡ then_on (led_to command s led) (λ (later : Situation). and_run (run command) (other later) later)
 later_unfolded run command same s led = grind (arith, same)
 
-module _ (dpi : Dpi) (run : Said → Run → Situation → Performance) (bodies : Bodies) (told : AreUnfolded dpi run bodies) where
+module _ (dpi : Dpi) (run : Said → Run → Situation → Performance) (bodies : Bodies) (each : AreUnfolded dpi run bodies) where
   body_unfolded : (command : Said) (control : Option Action) (body : Option MacroBody) (items : List Item)
       → IsUnfoldedAs dpi items (and_run (run command) (option_map (run_with (saved_by control (now dpi items))) body) (now dpi items))
       (with_body bodies command control body items)
   body_unfolded command control None items = (refl, ([], refl))
-  body_unfolded command control (Some body) items = told command control body items
+  body_unfolded command control (Some body) items = each command control body items
 
   -- a command by what it leads to
   led_unfolded : (place : ℕ) (command : Said) (control : Option Action) (items : List Item) (led : Result Situation Kind)
@@ -95,8 +97,8 @@ module _ (dpi : Dpi) (run : Said → Run → Situation → Performance) (bodies 
   led_unfolded place command control items (Err kind) e = (refl, ([], refl))
   led_unfolded place command control items (Ok later) e =
       let here : now dpi (performed place command ∷ items) ≡ later = ap (or_as_before (now dpi items)) e in
-      let told = body_unfolded command control (body_run control later) (performed place command ∷ items) in
-      (rw (← here) (rw (← here) at told.0), goes_on_more (one_more (performed place command) ([], refl)) told.1)
+      let each = body_unfolded command control (body_run control later) (performed place command ∷ items) in
+      (rw (← here) (rw (← here) at each.0), goes_on_more (one_more (performed place command) ([], refl)) each.1)
 
   -- in a definition or outside
   step_by : (place : ℕ) (command : Said) (items : List Item) (begun : Bool) (keeping : Keeping)

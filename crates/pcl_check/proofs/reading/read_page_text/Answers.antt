@@ -74,7 +74,8 @@ other_page {picture} start begun may only is =
 
 -- the start is that of the page where size and copies are
 can_match_this : (page : Page) (start : Start) (test : Bool) {can_match : Bool} → test ≡ sameb the_type start.size page.size
-    → (test ≡ true → can_match ≡ (start.copies == page.copies)) → (test ≡ false → can_match ≡ test) → CanMatch page.bitmap page.copies start can_match
+    → (test ≡ true → can_match ≡ (start.copies == page.copies)) → (test ≡ false → can_match ≡ test)
+    → CanMatch page.bitmap page.copies start can_match
 can_match_this page start true e m other = (
   λ yes.
       let size = same_true the_type tt start.size page.size (sym e) in
@@ -100,7 +101,8 @@ returns-in-None c =
 pub returns-in-Some-true : goal.returns-in-Some-true
 returns-in-Some-true c =
     let page = c.args.page.now in
-    let may = can_match_this page c.in-Some.start c.eq.result c.eq.ensures (grind (arith, c.if-eq.branch)) (grind (arith, c.if-eq.branch)) in
+    let may = can_match_this page c.in-Some.start c.eq.result c.eq.ensures
+    (grind (arith, c.if-eq.branch)) (grind (arith, c.if-eq.branch)) in
     rw (sym page.size_is, sym page.dpi_is)
     (same_page c.in-Some.start (rw (sym page.dpi_is) at c.in-Some.ensures) may (rw c.in-Some-true.field-0-test at c.in-Some-true.ensures))
 
