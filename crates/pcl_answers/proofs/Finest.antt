@@ -9,8 +9,8 @@ use Rattle.pcl_files.specs.Resolutions.{IsFirstCommon}
 use Rattle.pcl_request.specs.declared.request.Resolution.TheVariants.{FirstAccepted}
 use Rattle.pcl_same.specs.Comparing.{IsCompared}
 use Rattle.pcl_same.specs.declared.comparison.AskedComparison.TheVariants as asked
-use Rattle.pcl_same.specs.declared.fault.Job.{Job}
-use Rattle.pcl_same.specs.declared.fault.Job.TheVariants.{First, Second}
+use Rattle.pcl_same.specs.declared.fault.Which.{Which}
+use Rattle.pcl_same.specs.declared.fault.Which.TheVariants.{First, Second}
 use Rattle.pcl_same.specs.declared.fault.SameFault.TheVariants.{Refused}
 
 -- they are the same at 300
@@ -28,7 +28,7 @@ pub unlike_there : (asks : Bool) (widest : Profile) (first second : List ℕ) (c
 unlike_there asks widest first second comparison unlike is common = (common, inl (inl (comparison, unlike, is)))
 
 -- one of them is refused there
-pub refused_there : (asks : Bool) (widest : Profile) (first second : List ℕ) (which : Job) (refusal : Refusal)
+pub refused_there : (asks : Bool) (widest : Profile) (first second : List ℕ) (which : Which) (refusal : Refusal)
     → IsCompared widest Dpi300 first second (Err (Refused which refusal)) → IsFirstCommon widest first second Dpi300
     → AreComparedAt FirstAccepted asks widest first second Dpi300
 refused_there asks widest first second First refusal is common = (common, inl (inr (inl (refusal, is.1))))

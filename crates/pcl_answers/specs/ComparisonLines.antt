@@ -22,8 +22,8 @@ use Rattle.pcl_same.specs.declared.comparison.Setting.TheVariants.{Copies, PageS
 use Rattle.pcl_same.specs.declared.comparison.SettingDifference.{SettingDifference}
 use Rattle.pcl_same.specs.declared.comparison.Difference.{Difference}
 use Rattle.pcl_same.specs.declared.comparison.Difference.TheVariants as difference
-use Rattle.pcl_same.specs.declared.fault.Job.{Job}
-use Rattle.pcl_same.specs.declared.fault.Job.TheVariants.{First, Second}
+use Rattle.pcl_same.specs.declared.fault.Which.{Which}
+use Rattle.pcl_same.specs.declared.fault.Which.TheVariants.{First, Second}
 use Rattle.pcl_answers.specs.declared.comparisons.CompareFault.{CompareFault}
 use Rattle.pcl_answers.specs.declared.comparisons.CompareFault.TheVariants.{Refused, Failed}
 use Rattle.pcl_files.specs.Messages.{line_of, status_for}
@@ -119,7 +119,7 @@ comparison_status_for (Asks difference) = 1
 
 -- ---- faults
 
-abbrev pub refused_job_text : Job → List ℕ
+abbrev pub refused_job_text : Which → List ℕ
 refused_job_text First = codes "first job refused: "
 refused_job_text Second = codes "second job refused: "
 

@@ -12,7 +12,7 @@ use Rattle.pcl_same.specs.declared.fault.SameFault.{SameFault}
 use Rattle.pcl_same.specs.declared.fault.SameFault.TheVariants as same
 use Rattle.pcl_same.specs.declared.comparison.AskedComparison.{AskedComparison}
 use Rattle.pcl_same.specs.declared.comparison.AskedComparison.TheVariants as asked
-use Rattle.pcl_same.specs.declared.fault.Job.{Job}
+use Rattle.pcl_same.specs.declared.fault.Which.{Which}
 use Rattle.pcl_same.specs.Comparing.{IsComparison, IsCompared, IsAskedComparison, of_pages}
 use Rattle.pcl_files.specs.Files.{FileAct}
 use Rattle.pcl_base.specs.declared.dpi.Dpi.TheVariants.{Dpi300, Dpi600}
@@ -84,7 +84,7 @@ pub record AreFilesSeen {F : Type 0} (acts : F → FileAct → F → Type 0) (fi
   pub seen : AreComparedAt asked.resolution asked.asks asked.profile first.items second.items dpi
 
 -- the first of the two jobs that is refused is so
-abbrev pub IsRefusedOf : {F : Type 0} → (F → FileAct → F → Type 0) → F → ComparedFiles → Job → Refusal → Type 0
+abbrev pub IsRefusedOf : {F : Type 0} → (F → FileAct → F → Type 0) → F → ComparedFiles → Which → Refusal → Type 0
 IsRefusedOf acts files asked which refusal =
     (seen : AreFilesSeen acts files asked)
     × IsCompared asked.profile seen.dpi seen.first.items seen.second.items (Err (same.Refused which refusal))

@@ -14,8 +14,8 @@ use pcl_env::append_offset;
 use pcl_files::{fault_line, status_of};
 use pcl_request::Layout;
 use pcl_same::{
-    AskedComparison, AskedDifference, AsksDifference, Difference, ExitDifference, Job,
-    PagesDifference, Setting, SettingDifference,
+    AskedComparison, AskedDifference, AsksDifference, Difference, ExitDifference, PagesDifference,
+    Setting, SettingDifference, Which,
 };
 use std::alloc::{AllocError, Global};
 
@@ -261,12 +261,12 @@ pub fn compare_fault_line(alloc: Global, fault: &CompareFault) -> Result<Vec<u8>
 }
 
 /// What is said of a refused job before its refusal.
-fn refused_job(which: Job) -> &'static [u8]
+fn refused_job(which: Which) -> &'static [u8]
     ensures { result.now ≡ refused_job_text which }
 {
     match which {
-        Job::First => b"first job refused: ",
-        Job::Second => b"second job refused: ",
+        Which::First => b"first job refused: ",
+        Which::Second => b"second job refused: ",
     }
 }
 

@@ -13,7 +13,7 @@ use crate::difference_images::draw_difference;
 use pcl_base::{Dpi, Profile, Refusal};
 use pcl_files::{JobFiles, are_accepted, read_file, resolve_both};
 use pcl_request::{ComparedFiles, Resolution};
-use pcl_same::{AskedComparison, Job, SameFault, same_asked};
+use pcl_same::{AskedComparison, SameFault, Which, same_asked};
 use pcl_streams::{Fault, write_all};
 use std::alloc::{AllocError, Global};
 use std::io::Write;
@@ -22,7 +22,7 @@ use std::io::Write;
 #[derive(Clone, Copy)]
 pub enum CompareFault {
     /// The rules refuse one of them.
-    Refused { which: Job, refusal: Refusal },
+    Refused { which: Which, refusal: Refusal },
     /// Reading, writing or memory failed.
     Failed(Fault),
 }

@@ -13,7 +13,7 @@ ghost use Rattle.pcl_coders.specs.Coding.{IsCodable};
 ghost use Rattle.pcl_check.specs.Places.{FindsPlace, FindsBadPlace};
 ghost use Rattle.pcl_check.specs.inner.PlacePasses.{IsGoodEnd, IsGoodByte, AreGoodRuns, AreGoodLiterals, AreGoodReplacements, AreGoodSteps};
 
-use fill::{add_places, fill_behind_starts, fill_ends, fill_run_stops, fill_start_ends, widen};
+use fill::{add_places, fill_after_starts, fill_ends, fill_run_stops, fill_start_ends, widen};
 use found::first_place;
 use pcl_base::{Method, ROW_LIMIT};
 use pcl_coders::base_row;
@@ -151,7 +151,7 @@ fn first_bad_replacement(
     ensures { FindsPlace (AreGoodReplacements old.now row.now numbers.now) (length row.now) result }
 {
     widen(numbers, wide);
-    fill_behind_starts(numbers, sums);
+    fill_after_starts(numbers, sums);
     fill_start_ends(old, row, ends);
     let one = first_undercut(wide, sums, ends, 1, 31);
     let two = first_undercut(wide, sums, ends, 2, 286);

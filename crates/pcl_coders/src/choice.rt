@@ -98,7 +98,7 @@ pub fn command_bytes(offset: usize) -> usize
 }
 
 /// The least of the replaced bytes and the number after them, where a replacement starts at the first place.
-pub fn least_behind(numbers: &[u16]) -> usize
+pub fn least_after(numbers: &[u16]) -> usize
     requires some { 1 < length numbers.now }
     requires short { length numbers.now ≤ 601 }
     requires small { (k : ℕ) → 1 ≤ k → slice_index numbers.now k ≤ 1200 }

@@ -7,7 +7,7 @@ ghost use Rattle.pcl_coders.specs.Coding.{IsCodable};
 ghost use Rattle.pcl_coders.specs.inner.Choosing.{IsLeastLen};
 ghost use Rattle.pcl_coders.specs.inner.Filling.{AreRightFrom, IsFirstEnd, IsBegun, IsLiteralEnd, HasLiteralEnd, white_like};
 
-use crate::choice::{command_bytes, least_behind};
+use crate::choice::{command_bytes, least_after};
 use pcl_base::Method;
 use pcl_bitmap::{first_difference, trimmed_len};
 
@@ -147,7 +147,7 @@ fn fill_delta(old: &[u8], row: &[u8], end: usize, out: &mut [u16])
     for place in (0..end).rev() {
         if old[place] != row[place] {
             start = place;
-            best = least_behind(&out[place..]);
+            best = least_after(&out[place..]);
         }
         out[place] = (command_bytes(start - place) + best) as u16;
     }

@@ -34,8 +34,8 @@ use Rattle.pcl_answers.specs.Comparisons.{IsComparisonFor}
 use Rattle.pcl_page.specs.declared.doubts.Readers.TheVariants.{Printers}
 use Rattle.pcl_shrink.specs.Shrinking.{IsWrittenFor, IsWrittenEverywhere, IsRefusedEverywhere}
 use Rattle.pcl_explain.specs.Findings.{Explains}
-use Rattle.pcl_same.specs.declared.fault.Job.{Job}
-use Rattle.pcl_same.specs.declared.fault.Job.TheVariants.{First, Second}
+use Rattle.pcl_same.specs.declared.fault.Which.{Which}
+use Rattle.pcl_same.specs.declared.fault.Which.TheVariants.{First, Second}
 use Rattle.pcl_answers.specs.declared.comparisons.CompareFault.TheVariants as compare
 use Rattle.pcl_files.specs.Messages.{line_of}
 use Rattle.pcl_answers.specs.Verdicts.{answer_line_of}
@@ -58,7 +58,7 @@ IsLineOf (Ok text) line = IsLine text.items line
 IsLineOf (Err e) line = line ≡ []
 
 -- a refusal by the number of its kind, by its place, by the number of the job, and by a line
-pub record TellsOf (job : Job) (line : List ℕ) (refusal : Refusal) (answer : Answer) : Type 0 where
+pub record TellsOf (job : Which) (line : List ℕ) (refusal : Refusal) (answer : Answer) : Type 0 where
   pub refused : answer.outcome ≡ 1
   pub which : answer.refused_job ≡ job_number job
   pub kind : answer.kind ≡ kind_number refusal.kind
@@ -70,7 +70,7 @@ abbrev pub TellsRefusal : Refusal → Answer → Type 0
 TellsRefusal refusal answer = TellsOf First (line_of (run.Refused refusal) 0) refusal answer
 
 -- the refusal of one of two jobs, as the program says it
-abbrev pub TellsRefusalOf : Job → Refusal → Answer → Type 0
+abbrev pub TellsRefusalOf : Which → Refusal → Answer → Type 0
 TellsRefusalOf which refusal answer = TellsOf which (compare_line_of (compare.Refused which refusal)) refusal answer
 
 -- what an answer tells of a failure of a call that was asked for pages up to this one

@@ -3,8 +3,8 @@ use Rattle.std.specs.Prelude.{◌≡◌, ℕ, ◌<◌, List, codes}
 use Rattle.pcl_base.specs.declared.fault.JobFault.{JobFault}
 use Rattle.pcl_streams.specs.declared.fault.Fault.TheVariants as run
 use Rattle.pcl_streams.specs.JobFaults.{fault_of}
-use Rattle.pcl_same.specs.declared.fault.Job.{Job}
-use Rattle.pcl_same.specs.declared.fault.Job.TheVariants.{First, Second}
+use Rattle.pcl_same.specs.declared.fault.Which.{Which}
+use Rattle.pcl_same.specs.declared.fault.Which.TheVariants.{First, Second}
 use Rattle.pcl_same.specs.declared.fault.SameFault.{SameFault}
 use Rattle.pcl_same.specs.declared.fault.SameFault.TheVariants as same
 use Rattle.pcl_answers.specs.declared.comparisons.CompareFault.TheVariants as compare
@@ -36,7 +36,7 @@ abbrev pub IsUnperformed : CallFailure → Type 0
 IsUnperformed failure = 2 < outcome_of failure
 
 -- the number of one of two jobs
-abbrev pub job_number : Job → ℕ
+abbrev pub job_number : Which → ℕ
 job_number First = 1
 job_number Second = 2
 

@@ -5,7 +5,7 @@ ghost use Rattle.pcl_library.specs.Answers.{IsLineOf};
 
 use crate::failure::CallFailure;
 use pcl_base::{Dpi, Refusal};
-use pcl_same::Job;
+use pcl_same::Which;
 use pcl_tool::{Fault, Output};
 use std::alloc::{AllocError, Global};
 
@@ -125,14 +125,14 @@ impl Answer {
             ..Answer::blank(0)
         };
         match failure {
-            CallFailure::Run(Fault::Refused(refusal)) => told.refused(Job::First, refusal),
+            CallFailure::Run(Fault::Refused(refusal)) => told.refused(Which::First, refusal),
             CallFailure::OneRefused { which, refusal } => told.refused(*which, refusal),
             _ => told,
         }
     }
 
     /// The same answer with the refusal of a job.
-    fn refused(self, which: Job, refusal: &Refusal) -> Answer
+    fn refused(self, which: Which, refusal: &Refusal) -> Answer
         ensures outcome { result.outcome ≡ self.outcome }
         ensures which { result.refused_job ≡ job_number which }
         ensures kind { result.kind ≡ kind_number refusal.now.kind }
@@ -143,8 +143,8 @@ impl Answer {
             place: refusal.at,
             kind: u32::from(refusal.kind.number()),
             refused_job: match which {
-                Job::First => 1,
-                Job::Second => 2,
+                Which::First => 1,
+                Which::Second => 2,
             },
             ..self
         }

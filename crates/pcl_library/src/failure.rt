@@ -8,7 +8,7 @@ ghost use Rattle.pcl_library.specs.Failures.{argument_line, failure_of_job, fail
 use pcl_answers::{CompareFault, compare_fault_line};
 use pcl_base::{JobFault, Refusal};
 use pcl_files::fault_line;
-use pcl_same::{Job, SameFault};
+use pcl_same::{SameFault, Which};
 use pcl_tool::Fault;
 use std::alloc::{AllocError, Global};
 
@@ -49,7 +49,7 @@ pub enum CallFailure {
     /// The call fails as a run of the program does.
     Run(Fault),
     /// One of two jobs is refused.
-    OneRefused { which: Job, refusal: Refusal },
+    OneRefused { which: Which, refusal: Refusal },
 }
 
 impl CallFailure {

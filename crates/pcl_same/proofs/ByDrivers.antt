@@ -2,10 +2,10 @@
 use Rattle.std.proofs.Common.{ℕ, List, Result, Ok, Err, inl, inr}
 use Rattle.pcl_same.proofs.Names.{Drivers, Stated, Dpi, Refusal, AskedComparison, First, Second, SameFault, AreReadBy, IsComparedBy, IsComparedAskedBy, IsComparedAsked}
 use Rattle.pcl_same.specs.declared.asking.LastExit.TheVariants.{Ends}
-use Rattle.pcl_same.specs.declared.fault.Job.{Job}
+use Rattle.pcl_same.specs.declared.fault.Which.{Which}
 use Rattle.pcl_same.specs.declared.fault.SameFault.TheVariants.{Refused, Memory}
 
-pub one_refused : {dpi : Dpi} {first second : List ℕ} (which : Job) (refusal : Refusal)
+pub one_refused : {dpi : Dpi} {first second : List ℕ} (which : Which) (refusal : Refusal)
     → IsComparedBy Stated dpi first second (Err (Refused which refusal)) → AreReadBy Drivers Drivers dpi first second
 one_refused First refusal is = inl (refusal, is)
 one_refused Second refusal is = inr (refusal, is.2)

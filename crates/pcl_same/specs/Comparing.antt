@@ -18,8 +18,8 @@ use Rattle.pcl_same.specs.declared.comparison.AskedComparison.TheVariants as ask
 use Rattle.pcl_same.specs.declared.comparison.PageComparison.{PageComparison}
 use Rattle.pcl_same.specs.declared.comparison.PageComparison.TheVariants.{Same, PageCount, Page}
 use Rattle.pcl_same.specs.declared.comparison.PagesDifference.TheVariants as pages
-use Rattle.pcl_same.specs.declared.fault.Job.{Job}
-use Rattle.pcl_same.specs.declared.fault.Job.TheVariants.{First, Second}
+use Rattle.pcl_same.specs.declared.fault.Which.{Which}
+use Rattle.pcl_same.specs.declared.fault.Which.TheVariants.{First, Second}
 use Rattle.pcl_same.specs.declared.fault.SameFault.{SameFault}
 use Rattle.pcl_same.specs.declared.fault.SameFault.TheVariants.{Refused, Memory}
 use Rattle.pcl_same.specs.Differing.{DifferFirst}
@@ -125,6 +125,6 @@ IsAskedComparison widest dpi first second comparison = IsComparedAsked widest dp
 -- ---- faults
 
 -- the fault of one of the jobs
-abbrev pub fault_of : Job → JobFault → SameFault
+abbrev pub fault_of : Which → JobFault → SameFault
 fault_of which (job.Refused refusal) = Refused which refusal
 fault_of which job.Memory = Memory

@@ -8,7 +8,7 @@ use thiserror::Error;
 
 /// One of two jobs.
 #[derive(Clone, Copy, Debug, PartialEq, Eq)]
-pub enum Job {
+pub enum Which {
     First,
     Second,
 }
@@ -18,7 +18,7 @@ pub enum Job {
 pub enum SameFault {
     /// The rules refuse one of them; the second is looked at only where they accept the first.
     #[error("a job is refused")]
-    Refused { which: Job, refusal: Refusal },
+    Refused { which: Which, refusal: Refusal },
     /// Memory ran out.
     #[error("out of memory")]
     Memory,
@@ -26,7 +26,7 @@ pub enum SameFault {
 
 impl SameFault {
     /// The fault of one of the jobs.
-    pub fn of(which: Job, fault: JobFault) -> SameFault
+    pub fn of(which: Which, fault: JobFault) -> SameFault
         ensures { result ≡ fault_of which fault }
     {
         match fault {

@@ -8,7 +8,7 @@ ghost use Rattle.pcl_same.specs.declared.asking.LastExit.TheVariants.{Ends};
 use crate::asking::LastExit;
 use crate::comparing::compare_counting;
 use crate::keeping::keep_job;
-use crate::{AskedComparison, Job, PageComparison, SameFault};
+use crate::{AskedComparison, PageComparison, SameFault, Which};
 use pcl_base::{Dpi, Profile};
 use pcl_page::is_accepted;
 use std::alloc::{AllocError, Global};
@@ -78,11 +78,11 @@ fn same_by(
 {
     let kept = match keep_job(alloc, first, profile, dpi) {
         Ok(kept) => kept,
-        Err(fault) => return Err(SameFault::of(Job::First, fault)),
+        Err(fault) => return Err(SameFault::of(Which::First, fault)),
     };
     match compare_counting(alloc, &kept, second, profile, dpi, LastExit::Ends) {
         Ok(comparison) => Ok(comparison),
-        Err(fault) => Err(SameFault::of(Job::Second, fault)),
+        Err(fault) => Err(SameFault::of(Which::Second, fault)),
     }
 }
 

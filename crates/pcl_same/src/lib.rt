@@ -23,7 +23,7 @@ pub use comparison::{
     AskedComparison, AskedDifference, AsksDifference, Difference, ExitDifference, PageComparison,
     PagesDifference, Setting, SettingDifference,
 };
-pub use fault::{Job, SameFault};
+pub use fault::{SameFault, Which};
 pub use images::differing_dots;
 pub use jobs::{read_by, same, same_asked};
 pub use keeping::{KeptJob, PageKeeper, keep_job};

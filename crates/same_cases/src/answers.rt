@@ -1,7 +1,7 @@
 //! How two jobs compare, as the table has it.
 
 use pcl_same::{
-    AskedComparison, AskedDifference, AsksDifference, Difference, ExitDifference, Job,
+    AskedComparison, AskedDifference, AsksDifference, Difference, ExitDifference, Which,
     PagesDifference, SameFault,
 };
 use std::alloc::{AllocError, Global};
@@ -18,8 +18,8 @@ pub(crate) fn words_of(
         Ok(AskedComparison::Asks(difference)) => say_asks(difference, &mut words)?,
         Err(SameFault::Refused { which, refusal }) => {
             let which = match which {
-                Job::First => "first",
-                Job::Second => "second",
+                Which::First => "first",
+                Which::Second => "second",
             };
             write!(words, "{which} refused at {}", refusal.at)?;
         }

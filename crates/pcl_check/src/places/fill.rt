@@ -73,20 +73,20 @@ pub fn fill_start_ends(old: &[u8], row: &[u8], ends: &mut [u32])
 }
 
 /// For each start of a replacement, at the place after it, the least of the replaced bytes and the number after them.
-pub fn fill_behind_starts(numbers: &[u16], sums: &mut [u32])
+pub fn fill_after_starts(numbers: &[u16], sums: &mut [u32])
     requires size { length sums.old ≡ length numbers.now }
     requires some { 0 < length numbers.now }
     requires small { length numbers.now ≤ row_limit + 1 }
     ensures { AreBehindStarts numbers.now sums.new }
 {
     for start in 0..numbers.len() - 1 {
-        sums[start + 1] = least_behind(&numbers[start..]);
+        sums[start + 1] = least_after(&numbers[start..]);
     }
 }
 
 /// The least of the replaced bytes, one to eight, and the number after them, where a replacement starts at the first
 /// place.
-fn least_behind(numbers: &[u16]) -> u32
+fn least_after(numbers: &[u16]) -> u32
     requires some { 1 < length numbers.now }
     requires small { length numbers.now ≤ row_limit + 1 }
     ensures { (len : ℕ) × IsLeastLen numbers.now 1 (min (length numbers.now - 1) 8) 0 1 len result }

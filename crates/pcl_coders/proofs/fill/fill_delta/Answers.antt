@@ -24,7 +24,7 @@ placed c =
     let next : IsNextStart c.args.old.now row out (place + 1) place c.if-old-place.start c.if-old-place.best =
     elim c.if-old-place.branch [
       | then-old-place w ↦
-          let e = rw (take_rest out place) at w.least_behind-best.ensures in
+          let e = rw (take_rest out place) at w.least_after-best.ensures in
           rw (w.start-is, w.best-is) (next_start_here size (omega (arith, c.requires.first_end.within)) w.if-old-place.true e.1)
       | else-old-place w ↦
           let last : place + 1 ≡ c.args.end → ⊥ = λ e. last_differs place c.requires e w.if-old-place.false in

@@ -1,6 +1,6 @@
 use Rattle.std.proofs.Common.{◌≡◌, ◌+◌, ◌-◌, arith}
 use Rattle.pcl_check.proofs.Names.{least_min_next}
-use Rattle.pcl_check.proofs.places.fill.least_behind.Goals as goal
+use Rattle.pcl_check.proofs.places.fill.least_after.Goals as goal
 
 pub loop-len-preserved : goal.loop-len-preserved
 loop-len-preserved c =

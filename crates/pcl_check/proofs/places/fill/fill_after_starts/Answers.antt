@@ -1,6 +1,6 @@
 use Rattle.std.proofs.Common.{◌≡◌, ℕ, ◌+◌, ◌-◌, ◌<◌, min, List, length, drop, set, sym, below_more, arith}
 use Rattle.pcl_check.proofs.Names.{slice_index, get_or-set_same, get_or-set_other, length-drop, take_rest, IsLeastLen}
-use Rattle.pcl_check.proofs.places.fill.fill_behind_starts.Goals as goal
+use Rattle.pcl_check.proofs.places.fill.fill_after_starts.Goals as goal
 
 abbrev IsBehindStart : List ℕ → List ℕ → ℕ → Type 0
 IsBehindStart numbers sums start =
@@ -18,6 +18,6 @@ behind_more {numbers} sums {start} {least} inside before here =
 
 pub loop-start-preserved : goal.loop-start-preserved
 loop-start-preserved c =
-    let here = rw (take_rest c.args.numbers.now c.loop-start.start) at c.least_behind.ensures in
+    let here = rw (take_rest c.args.numbers.now c.loop-start.start) at c.least_after.ensures in
     behind_more c.loop-start.sums
     (omega (arith, c.loop-start.auto.sums, c.requires.size, c.loop-start-test.true)) c.loop-start.invariant here

@@ -1,6 +1,6 @@
 use Rattle.std.proofs.Common.{ℕ, ◌+◌, ◌-◌, ◌<◌, min, length, drop}
 use Rattle.pcl_check.proofs.Names.{slice_index, IsLeastLen}
-use Rattle.pcl_check.proofs.places.fill.fill_behind_starts.Given as goal
+use Rattle.pcl_check.proofs.places.fill.fill_after_starts.Given as goal
 
 abbrev pub invariant-loop-start : goal.invariant-loop-start
 invariant-loop-start l = (k : ℕ) → k < l.start
