@@ -4,7 +4,7 @@
 PREFIX ?= /usr/local
 PROGRAM := crates/pclmin/out/pclmin
 
-.PHONY: demo build test test-memory test-process test-home test-batch test-slurm test-cups oracle examples bench bench-certificates bench-clients install install-cups deb test-cupsd clean lib install-lib test-library web serve test-web
+.PHONY: demo build test test-memory test-process test-delivery test-batch test-slurm test-cups oracle examples bench bench-certificates bench-clients install install-cups deb test-cupsd clean lib install-lib test-library web serve test-web
 
 # Previews the sample job into build/demo.pbm, and shrinks it into build/demo.pcl, by two of the kit's quick runs side by side: a minute
 # or two after a fresh clone, and nothing is proved.
@@ -19,7 +19,7 @@ demo:
 # Proves the libraries that the program stands on side by side (LANES=2 keeps to two processors), and then the program, builds it, and
 # previews the sample job into build/sample.pbm. Needs Python 3.
 build:
-	./lanes.py pclmin
+	tools/build.py pclmin
 	$(PROGRAM) pbm --page 1 < examples/picture.pcl > build/sample.pbm
 	@echo "build/sample.pbm is page 1 of examples/picture.pcl"
 
@@ -28,53 +28,54 @@ test:
 	rt ci
 
 # Makes the first allocation of the program crates/memory_cases fail, then the second, and so on, until a run in which memory ran out
-# nowhere; then the same of runs and batches of pclmin (process/memory.py). It takes three minutes once memory_cases is proved. Needs
-# Python 3, a C compiler, and the program that `make build` left.
+# nowhere; then the same of runs and batches of pclmin (tests/process/memory.py). It takes three minutes once memory_cases is proved.
+# Needs Python 3, a C compiler, and the program that `make build` left.
 test-memory:
-	./lanes.py memory_cases
-	process/memory.py $(PROGRAM) crates/memory_cases/out/memory_cases crates/memory_cases/stdout
+	tools/build.py memory_cases
+	tests/process/memory.py $(PROGRAM) crates/memory_cases/out/memory_cases crates/memory_cases/stdout
 
 # Compares what the process says and its status where files, standard streams and memory fail, what a terminal is told
-# (process/cases.txt), and help and usage faults whole (those of crates/command_cases), and makes each call of the system in some runs
-# fail in turn (process/calls.py). Needs Python 3, a C compiler, and the program that `make build` left.
+# (tests/process/cases.txt), and help and usage faults whole (those of crates/command_cases), and makes each call of the system in some
+# runs fail in turn (tests/process/calls.py). Needs Python 3, a C compiler, and the program that `make build` left.
 test-process:
-	process/run.py $(PROGRAM)
-	process/calls.py $(PROGRAM)
+	tests/process/run.py $(PROGRAM)
+	tests/process/calls.py $(PROGRAM)
 
 # All that gets the filter to people: test-cups, test-batch and test-cupsd, and then the manual pages by their linter, the completions
 # in each shell, what file managers show of jobs, what the console blocks of the documents print and where their links lead, what
 # `explain` and `--help` say beside the documents, a second checker beside `check`, and the Debian package, installed and purged. Needs
-# root, Python 3, mandoc, zsh, fish, the packages that home/batch.py, home/thumbnails.sh and cups/server.py name, and the program that
-# `make build` left.
-test-home: test-cups test-batch test-cupsd
-	mandoc -T lint -W warning man/pclmin.1 man/pclmin-cups.8
-	home/completions.sh
-	home/thumbnails.sh $(PROGRAM)
-	home/blocks.py $(PROGRAM) README.md CONTRIBUTING.md CHANGELOG.md docs/*.md */README.md
-	home/said.py $(PROGRAM)
-	home/sceptic.py $(PROGRAM)
-	home/deb.sh try
+# root, Python 3, mandoc, zsh, fish, the packages that tests/delivery/batch.py, tests/delivery/thumbnails.sh and
+# tests/printers/server.py name, and the program that `make build` left.
+test-delivery: test-cups test-batch test-cupsd
+	mandoc -T lint -W warning share/man/pclmin.1 share/man/pclmin-cups.8
+	tests/delivery/completions.sh
+	tests/delivery/thumbnails.sh $(PROGRAM)
+	tests/delivery/blocks.py $(PROGRAM) README.md CONTRIBUTING.md CHANGELOG.md docs/*.md */README.md
+	tests/delivery/said.py $(PROGRAM)
+	tests/delivery/sceptic.py $(PROGRAM)
+	tests/delivery/deb.sh try
 
 # Makes 1,000 jobs, some of them refused, empty or not there, and runs batches over them: one that is killed and run again, and those
-# of GNU parallel in docs/BATCH.md, on this machine and over ssh on loopback. Needs the packages that home/batch.py names, and the
-# program that `make build` left.
+# of GNU parallel in docs/BATCH.md, on this machine and over ssh on loopback. Needs the packages that tests/delivery/batch.py names, and
+# the program that `make build` left.
 test-batch:
-	home/batch.py $(PROGRAM)
+	tests/delivery/batch.py $(PROGRAM)
 
 # Starts slurm with two nodes on loopback, and runs the block of docs/BATCH.md that uses it over some 60 jobs: as it stands, with a task
 # that is killed, with one that is requeued, and with a bound on the time of each job. It takes a minute or two. Needs root, the
-# packages that home/slurm.py names, and the program that `make build` left.
+# packages that tests/delivery/slurm.py names, and the program that `make build` left.
 test-slurm:
-	home/slurm.py $(PROGRAM)
+	tests/delivery/slurm.py $(PROGRAM)
 
 # Runs the CUPS backend with a device behind it that only keeps what comes. Needs the program that `make build` left.
 test-cups:
-	cups/try.sh $(PROGRAM)
+	tests/printers/try.sh $(PROGRAM)
 
 # Prints through a CUPS server of its own on loopback, with and without the backend, by real drivers, and compares what the
-# printer gets. It takes a minute or two. Needs root, the packages that cups/server.py names, and the program that `make build` left.
+# printer gets. It takes a minute or two. Needs root, the packages that tests/printers/server.py names, and the program that
+# `make build` left.
 test-cupsd:
-	cups/server.py $(PROGRAM)
+	tests/printers/server.py $(PROGRAM)
 
 # A run of the programs of oracle/, which share no line with this one, beside it, and of 20,000 random jobs through shrink and back: a
 # quarter of an hour on four cores. Needs rustc, Python 3, and the
@@ -108,10 +109,10 @@ bench-clients:
 install:
 	@test -x $(PROGRAM) || { echo "there is no $(PROGRAM): run make build first" >&2; exit 1; }
 	install -D -m 755 $(PROGRAM) $(DESTDIR)$(PREFIX)/bin/pclmin
-	install -D -m 644 man/pclmin.1 $(DESTDIR)$(PREFIX)/share/man/man1/pclmin.1
-	install -D -m 644 completions/pclmin.bash $(DESTDIR)$(PREFIX)/share/bash-completion/completions/pclmin
-	install -D -m 644 completions/_pclmin $(DESTDIR)$(PREFIX)/share/zsh/site-functions/_pclmin
-	install -D -m 644 completions/pclmin.fish $(DESTDIR)$(PREFIX)/share/fish/vendor_completions.d/pclmin.fish
+	install -D -m 644 share/man/pclmin.1 $(DESTDIR)$(PREFIX)/share/man/man1/pclmin.1
+	install -D -m 644 share/completions/pclmin.bash $(DESTDIR)$(PREFIX)/share/bash-completion/completions/pclmin
+	install -D -m 644 share/completions/_pclmin $(DESTDIR)$(PREFIX)/share/zsh/site-functions/_pclmin
+	install -D -m 644 share/completions/pclmin.fish $(DESTDIR)$(PREFIX)/share/fish/vendor_completions.d/pclmin.fish
 	install -D -m 755 share/pclmin-thumbnailer $(DESTDIR)$(PREFIX)/bin/pclmin-thumbnailer
 	install -D -m 644 share/pclmin.thumbnailer $(DESTDIR)$(PREFIX)/share/thumbnailers/pclmin.thumbnailer
 	install -D -m 644 share/pclmin.xml $(DESTDIR)$(PREFIX)/share/mime/packages/pclmin.xml
@@ -132,11 +133,11 @@ install-lib:
 	sed 's|@PREFIX@|$(PREFIX)|' build/pclmin.pc.in > $(DESTDIR)$(PREFIX)/lib/pkgconfig/pclmin.pc
 	chmod 644 $(DESTDIR)$(PREFIX)/lib/pkgconfig/pclmin.pc
 
-# Calls the library from C, Rust and Python, and compares what they get with what the program writes (lib/tests/run.py). It takes
+# Calls the library from C, Rust and Python, and compares what they get with what the program writes (tests/library/run.py). It takes
 # some minutes. Needs a C compiler, Python 3, the program that `make build` left, and takes valgrind and rustc where they are.
 test-library:
 	lib/build.sh shared
-	lib/tests/run.py $(PROGRAM)
+	tests/library/run.py $(PROGRAM)
 
 # Makes build/libpclmin.so, by which the page of web/ is served.
 web:
@@ -149,7 +150,7 @@ serve:
 # Opens jobs in that page and compares what it shows with what the program writes. Needs Python 3, the program that `make build`
 # left, the library that `make web` left, and Chromium: where that isn't there, the server alone is tested.
 test-web:
-	web/test.py $(PROGRAM)
+	tests/viewer/test.py $(PROGRAM)
 
 # Puts the CUPS backend where CUPS looks for it (docs/CUPS.md), and its manual page to $(PREFIX)/share. CUPSMODE=700 is for devices
 # whose own backend only root may run.
@@ -161,13 +162,13 @@ install-cups:
 	sed 's|/usr/local/bin/pclmin|$(PREFIX)/bin/pclmin|' cups/backend/pclmin > $(DESTDIR)$(CUPSDIR)/backend/pclmin
 	chmod $(CUPSMODE) $(DESTDIR)$(CUPSDIR)/backend/pclmin
 	install -d $(DESTDIR)$(PREFIX)/share/man/man8
-	sed 's|/usr/local/bin/pclmin|$(PREFIX)/bin/pclmin|; s|/usr/lib/cups/backend|$(CUPSDIR)/backend|' man/pclmin-cups.8 \
+	sed 's|/usr/local/bin/pclmin|$(PREFIX)/bin/pclmin|; s|/usr/lib/cups/backend|$(CUPSDIR)/backend|' share/man/pclmin-cups.8 \
 		> $(DESTDIR)$(PREFIX)/share/man/man8/pclmin-cups.8
 	chmod 644 $(DESTDIR)$(PREFIX)/share/man/man8/pclmin-cups.8
 
-# Makes a Debian package of the same under build/. Needs dpkg-deb; `home/deb.sh try` also installs, runs and purges it, as root.
+# Makes a Debian package of the same under build/. Needs dpkg-deb; `tests/delivery/deb.sh try` also installs, runs and purges it, as root.
 deb:
-	home/deb.sh
+	tests/delivery/deb.sh
 
 # Removes what was built, and the proofs that were kept: the next build proves everything again.
 clean:

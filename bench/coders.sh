@@ -5,7 +5,7 @@
 set -euo pipefail
 cd "$(dirname "$0")/.."
 bench=${CODER_BENCH:-crates/coder_bench/out/coder_bench}
-[ -n "${CODER_BENCH:-}" ] || ./lanes.py coder_bench >&2
+[ -n "${CODER_BENCH:-}" ] || tools/build.py coder_bench >&2
 mkdir -p build/bench
 rustc -O --edition 2024 -o build/bench/coders bench/coders.rs
 rows=500

@@ -3,7 +3,7 @@
 mkdir -p build/bench
 if [ -z "${PCLMIN:-}" ]; then
     PCLMIN=$PWD/crates/pclmin/out/pclmin
-    ./lanes.py pclmin >&2
+    tools/build.py pclmin >&2
 fi
 PLAIN=build/bench/plain
 

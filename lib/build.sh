@@ -10,7 +10,7 @@ kit=$(dirname "$(rt doc)")
 version=$(sed -n 's/^pub const VERSION: &str = "\(.*\)";$/\1/p' crates/pcl_arguments/src/command_line.rt)
 [ -n "$version" ] || { echo "no line of pcl_arguments has the version" >&2; exit 1; }
 mkdir -p build/lib
-./lanes.py pcl_library
+tools/build.py pcl_library
 "$cc" -std=c11 -O2 -fPIC -Wall -Wextra -DPCLMIN_VERSION="\"$version\"" ${CFLAGS:-} -c lib/pclmin.c -o build/lib/shell.o
 # One object, whose other names no program can meet.
 ld -r -o build/lib/pclmin.o build/lib/shell.o --whole-archive crates/pcl_library/out/libpcl_library.a "$kit/c/liblibc_c.a"

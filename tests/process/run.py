@@ -2,7 +2,7 @@
 """What the process of pclmin does where its surroundings fail: for each case of cases.txt the whole of standard error and
 the status are compared, and what is left in files. Prints the cases that don't hold and how many do; status 1 if one doesn't.
 
-    process/run.py [PROGRAM]        PROGRAM is crates/pclmin/out/pclmin where none is given
+    tests/process/run.py [PROGRAM]        PROGRAM is crates/pclmin/out/pclmin where none is given
 
 A line of cases.txt is a command of the shell, `=>`, the status, `|`, and what standard error has to be, without its line feed.
 The command runs in a folder of its own, which has the files of FILES; `pclmin` is the program. Empty lines and lines that begin
@@ -24,7 +24,7 @@ import threading
 import time
 
 HERE = os.path.dirname(os.path.abspath(__file__))
-TEXTS = os.path.join(HERE, "../crates/command_cases/data/commands.txt")
+TEXTS = os.path.join(HERE, "../../crates/command_cases/data/commands.txt")
 DOT = b"\x1b&l0E\x1b*p0x0Y\x1b*t300R\x1b*r0A\x1b*b1W\x80"
 WRITTEN = b"\x1bE\x1b&l1x2a0E\x1b*p0x0Y\x1b*t300R\x1b*r2400s0A\x1b*b1W\x80\x1b*rC\x0c\x1bE"
 FILES = {"dot.pcl": DOT, "dot.out": WRITTEN, "bad.pcl": b"\x1b"}
@@ -373,7 +373,7 @@ def check_spared_terminal(program):
 
 
 def main():
-    program = os.path.abspath(sys.argv[1] if len(sys.argv) > 1 else os.path.join(HERE, "../crates/pclmin/out/pclmin"))
+    program = os.path.abspath(sys.argv[1] if len(sys.argv) > 1 else os.path.join(HERE, "../../crates/pclmin/out/pclmin"))
     if not os.access(program, os.X_OK):
         sys.exit(f"{program}: not there; `make build` makes it")
     with tempfile.TemporaryDirectory() as folder:

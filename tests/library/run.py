@@ -5,7 +5,7 @@ what these get is compared with what the program writes and says. The calls in w
 small stacks, and those with pointers and numbers that no call takes have tests of their own below. Prints what doesn't hold and
 how much does; status 1 if something doesn't.
 
-    lib/tests/run.py [PROGRAM]        PROGRAM is crates/pclmin/out/pclmin where none is given
+    tests/library/run.py [PROGRAM]        PROGRAM is crates/pclmin/out/pclmin where none is given
 """
 import json
 import os

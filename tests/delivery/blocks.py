@@ -1,7 +1,7 @@
 #!/usr/bin/env python3
 """Runs the console blocks of documents, and compares what they print; and looks whether what documents point to is there.
 
-    home/blocks.py PCLMIN DOCUMENT..
+    tests/delivery/blocks.py PCLMIN DOCUMENT..
 
 A line that begins with `$ ` is a command, and the lines after it are what it prints on standard output and standard error
 together. The commands of a document run in one shell after the other, in a copy of examples/ named so, with PCLMIN as
@@ -18,7 +18,7 @@ import subprocess
 import sys
 import tempfile
 
-ROOT = pathlib.Path(__file__).resolve().parent.parent
+ROOT = pathlib.Path(__file__).resolve().parent.parent.parent
 FENCED = re.compile(r"^```.*?^```$", re.M | re.S)
 LINK = re.compile(r"\[[^\]]*\]\(([^)\s]+)\)")
 # A heading that is named after its document, or before it.

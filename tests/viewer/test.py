@@ -1,5 +1,5 @@
 #!/usr/bin/env python3
-"""The page of this folder beside the program, in Chromium without a window: jobs are opened, the dots on the canvas are those of
+"""The page of web/ beside the program, in Chromium without a window: jobs are opened, the dots on the canvas are those of
 `pclmin pbm`, the greys of a smaller page the means of these dots, the small pictures those of `pclmin pgm`, the sizes, the copies and
 what is asked those of `pclmin pages`. One job is refused with its place marked among its bytes, what is saved is what `pclmin shrink`
 writes, and a dropped file is opened too. Keys turn pages, nothing moves when a job is shrunk, and the page is used at the size of a
@@ -10,7 +10,9 @@ program's dots, each in one colour, and the bytes that are told are those of the
 for what takes too long. Where there is no Chromium the server alone is tested, and a line says so. Prints what doesn't hold and how
 much does; status 1 if something doesn't.
 
-    web/test.py [PROGRAM] [--picture FILE]     PROGRAM is crates/pclmin/out/pclmin where none is given; FILE gets a picture of the page
+    tests/viewer/test.py [PROGRAM] [--picture FILE]
+
+PROGRAM is crates/pclmin/out/pclmin where none is given; FILE gets a picture of the page.
 """
 import argparse
 import base64
@@ -30,9 +32,8 @@ import tempfile
 import threading
 import time
 
-HERE = os.path.dirname(os.path.abspath(__file__))
-TOP = os.path.dirname(HERE)
-sys.path.insert(0, HERE)
+TOP = os.path.dirname(os.path.dirname(os.path.dirname(os.path.abspath(__file__))))
+sys.path.insert(0, os.path.join(TOP, "web"))
 sys.dont_write_bytecode = True
 import server  # noqa: E402
 

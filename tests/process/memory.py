@@ -1,7 +1,7 @@
 #!/usr/bin/env python3
 """Makes each allocation of some runs fail in turn, the first, the second, and so on until a run asks for no more.
 
-    process/memory.py PROGRAM CASES EXPECTED
+    tests/process/memory.py PROGRAM CASES EXPECTED
 
 PROGRAM is a built pclmin: each of its runs either does what it does with ample memory, or says `pclmin: out of memory` with status 3
 and has written nothing; and files are as they were. A batch of three jobs goes on after one that ran out of memory, which its report
@@ -18,7 +18,7 @@ import tempfile
 sys.dont_write_bytecode = True
 from failing import AS_IT_WAS, HERE, Failing
 
-EXAMPLES = HERE.parent / "examples"
+EXAMPLES = HERE.parent.parent / "examples"
 LINE = b"pclmin: out of memory\n"
 RUNS = ["pbm --page 1 dot.pcl", "min dot.pcl", "min --cert cert --format 2 dot.pcl",
         "min --cert kept.cert -o kept dot.pcl", "same --image image dot.pcl other.pcl", "shrink dot.pcl", "pages dot.pcl",

@@ -1,7 +1,7 @@
 #!/usr/bin/env python3
-"""Compares what `explain` says with the tables of docs/DRIVERS.md, and what `--help` has with man/pclmin.1.
+"""Compares what `explain` says with the tables of docs/DRIVERS.md, and what `--help` has with share/man/pclmin.1.
 
-    home/said.py PCLMIN
+    tests/delivery/said.py PCLMIN
 
 For each kind of DRIVERS.md, "By answer", `explain KIND` has to say the row's text. Then a job of each command, by its name, is
 explained by the stated profile, and where the command or its value is refused the text has to be that of the row which names it, or of
@@ -16,7 +16,7 @@ import string
 import subprocess
 import sys
 
-ROOT = pathlib.Path(__file__).resolve().parent.parent
+ROOT = pathlib.Path(__file__).resolve().parent.parent.parent
 ROW = re.compile(r"^\| (`[^|]+`) \| ([^|]+) \|$", re.M)
 LINE = re.compile(r"(?P<kind>\w+) at \d+ (?P<name>\S+)(?: [+-]?\d+)?(?: \(\d+ times\))?: (?P<text>.*)")
 # A value that commands with numbers don't take, and data behind those that take some.
@@ -131,7 +131,7 @@ def has_word(text, word):
 
 def manual_faults(pclmin, commands):
     """Words of the help that the manual page lacks, in the synopsis of a command or in what is said of it or of every command."""
-    page = (ROOT / "man" / "pclmin.1").read_text()
+    page = (ROOT / "share" / "man" / "pclmin.1").read_text()
     synopsis, text = page.split(".Sh DESCRIPTION")
     of_every, *sections = text.split(".Sh EXIT STATUS")[0].split(".Ss ")
     for command in commands:
@@ -139,9 +139,9 @@ def manual_faults(pclmin, commands):
         section = "".join(part for part in sections if part.startswith(command + "\n"))
         for word in options(pclmin, command):
             if word != "help" and not has_word(usages, word):
-                yield "man/pclmin.1 has no --%s in the synopsis of %s" % (word, command)
+                yield "share/man/pclmin.1 has no --%s in the synopsis of %s" % (word, command)
             if word != "help" and not has_word(section + of_every, word):
-                yield "man/pclmin.1 doesn't say what --%s of %s does" % (word, command)
+                yield "share/man/pclmin.1 doesn't say what --%s of %s does" % (word, command)
 
 
 def main(pclmin):

@@ -1,7 +1,7 @@
 #!/usr/bin/env python3
 """Runs `pclmin batch` on a cluster with slurm, as docs/BATCH.md says, and looks at what it reports and leaves.
 
-    home/slurm.py PCLMIN
+    tests/delivery/slurm.py PCLMIN
 
 The cluster is a controller and two nodes on this machine, in a network and a space of processes of their own (unshare), which
 has loopback alone, and ends with all that runs in it. Some 60 jobs are made in a temporary folder: copies of the samples, and
@@ -320,5 +320,5 @@ if __name__ == "__main__":
     if len(sys.argv) == 4 and sys.argv[1] == "--inside":
         sys.exit(inside(*sys.argv[2:]))
     if len(sys.argv) != 2:
-        sys.exit("usage: home/slurm.py PCLMIN")
+        sys.exit("usage: tests/delivery/slurm.py PCLMIN")
     sys.exit(main(sys.argv[1]))

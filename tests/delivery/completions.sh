@@ -1,7 +1,7 @@
 #!/usr/bin/env bash
 # What the completions offer in bash, zsh and fish. Needs zsh and fish.
 set -euo pipefail
-cd "$(dirname "$0")/.."
+cd "$(dirname "$0")/../.."
 failed=0
 
 # offers SHELL WORDS WANTED: the offers, sorted, in one line
@@ -13,12 +13,12 @@ offers() {
 }
 
 in_bash() {
-    bash -c 'source completions/pclmin.bash; COMP_WORDS=("$@"); COMP_CWORD=$(($# - 1)); _pclmin; printf "%s\n" "${COMPREPLY[@]}"' \
+    bash -c 'source share/completions/pclmin.bash; COMP_WORDS=("$@"); COMP_CWORD=$(($# - 1)); _pclmin; printf "%s\n" "${COMPREPLY[@]}"' \
         bash "$@" | sort | xargs
 }
 
 in_fish() {
-    fish --no-config -c 'source completions/pclmin.fish; complete -C "$argv"' "$*" | cut -f 1 | sort | xargs
+    fish --no-config -c 'source share/completions/pclmin.fish; complete -C "$argv"' "$*" | cut -f 1 | sort | xargs
 }
 
 offers bash "$(in_bash pclmin m)" "min"
@@ -37,5 +37,5 @@ offers fish "$(in_fish pclmin pages --t)" "--tsv"
 offers fish "$(in_fish pclmin shrink --s)" "--stated"
 offers fish "$(in_fish pclmin min --dpi "")" "300 600 auto"
 offers fish "$(in_fish pclmin min --f)" "--format"
-zsh -n completions/_pclmin
+zsh -n share/completions/_pclmin
 exit "$failed"

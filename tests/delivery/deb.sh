@@ -3,7 +3,7 @@
 # looks. With `try` it is also installed, run and purged, which has to be done as root. Needs dpkg-deb, objdump of binutils, and the
 # program that `make build` left.
 set -euo pipefail
-cd "$(dirname "$0")/.."
+cd "$(dirname "$0")/../.."
 program=crates/pclmin/out/pclmin
 [ -x "$program" ] || { echo "there is no $program: run make build first" >&2; exit 1; }
 

@@ -4,7 +4,7 @@
 # file, and gio of GLib.
 set -euo pipefail
 program=$(realpath "$1")
-cd "$(dirname "$0")/.."
+cd "$(dirname "$0")/../.."
 place=$(mktemp -d)
 trap 'rm -rf "$place"' EXIT
 failed=0

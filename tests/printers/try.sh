@@ -1,7 +1,7 @@
 #!/usr/bin/env bash
-# cups/try.sh PROGRAM: what the backend does with a device behind it that only keeps what comes. It needs no CUPS.
+# tests/printers/try.sh PROGRAM: what the backend does with a device behind it that only keeps what comes. It needs no CUPS.
 set -u
-cd "$(dirname "$0")/.."
+cd "$(dirname "$0")/../.."
 program=$(realpath "$1")
 folder=$(mktemp -d)
 trap 'rm -rf "$folder"' EXIT

@@ -1,7 +1,7 @@
 #!/usr/bin/env python3
 """Prints through a CUPS server of its own, with and without the backend, and compares what the printer gets.
 
-    cups/server.py PROGRAM          as root; PROGRAM is a built pclmin
+    tests/printers/server.py PROGRAM          as root; PROGRAM is a built pclmin
 
 cupsd runs on loopback, out of a temporary folder: its own settings, spool and queues, and the program and the backend as
 `make install install-cups` puts them there. Where a printer would be, a listener keeps what comes. Each driver has two queues,
@@ -31,7 +31,7 @@ import tempfile
 import threading
 import time
 
-HERE = os.path.dirname(os.path.abspath(__file__))
+TOP = os.path.dirname(os.path.dirname(os.path.dirname(os.path.abspath(__file__))))
 # How long all jobs may take, in seconds.
 PATIENCE = 900
 # What a printer says of itself while a job comes in, and how often: there is room for that in the back channel, which nobody reads.
@@ -394,7 +394,7 @@ def main(program):
         port = free_port()
         at = f"127.0.0.1:{port}"
         write_settings(folder, port)
-        run("make", "-s", "-C", os.path.dirname(HERE), "install", "install-cups", f"PROGRAM={program}", f"PREFIX={folder}/usr",
+        run("make", "-s", "-C", TOP, "install", "install-cups", f"PROGRAM={program}", f"PREFIX={folder}/usr",
             f"CUPSDIR={folder}/bin")
         ppds = {name: describe(folder, name, driver) for name, driver, _, _ in DRIVERS}
         files = make_documents(folder)
@@ -426,5 +426,5 @@ def main(program):
 
 if __name__ == "__main__":
     if len(sys.argv) != 2 or os.geteuid() != 0:
-        sys.exit("usage: cups/server.py PROGRAM, as root")
+        sys.exit("usage: tests/printers/server.py PROGRAM, as root")
     sys.exit(main(os.path.realpath(sys.argv[1])))

@@ -1,7 +1,7 @@
 #!/usr/bin/env python3
 """Makes each call of the system that some runs make fail in turn, and reads and writes short.
 
-    process/calls.py PROGRAM
+    tests/process/calls.py PROGRAM
 
 PROGRAM is a built pclmin. A run in which a read fails, interrupted ones too, says `pclmin: cannot read`; one in which a write, a
 rename or a sync fails says `pclmin: cannot write`; both end with status 3. One in which a file can't be opened says either. Where
@@ -24,7 +24,7 @@ import tempfile
 sys.dont_write_bytecode = True
 from failing import AS_IT_WAS, HERE, Failing
 
-EXAMPLES = HERE.parent / "examples"
+EXAMPLES = HERE.parent.parent / "examples"
 READ, WRITE = rb"pclmin: cannot read[^\n]*\n", rb"pclmin: cannot write[^\n]*\n"
 RUNS = ["pbm dot.pcl", "min dot.pcl", "min --cert cert dot.pcl", "min --cert cert --format 2 dot.pcl",
         "min --cert kept.cert -o kept dot.pcl", "min --cert cert -o kept dot.pcl", "shrink dot.pcl", "shrink -o kept dot.pcl",

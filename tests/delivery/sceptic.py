@@ -1,7 +1,7 @@
 #!/usr/bin/env python3
 """Asks examples/check.py and `pclmin check` of written jobs and their certificates, as they are and changed in many ways.
 
-    home/sceptic.py PCLMIN
+    tests/delivery/sceptic.py PCLMIN
 
 Both have to say yes of the same ones. They are those of the tables of certificates (crates/job_cases/data/certificates.txt, whose
 words src/certificates.rt there tells), all in format 2, which is the one that check.py reads, and of each cut the first, the middle
@@ -19,7 +19,7 @@ import subprocess
 import sys
 import tempfile
 
-ROOT = pathlib.Path(__file__).resolve().parent.parent
+ROOT = pathlib.Path(__file__).resolve().parent.parent.parent
 TABLE = ROOT / "crates" / "job_cases" / "data" / "certificates.txt"
 sys.path.insert(0, str(ROOT / "oracle"))
 sys.dont_write_bytecode = True

@@ -2,7 +2,7 @@
 """Proves and builds crates of crates.txt and all that they stand on, side by side, each as soon as those are done that it stands on,
 and those first that most work waits for:
 
-    lanes.py pclmin
+    tools/build.py pclmin
 
 Each is proved from nothing by the kit's `rattle`, as `rt ci` does it: over what the crates below state, without their proofs, so that a
 crate high up reads a tenth of what `rt check` has it read. What is stated is kept in build/lanes/NAME.rlib, what was said in NAME.log
@@ -13,7 +13,7 @@ There are as many jobs as processors. The crate that most work waits for has two
 more of the processors, unless there are fewer crates to build than processors; and all but the first are nice. LANES bounds how many
 processors are taken.
 
-    lanes.py --check pcl_tool [FLAG..]
+    tools/build.py --check pcl_tool [FLAG..]
 
 builds what a crate stands on, and then proves the crate over what earlier calls kept in build/lanes/NAME.kept, with these flags of
 `rattle check` (`--only pcl_tool::filter`, `--allow-holes`).
@@ -30,10 +30,10 @@ import subprocess
 import sys
 import time
 
-ROOT = pathlib.Path(__file__).resolve().parent
+ROOT = pathlib.Path(__file__).resolve().parent.parent
 LANES = ROOT / "build" / "lanes"
 if not shutil.which("rt"):
-    sys.exit("lanes.py: there is no rt, the command of the Rattle kit")
+    sys.exit("build.py: there is no rt, the command of the Rattle kit")
 KIT = pathlib.Path(subprocess.run(["rt", "doc"], stdout=subprocess.PIPE, text=True, check=True).stdout.strip()).parent
 FIRST_JOB = 3_000_000_000  # bytes that a large check may take with one job
 FURTHER_JOB = 1_000_000_000  # bytes of each further job
@@ -255,7 +255,7 @@ def check(name, flags, processors):
 def main():
     for name in [it for it in sys.argv[1:] if not it.startswith("-")][: 1 if "--check" in sys.argv else None]:
         if name not in crates():
-            sys.exit(f"lanes.py: crates.txt has no crate {name}")
+            sys.exit(f"build.py: crates.txt has no crate {name}")
     processors = int(os.environ.get("LANES") or len(os.sched_getaffinity(0)))
     if sys.argv[1:2] == ["--check"]:
         return check(sys.argv[2], sys.argv[3:], processors)

@@ -1,7 +1,7 @@
 #!/usr/bin/env python3
 """Runs `pclmin batch` over many jobs, as docs/BATCH.md says, and looks at what it reports and leaves.
 
-    home/batch.py PCLMIN [JOBS]         1,000 jobs where no number is given
+    tests/delivery/batch.py PCLMIN [JOBS]         1,000 jobs where no number is given
 
 The jobs are made in a temporary folder: pages of text by ghostscript's drivers and copies of the samples, and among them some that
 are refused, cut short, empty or not there. A batch over all of them is killed in the middle, run again, and run once more; then the
@@ -30,7 +30,7 @@ import tempfile
 import time
 from concurrent.futures import ThreadPoolExecutor
 
-ROOT = pathlib.Path(__file__).resolve().parent.parent
+ROOT = pathlib.Path(__file__).resolve().parent.parent.parent
 # A kind of job: ghostscript's driver or what it is else, how many of a thousand there are, and the status of a batch for it.
 KINDS = [("ljet2p", 380, 0), ("laserjet", 150, 0), ("ljetplus", 80, 0), ("lj4dith", 60, 0), ("fs600", 40, 0), ("sample", 60, 0),
          ("empty", 30, 0), ("ljet4", 80, 0), ("lj5gray", 30, 1), ("cut", 40, 1), ("words", 40, 1), ("missing", 10, 3)]
@@ -238,5 +238,5 @@ def main(program, count):
 
 if __name__ == "__main__":
     if len(sys.argv) not in (2, 3):
-        sys.exit("usage: home/batch.py PCLMIN [JOBS]")
+        sys.exit("usage: tests/delivery/batch.py PCLMIN [JOBS]")
     sys.exit(main(sys.argv[1], int(sys.argv[2]) if len(sys.argv) == 3 else 1000))
