@@ -1,4 +1,4 @@
-// The least data of rows by each method, in plain Rust over std alone: what crates/coder_bench is timed beside. Its
+// The least data of rows by each method, in plain Rust over std alone: what bench/coder_bench is timed beside. Its
 // arguments are the tables (linear: those that pcl_coders fills, without lanes; tried: each length and each offset
 // tried at each place), what is asked (length or data), the method's number, the kind of rows (blank, text, dithered,
 // noisy or random) and how often the rows of a page are gone through; it prints how many bytes all rows take.

@@ -1,12 +1,28 @@
 #!/usr/bin/env bash
 # Rows a second of each coder of pcl_coders beside plain Rust programs (coders.rs), one with the same linear tables and
 # one that tries each length and each offset at each place, as a table for bench/README.md. CODER_BENCH names another
-# build of crates/coder_bench. Needs rustc.
+# build of bench/coder_bench. Needs rustc.
 set -euo pipefail
 cd "$(dirname "$0")/.."
-bench=${CODER_BENCH:-crates/coder_bench/out/coder_bench}
-[ -n "${CODER_BENCH:-}" ] || tools/build.py coder_bench >&2
+bench=${CODER_BENCH:-build/bench/coder_bench}
 mkdir -p build/bench
+
+# Builds coder_bench as one more crate of a copy, over the crates that are built here. The copy is a temporary folder,
+# since `rt ci` takes no second crates.txt inside the repository.
+build() (
+    tools/build.py pcl_coders
+    room=$(mktemp -d)
+    trap 'rm -rf "$room"' EXIT
+    tar -c --exclude=out crates.txt crates tools | tar -x -C "$room"
+    echo "coder_bench: pcl_coders" >> "$room/crates.txt"
+    mkdir -p "$room/crates/coder_bench/src"
+    cp bench/coder_bench/main.rattle "$room/crates/coder_bench/src/main.rt"
+    ln -s "$PWD/build" "$room/build"
+    "$room/tools/build.py" coder_bench
+    cp "$room/crates/coder_bench/out/coder_bench" "$bench"
+)
+
+[ -n "${CODER_BENCH:-}" ] || build >&2
 rustc -O --edition 2024 -o build/bench/coders bench/coders.rs
 rows=500
 
