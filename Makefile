@@ -4,7 +4,7 @@
 PREFIX ?= /usr/local
 PROGRAM := crates/pclmin/out/pclmin
 
-.PHONY: demo build test test-memory test-process test-delivery test-batch test-slurm test-cups oracle examples bench bench-certificates bench-clients install install-cups deb test-cupsd clean lib install-lib test-library web serve test-web
+.PHONY: demo build test test-edits test-memory test-process test-delivery test-batch test-slurm test-cups oracle examples bench bench-certificates bench-clients install install-cups deb test-cupsd clean lib install-lib test-library web serve test-web
 
 # Previews the sample job into build/demo.pbm, and shrinks it into build/demo.pcl, by two of the kit's quick runs side by side: a minute
 # or two after a fresh clone, and nothing is proved.
@@ -23,9 +23,14 @@ build:
 	$(PROGRAM) pbm --page 1 < examples/picture.pcl > build/sample.pbm
 	@echo "build/sample.pbm is page 1 of examples/picture.pcl"
 
-# The merge gate: proves every crate from nothing, tries each wrong edit, runs each test and each program.
+# The merge gate: proves every crate from nothing, tries each wrong edit of crates/, runs each test and each program.
 test:
 	rt ci
+
+# Tries the wrong edits that the gate doesn't, those of tests/edits/: run before a release. Proves all that their crates stand on first.
+# Needs Python 3.
+test-edits:
+	tests/edits/try.py
 
 # Makes the first allocation of the program crates/memory_cases fail, then the second, and so on, until a run in which memory ran out
 # nowhere; then the same of runs and batches of pclmin (tests/process/memory.py). It takes three minutes once memory_cases is proved.

@@ -1,7 +1,7 @@
 #!/usr/bin/env bash
 # Lists the must-fail edits that were refused for a reason that doesn't speak of a contract.
 #
-#     bench/edits.sh LOG..        logs of `rt ci`, or of `rt must-fail NAME..`
+#     tests/edits/reasons.sh LOG..        logs of `rt ci`, or of `rt must-fail NAME..`
 #
 # An edit says something where what a contract states couldn't be proved of the edited body: then the reason is that it
 # isn't proved that something holds, or a goal of that function's own proof (in its Answers.antt) that no longer holds.
