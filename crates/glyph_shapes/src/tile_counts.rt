@@ -25,8 +25,8 @@ impl TileCounts {
         let mut counts = TileCounts::new(alloc)?;
         for tile in tiles {
             match tile.next {
-                None => counts.tiles.add(hash_of(tile.dots)),
-                Some(next) => counts.pairs.add(hash_of_pair(tile.dots, next)),
+                None => counts.tiles.add(hash_of_tile(tile.dots)),
+                Some(next) => counts.pairs.add(hash_of_tiles(tile.dots, next)),
             }
         }
         Ok(counts)
@@ -59,8 +59,8 @@ impl TileCounts {
     /// How often the character of a tile is there.
     pub fn uses_of(&self, tile: Tile) -> u16 {
         match tile.next {
-            None => self.tiles.of(hash_of(tile.dots)),
-            Some(next) => self.pairs.of(hash_of_pair(tile.dots, next)),
+            None => self.tiles.of(hash_of_tile(tile.dots)),
+            Some(next) => self.pairs.of(hash_of_tiles(tile.dots, next)),
         }
     }
 }
@@ -123,7 +123,17 @@ impl Counts {
     }
 }
 
-/// A hash of the dots of a tile, below the number of counts.
+/// A hash of a tile, by its rows from the topmost one down.
+fn hash_of_tile(dots: [u8; 8]) -> usize {
+    hash_of(u64::from_be_bytes(dots))
+}
+
+/// A hash of two tiles side by side, by their rows.
+fn hash_of_tiles(left: [u8; 8], right: [u8; 8]) -> usize {
+    hash_of_pair(u64::from_be_bytes(left), u64::from_be_bytes(right))
+}
+
+/// A hash of the dots of a tile, the topmost row in the highest byte, below the number of counts.
 fn hash_of(dots: u64) -> usize {
     (dots.wrapping_mul(HASH_FACTOR) >> 48) as usize
 }

@@ -20,17 +20,20 @@ const SEEN_TILES: usize = 2;
 /// Fewer tiles than these on a page are no picture.
 const LEAST_TILES: usize = 512;
 
-/// A tile of a page that isn't white, or two that are one character.
+/// The dots of a tile, a byte for each row from the topmost one down.
+type TileDots = [u8; 8];
+
+/// A tile of a page that isn't white, or two that are one character. A picture has them by the hundred thousand.
 #[derive(Clone, Copy)]
 pub struct Tile {
     /// Its left edge.
     pub left: u16,
     /// Its topmost row.
     pub top: u16,
-    /// Its dots, the topmost row in the highest byte.
-    pub dots: u64,
+    /// Its dots.
+    pub dots: TileDots,
     /// Those of the tile on its right, if that is part of its character.
-    pub next: Option<u64>,
+    pub next: Option<TileDots>,
 }
 
 impl Tile {
@@ -56,7 +59,7 @@ impl Tile {
         let columns = [Some(self.dots), self.next];
         let row_bytes = self.columns();
         for (column, dots) in columns.iter().flatten().enumerate() {
-            for (row, byte) in dots.to_be_bytes().iter().enumerate() {
+            for (row, byte) in dots.iter().enumerate() {
                 if let Some(place) = rows.get_mut(
                     row.saturating_mul(row_bytes).saturating_add(column),
                 ) {
@@ -268,8 +271,8 @@ fn append_joined(
         let tile = Tile {
             left,
             top: stretch.top,
-            dots,
-            next: counts.next_of(rest),
+            dots: dots.to_be_bytes(),
+            next: counts.next_of(rest).map(|next| next.to_be_bytes()),
         };
         if dots != 0 {
             tiles.push(tile)?;
