@@ -12,9 +12,10 @@
 //!
 //! For those that read it as the language says no job goes as it came for that.
 
-use case_tables::{CasesOfLines, TableFault, bytes_of, resolution};
-use pcl_base::{Dpi, JobFault, Profile};
-use pcl_shrink::{Readers, Shrunk, shrink, shrink_everywhere};
+use crate::shrinking::{resolutions, shrunk_at, words_of_fault};
+use case_tables::{CasesOfLines, TableFault, bytes_of};
+use pcl_base::{Dpi, JobFault};
+use pcl_shrink::{Readers, Shrunk};
 use std::alloc::{AllocError, Global};
 
 /// What the lines of the table say up to one of them.
@@ -69,10 +70,7 @@ impl DoubtCases {
 
     /// Why the job goes as it came, in a word.
     fn came(&self, alloc: Global, readers: Readers) -> Result<String, AllocError> {
-        let shrunk = match self.dpi {
-            Some(dpi) => shrink(alloc, &self.job, Profile::Drivers, dpi, readers),
-            None => shrink_everywhere(alloc, &self.job, Profile::Drivers, readers),
-        };
+        let shrunk = shrunk_at(alloc, &self.job, self.dpi, readers);
         word_of(alloc, &self.job, shrunk)
     }
 }
@@ -94,8 +92,7 @@ impl CasesOfLines for DoubtCases {
         match word {
             "start" => self.start = bytes_of(alloc, rest)?,
             "case" => self.begin(alloc, rest)?,
-            "dpi" if rest == "auto" => self.dpi = None,
-            "dpi" => self.dpi = Some(resolution(rest)?),
+            "dpi" => self.dpi = resolutions(rest)?,
             "job" => self.take_job(alloc, rest)?,
             "doubt" => return Ok(Some(self.look(alloc, rest)?)),
             _ => return Err(TableFault::Unknown),
@@ -116,7 +113,6 @@ fn word_of(
             Some(doubt) => format!(in alloc; "{doubt:?}, and other bytes"),
             None => String::from_str(alloc, "none"),
         },
-        Err(JobFault::Refused(refusal)) => format!(in alloc; "refused at {}", refusal.at),
-        Err(JobFault::Memory) => Err(AllocError),
+        Err(fault) => words_of_fault(alloc, fault),
     }
 }
