@@ -4,7 +4,7 @@
     python3 oracle/reference.py [--drivers] TABLE..            checks each case
     python3 oracle/reference.py [--drivers] --fill TABLE..     prints the tables with what is expected written into the cases
                                                               that say nothing of it
-    python3 oracle/reference.py --pairs TABLE..                checks tables of pairs of jobs (crates/same_cases/data)
+    python3 oracle/reference.py --pairs TABLE..                checks tables of pairs of jobs (pairs.txt of crates/shrink_cases/data)
 
 With --drivers jobs are read by the drivers' profile, else by the stated one. Of a pair it is checked whether both ask for the same.
 

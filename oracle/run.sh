@@ -16,7 +16,7 @@ for table in crates/job_cases/data/*.txt; do
         *) python3 oracle/reference.py "$table" ;;
     esac
 done
-python3 oracle/reference.py --pairs crates/same_cases/data/pairs.txt
+python3 oracle/reference.py --pairs crates/shrink_cases/data/pairs.txt
 python3 oracle/fuzz.py "$PCLMIN" build/oracle/plain 1800 1 --workers 2 --folder build/oracle
 python3 oracle/fuzz.py "$PCLMIN" build/oracle/plain 200 2 --model --workers 2 --folder build/oracle
 python3 oracle/fuzz.py "$PCLMIN" build/oracle/plain 200 3 --triples --workers 2 --folder build/oracle

@@ -1,7 +1,9 @@
-//! Whole jobs that are shrunk: tables of cases in text files. Comments there say how the bytes that are expected were worked out.
+//! Whole jobs, two of which compare, or one of which is shrunk: tables of cases in text files. Comments there say how the bytes that are
+//! expected were worked out.
 //!
 //! | Table | A case | How to write one |
 //! |---|---|---|
+//! | `pairs.txt` | two jobs, and how they compare | `pairs` |
 //! | `doubts.txt` | a job, and whether it goes as it came since printers may read it otherwise | `doubts` |
 //! | `jobs.txt` | a job, and what it is shrunk to for printers | `jobs` |
 //! | `glyphs.txt` | pages of letters and rules, and what they are shrunk to for those that read as the language says | `jobs`, `pages` |
@@ -11,15 +13,18 @@
 //! `data/`, and beside `src/` it is `rt run -- data`.
 #![tactic(auto)]
 
+mod answers;
 mod doubts;
 mod jobs;
 mod letters;
 mod pages;
+mod pairs;
 mod shrinking;
 
 use case_tables::{CasesOfLines, RunFault, check_lines};
 use doubts::DoubtCases;
 use jobs::ShrunkCases;
+use pairs::PairCases;
 use pcl_shrink::Readers;
 use std::rt::Files;
 
@@ -30,6 +35,11 @@ struct Table {
     /// What is printed behind the number of its cases that hold.
     words: &'static str,
 }
+
+const PAIRS: Table = Table {
+    name: "pairs.txt",
+    words: "pairs compare so",
+};
 
 const DOUBTS: Table = Table {
     name: "doubts.txt",
@@ -78,6 +88,7 @@ fn main(rt: HostRuntime) -> Result<(), RunFault> {
         count: 0,
         failed: 0,
     };
+    tally.check(&rt, folder, PAIRS, PairCases::new(alloc))?;
     tally.check(&rt, folder, DOUBTS, DoubtCases::new(alloc))?;
     let for_printers = ShrunkCases::new(alloc, Readers::Printers);
     tally.check(&rt, folder, JOBS, for_printers)?;

@@ -1,8 +1,8 @@
 //! How two jobs compare, as the table has it.
 
 use pcl_same::{
-    AskedComparison, AskedDifference, AsksDifference, Difference, ExitDifference, Which,
-    PagesDifference, SameFault,
+    AskedComparison, AskedDifference, AsksDifference, Difference, ExitDifference, PagesDifference,
+    SameFault, Which,
 };
 use std::alloc::{AllocError, Global};
 
