@@ -1,6 +1,6 @@
 #!/usr/bin/env python3
 """Serves the page of this folder to this machine, and answers what it asks of a job by the calls of build/libpclmin.so (make web), and
-where the job's bytes go by bench/colours.py.
+where the job's bytes go by tools/colours.py.
 
     web/server.py [--port PORT]        PORT is 8631 where none is given, and any free one by 0
 
@@ -28,14 +28,14 @@ import threading
 import time
 
 HERE = os.path.dirname(os.path.abspath(__file__))
-sys.path[:0] = [os.path.join(HERE, "..", "lib"), os.path.join(HERE, "..", "bench")]
+sys.path[:0] = [os.path.join(HERE, "..", "lib"), os.path.join(HERE, "..", "tools")]
 sys.dont_write_bytecode = True
 
 # The most bytes of a job or of an answer, and of all that are held at once; and how many connections are served at once.
 LIMIT, HELD, CONNECTIONS = 64 << 20, 256 << 20, 32
 # How many bytes are kept, as how many jobs and answers, and for how long after their last use.
 KEPT, KEPT_NUMBER, KEPT_SECONDS = 256 << 20, 1 << 12, 600
-# What a call has, and how many run at once; and what one has that bench/colours.py answers, which is slower.
+# What a call has, and how many run at once; and what one has that tools/colours.py answers, which is slower.
 SECONDS, MEMORY, CALLS = 60, 4 << 30, 4
 COLOURS_SECONDS = 30
 # The calls, and how many numbers each takes after the resolution.
@@ -77,7 +77,7 @@ def answer_of(function, call, numbers, job):
 
 
 def coloured(call, numbers, job):
-    """What bench/colours.py answers, in the same form: of a page a line that lists the ways in which its dots were sent, and an image of
+    """What tools/colours.py answers, in the same form: of a page a line that lists the ways in which its dots were sent, and an image of
     the dots of each; of the job a line that lists what its bytes are for."""
     import colours
 

@@ -51,7 +51,7 @@ PAGES = 87
 MANY = b"\x1bE" + b"".join(b"\x1b*p300x%dY\x1b*c900a30b0P\x0c" % (90 * page) for page in range(PAGES)) + b"\x1bE"
 # 20 megabytes, as a driver sends as many pages of text.
 LARGE = b"\x1bE" + b"".join(b"\x1b*t300R\x1b*r1A" + b"\x1b*b100W%097d   " % page * 2300 + b"\x1b*rC\f" for page in range(PAGES)) + b"\x1bE"
-# The first takes hours, and the second more than a second, but by bench/colours.py alone.
+# The first takes hours, and the second more than a second, but by tools/colours.py alone.
 SLOW = b"\x1bE\x1b*c2400a3300b" + b"0p1p" * 200_000 + b"0P\x1bE"
 SLOW_IN_COLOURS = b"\x1bE\x1b*c2400a3300b" + b"0p1p" * 500 + b"0P\x1bE"
 SIDES = {0: "one side", 1: "both sides, long edge", 2: "both sides, short edge"}

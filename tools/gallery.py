@@ -1,7 +1,7 @@
 #!/usr/bin/env python3
-"""Makes docs/GALLERY.md and its pictures anew: ten jobs of clients.py, with their first page and their bytes.
+"""Makes docs/GALLERY.md and its pictures anew: ten jobs of bench/clients.py, with their first page and their bytes.
 
-    bench/gallery.py PROGRAM
+    tools/gallery.py PROGRAM
 
 PROGRAM is a built pclmin. A picture is page 1 by `pclmin pbm`, made smaller to greys. Needs what clients.py needs.
 """
@@ -12,6 +12,7 @@ import sys
 import tempfile
 
 sys.dont_write_bytecode = True
+sys.path.insert(0, os.path.join(os.path.dirname(os.path.realpath(__file__)), "..", "bench"))
 import clients
 
 NAMES = ["ghostscript ljet2p 300 text", "Gutenprint 300 pages", "CUPS rastertohp 300 0 form", "ghostscript laserjet 150 form",
@@ -25,7 +26,7 @@ HEAD = """# Ten jobs of real clients
 A title names the driver, its options, and the document; the picture is page 1 by `pclmin pbm`, made smaller. Bytes are those of all
 pages. What `min` and `shrink` write prints the same pages as the job that was sent, by `pclmin same`.
 
-`bench/gallery.py PROGRAM` makes this page anew.
+`tools/gallery.py PROGRAM` makes this page anew.
 """
 
 

@@ -1,11 +1,11 @@
 #!/usr/bin/env python3
 """Prints which functions of a crate took longest to prove: those whose proof was kept last after the one before it.
 
-    bench/proof_times.py CRATE.. [--most N]
+    tools/proof_times.py CRATE.. [--most N]
 
 It looks at what a first check with one job (`rt lib --jobs 1`) kept in out/incremental, file by file in the order in which they were
 written. With several jobs, or after a second check, the times say little. A function that owns many values and leaves early in many
-places comes first as a rule: see "What the gate costs" in CONTRIBUTING.md.
+places comes first as a rule: see "Proving" in CONTRIBUTING.md.
 """
 
 import argparse

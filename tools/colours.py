@@ -1,7 +1,7 @@
 #!/usr/bin/env python3
 """Draws a page of a job in colours that tell how its dots are sent, and tells what the job's bytes are for.
 
-    bench/colours.py JOB PICTURE [--page N] [--dpi 300|600] [--scale N]
+    tools/colours.py JOB PICTURE [--page N] [--dpi 300|600] [--scale N]
 
 PICTURE is a PNG by netpbm's pnmtopng, made smaller by N (4): letters of fonts are blue, those of macros green, rectangles red, and
 rasters black. The job is mostly what `pclmin shrink` wrote; it is read by oracle/reference.py, by the drivers' profile. Needs Python 3
