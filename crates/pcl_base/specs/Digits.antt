@@ -6,6 +6,7 @@ use Rattle.std.specs.List.{AllByRecursion}
 abbrev pub is_digit : ℕ → Bool
 is_digit byte = nat_le 48 byte && nat_le byte 57
 
+-- all of these bytes are decimal digits
 abbrev pub AreDigits : List ℕ → Type 0
 AreDigits digits = AllByRecursion (λ digit. IsTrue (is_digit digit)) digits
 

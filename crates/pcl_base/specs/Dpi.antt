@@ -3,6 +3,7 @@ use Rattle.std.specs.Prelude.{ℕ}
 use Rattle.pcl_base.specs.declared.dpi.Dpi.{Dpi}
 use Rattle.pcl_base.specs.declared.dpi.Dpi.TheVariants.{Dpi300, Dpi600}
 
+-- how many dots an inch has
 abbrev pub dots_per_inch : Dpi → ℕ
 dots_per_inch Dpi300 = 300
 dots_per_inch Dpi600 = 600

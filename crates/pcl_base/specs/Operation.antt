@@ -116,6 +116,7 @@ operations =
     (named (codes "(sB"), NoEffect) ∷ (named (codes ")sB"), NoEffect) ∷
     (named (codes "(sT"), NoEffect) ∷ (named (codes ")sT"), NoEffect) ∷ []
 
+-- both names have the same bytes
 abbrev pub is_name : Name → Name → Bool
 is_name Empty Empty = true
 is_name (One a) (One b) = a == b
@@ -133,6 +134,7 @@ abbrev pub operation_in : List (Name × Operation) → Name → Option Operation
 operation_in [] name = operation_by_rule name
 operation_in (row ∷ rows) name = if is_name name row.0 then Some row.1 else operation_in rows name
 
+-- what a command of this name does, where the name is known
 unfoldable pub operation_of : Name → Option Operation
 operation_of name = operation_in operations name
 

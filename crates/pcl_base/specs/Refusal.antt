@@ -6,6 +6,7 @@ use Rattle.pcl_base.specs.declared.refusal.Refusal.{Refusal}
 use Rattle.pcl_base.specs.Kind.{kind_name}
 use Rattle.pcl_base.specs.Name.{name_text}
 
+-- why and where a job is refused: the kind, the place in bytes, and the name of the command
 abbrev pub refusal : Kind → ℕ → Name → Refusal
 refusal kind at name = record { kind = kind; at = at; name = name }
 

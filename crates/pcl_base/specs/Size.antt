@@ -34,9 +34,11 @@ height_at_300 Letter = 3300
 height_at_300 Legal = 4200
 height_at_300 A4 = 3507
 
+-- dots across the page at this resolution
 abbrev pub page_width : Size → Dpi → ℕ
 page_width size dpi = width_at_300 size * fineness dpi
 
+-- dots down the page at this resolution
 abbrev pub page_height : Size → Dpi → ℕ
 page_height size dpi = height_at_300 size * fineness dpi
 
@@ -48,5 +50,6 @@ page_row_bytes size dpi = (page_width size dpi + 7) / 8
 abbrev pub units_wide : Size → ℕ
 units_wide size = 24 * width_at_300 size
 
+-- the height in units of 1/7200 inch, at either resolution
 abbrev pub units_high : Size → ℕ
 units_high size = 24 * height_at_300 size

@@ -4,6 +4,7 @@ use Rattle.pcl_base.specs.declared.value.Sign.{Sign}
 use Rattle.pcl_base.specs.declared.value.Sign.TheVariants.{Absent, Plus, Minus}
 use Rattle.pcl_base.specs.declared.value.Value.{Value}
 
+-- a magnitude as a whole number with its sign: no sign means plus
 abbrev pub with_sign : Sign → ℕ → ℤ
 with_sign Absent n = pos n
 with_sign Plus n = pos n
@@ -26,6 +27,7 @@ is_absent Absent = true
 is_absent Plus = false
 is_absent Minus = false
 
+-- a minus sign stands before the number
 abbrev pub is_minus : Sign → Bool
 is_minus Absent = false
 is_minus Plus = false

@@ -4,6 +4,7 @@ use Rattle.pcl_bitmap.specs.declared.ink.Ink.{Ink}
 use Rattle.pcl_bitmap.specs.declared.ink.Ink.TheVariants.{Black, White}
 use Rattle.pcl_bitmap.specs.Bitmap.{dot_of_row}
 
+-- whether dots of this ink are black
 abbrev pub is_black_ink : Ink → Bool
 is_black_ink Black = true
 is_black_ink White = false

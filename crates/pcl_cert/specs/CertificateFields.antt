@@ -9,6 +9,7 @@ use Rattle.pcl_cert.specs.declared.format.Format.TheVariants.{One, Two}
 
 -- ---- bytes: the higher bytes of a number come first
 
+-- the first eight bytes of a certificate, which tell its format
 abbrev pub magic : Format → List ℕ
 magic One = codes "PCLCERT1"
 magic Two = codes "PCLCERT2"

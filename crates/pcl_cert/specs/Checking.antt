@@ -69,10 +69,12 @@ abbrev pub AreGoodIn : Page → List (List ℕ) → Type 0
 AreGoodIn page lists = (row : ℕ) (method : Method) (place : ℕ) → row < page_height page.size page.dpi
     → place ≤ page_row_bytes page.size page.dpi → IsGoodInTables page lists row method place
 
+-- the numbers of all places of the page's rows are good, where there are row tables
 abbrev pub ArePlacesGood : Page → Tables → Type 0
 ArePlacesGood page None = Unit {0}
 ArePlacesGood page (Some lists) = AreGoodIn page lists
 
+-- the first place whose number isn't good, where there are row tables; without them there is none
 abbrev pub IsFirstBadPlaceOf : Page → Tables → BadPlace → Type 0
 IsFirstBadPlaceOf page None bad = ⊥
 IsFirstBadPlaceOf page (Some lists) bad = IsFirstBadIn page lists bad
@@ -88,6 +90,7 @@ Counted page (Some lists) row method bytes = bytes ≡ number_at_place lists row
 abbrev pub IsGoodOf : Page → List RowNumbers → Tables → ℕ → Method → Bool → Type 0
 IsGoodOf page table tables = IsGoodNumber (bitmap_rows page.bitmap) (Counted page tables) (node_number table)
 
+-- the numbers of all nodes of the page are good
 abbrev pub AreEdgesGood : Page → List RowNumbers → Tables → Type 0
 AreEdgesGood page table tables = (row : ℕ) (method : Method) (inside : Bool) → row ≤ page_height page.size page.dpi
     → IsGoodOf page table tables row method inside

@@ -15,6 +15,7 @@ use Rattle.pcl_cert.specs.declared.page_proof.PageProof.{PageProof}
 use Rattle.pcl_cert.specs.CertificateFields.{magic, size_with_height, ends_in_zero}
 use Rattle.pcl_cert.specs.RowTables.{numbers_from}
 
+-- what is read next follows only where nothing was wrong
 infixl 10 ◌>>=◌
 abbrev pub ◌>>=◌ : {A B : Type 0} → Result A CertFault → (A → Result B CertFault) → Result B CertFault
 (Ok x) >>= f = f x
@@ -58,12 +59,14 @@ sized (Some size) = Ok size
 
 -- ---- tables
 
+-- the numbers of a method, each in four bytes: outside a sequence, and then inside one
 unfoldable pub pair_at : List ℕ → Result ((ℕ × ℕ) × List ℕ) CertFault
 pair_at bytes = do
   outside ← uint_at w32 bytes
   inside ← uint_at w32 outside.1
   Ok ((outside.0, inside.0), inside.1)
 
+-- the node numbers after the same rows: for methods 0 to 3 in turn, outside a sequence and inside
 unfoldable pub row_numbers_at : List ℕ → Result (RowNumbers × List ℕ) CertFault
 row_numbers_at bytes = do
   plain ← pair_at bytes
@@ -96,9 +99,11 @@ list_behind most count =
     else (if ends_in_zero (numbers_from count.0 count.1) then Err Places
     else Ok (numbers_from count.0 count.1, drop (2 * count.0) count.1)))
 
+-- a list of at most this many numbers: their count, in two bytes, and then the numbers
 unfoldable pub list_at : ℕ → List ℕ → Result (List ℕ × List ℕ) CertFault
 list_at most bytes = uint_at w16 bytes >>= list_behind most
 
+-- this many lists, one after the other, each of at most so many numbers
 unfoldable pub lists_at : ℕ → ℕ → List ℕ → Result (List (List ℕ) × List ℕ) CertFault
 lists_at zero most bytes = Ok ([], bytes)
 lists_at (suc n) most bytes = do
@@ -106,6 +111,7 @@ lists_at (suc n) most bytes = do
   others ← lists_at n most first.1
   Ok (first.0 ∷ others.0, others.1)
 
+-- the row tables of a page: four lists for each row in the second format, none in the first
 unfoldable pub places_at : Format → ℕ → ℕ → List ℕ → Result (Option (List (List ℕ)) × List ℕ) CertFault
 places_at One rows most bytes = Ok (None, bytes)
 places_at Two rows most bytes = do
@@ -114,6 +120,7 @@ places_at Two rows most bytes = do
 
 -- ---- pages
 
+-- a page: its text's length in bytes, its count of rows, its node numbers, and its row tables
 unfoldable pub proof_at : Dpi → Format → List ℕ → Result (PageProof × List ℕ) CertFault
 proof_at dpi format bytes = do
   text_len ← uint_at w32 bytes
@@ -123,6 +130,7 @@ proof_at dpi format bytes = do
   places ← places_at format rows.0 (page_row_bytes size dpi) table.1
   Ok (record { text_len = text_len.0; table = table.0; places = places.0 }, places.1)
 
+-- this many pages, one after the other
 unfoldable pub proofs_at : ℕ → Dpi → Format → List ℕ → Result (List PageProof × List ℕ) CertFault
 proofs_at zero dpi format bytes = Ok ([], bytes)
 proofs_at (suc n) dpi format bytes = do

@@ -36,12 +36,14 @@ abbrev pub IsGoodRow : List (List ℕ) → (ℕ → Method → ℕ → Type 0) �
 IsGoodRow rows Counts number method row = (bytes : ℕ) → row < length rows → Counts row method bytes
     → number_at number row method true ≤ row_cost bytes + number_at number (row + 1) method false
 
+-- inside a sequence: setting a method, skipping white rows or sending the row never undercuts the number
 pub record IsGoodInside (rows : List (List ℕ)) (Counts : ℕ → Method → ℕ → Type 0) (number : Node → ℕ) (method : Method) (row : ℕ)
     : Type 0 where
   pub switches : AreGoodSwitches number method row
   pub skips : AreGoodSkips rows number method row
   pub sends : IsGoodRow rows Counts number method row
 
+-- the number after this many rows, in a method, inside a sequence or outside, is good
 abbrev pub IsGoodNumber : List (List ℕ) → (ℕ → Method → ℕ → Type 0) → (Node → ℕ) → ℕ → Method → Bool → Type 0
 IsGoodNumber rows Counts number row method false = IsGoodOutside rows number method row
 IsGoodNumber rows Counts number row method true = IsGoodInside rows Counts number method row
@@ -68,6 +70,7 @@ BoundData width rows lengths = (row : ℕ) (method : Method) (whole : List ℕ) 
 
 -- ---- the first bad number
 
+-- 0 for a node outside a sequence, which comes first, and 1 for one inside
 abbrev pub inside_code : Bool → ℕ
 inside_code false = 0
 inside_code true = 1

@@ -34,6 +34,7 @@ use Rattle.pcl_env.specs.Settings.{inch, margin, Position, Settings, put_x, put_
 abbrev pub Outcome : Type 0
 Outcome = Option (Settings × Effect)
 
+-- these settings, and the page isn't ejected
 abbrev pub stays : Settings → Outcome
 stays s = Some (s, page.Stay)
 
@@ -45,6 +46,7 @@ stays_if test s = if test then stays s else None
 abbrev pub by_count : Value → (ℕ → Outcome) → Outcome
 by_count v f = if is_below_zero v then None else f (whole_of v)
 
+-- the number is one of these
 abbrev pub is_one_of : List ℕ → ℕ → Bool
 is_one_of numbers n = list_any (λ m. m == n) numbers
 
@@ -52,9 +54,11 @@ is_one_of numbers n = list_any (λ m. m == n) numbers
 abbrev pub from_zero : Value → Settings → Outcome
 from_zero v s = by_count v (λ n. stays s)
 
+-- these settings, where the whole part is from 0 to a bound
 abbrev pub up_to : ℕ → Value → Settings → Outcome
 up_to most v s = by_count v (λ n. stays_if (nat_le n most) s)
 
+-- these settings, where the whole part is one of these numbers
 abbrev pub one_of : List ℕ → Value → Settings → Outcome
 one_of numbers v s = by_count v (λ n. stays_if (is_one_of numbers n) s)
 
@@ -91,6 +95,7 @@ set_top top is_marked s =
     let set = record s { top = top; bottom = units_high s.size - margin } in
     if nat_lt (units_high s.size) top then s else (if is_marked then set else to_first_line set)
 
+-- the bottom is put this many units below the upper edge; one below the lower edge isn't taken
 abbrev pub set_bottom : ℕ → Settings → Settings
 set_bottom bottom s = if nat_lt (units_high s.size) bottom then s else record s { bottom = bottom }
 
@@ -121,6 +126,7 @@ moved Absent origin cursor amount = origin + amount
 moved Plus origin cursor amount = cursor + amount
 moved Minus origin cursor amount = cursor - amount
 
+-- the cursor goes along the line, or down the page, as a value in this unit says
 abbrev pub move_along : Axis → Measure → Value → Settings → Settings
 move_along Horizontal unit v s = put_x (moved v.sign (origin_of Horizontal unit s) s.cursor.x (scaled_by (unit_of Horizontal unit s) v)) s
 move_along Vertical unit v s = put_y (moved v.sign (origin_of Vertical unit s) s.cursor.y (scaled_by (unit_of Vertical unit s) v)) s
@@ -136,19 +142,23 @@ abbrev pub popped : List Position → Settings → Settings
 popped [] s = s
 popped (place ∷ older) s = put place (record s { stack = older })
 
+-- the cursor goes to the position that was pushed last, which leaves the stack, if there is one
 abbrev pub pop : Settings → Settings
 pop s = popped s.stack s
 
 -- ---- sizes and rasters
 
+-- a page size is set, and ejects a marked page; a number of no size isn't taken
 abbrev pub set_size : Option Size → Settings → Outcome
 set_size None s = None
 set_size (Some size) s = Some (with_size size s, page.EjectMarked)
 
+-- the width of the rectangle, or its height, becomes this many units
 abbrev pub set_rectangle : Axis → ℕ → Settings → Settings
 set_rectangle Horizontal length s = record s { rectangle_width = length }
 set_rectangle Vertical length s = record s { rectangle_height = length }
 
+-- the raster resolutions that are taken on pages of this resolution, in dots per inch
 abbrev pub resolutions : Dpi → List ℕ
 resolutions Dpi300 = 75 ∷ 100 ∷ 150 ∷ 300 ∷ []
 resolutions Dpi600 = 75 ∷ 100 ∷ 150 ∷ 200 ∷ 300 ∷ 600 ∷ []
@@ -157,6 +167,7 @@ resolutions Dpi600 = 75 ∷ 100 ∷ 150 ∷ 200 ∷ 300 ∷ 600 ∷ []
 abbrev pub none_if_zero : ℕ → Option ℕ
 none_if_zero n = if n == 0 then None else Some n
 
+-- the method of the rows that follow; a number of no method isn't taken
 abbrev pub set_method : Option Method → Settings → Outcome
 set_method None s = None
 set_method (Some method) s = stays (record s { method = method })
@@ -175,6 +186,7 @@ abbrev pub is_offset_taken : Profile → Value → Bool → Option ℤ → Bool
 is_offset_taken Stated v m said = whole_of v == 0
 is_offset_taken Drivers v m said = not m || int_eq (page_offset v) (lies_at said)
 
+-- the value is taken of what is asked: of an offset as the profile and the page allow, else any
 abbrev pub is_asking_taken : Asking → Value → Bool → Settings → Bool
 is_asking_taken LeftOffset v m s = is_offset_taken s.profile v m s.asked.left_offset
 is_asking_taken TopOffset v m s = is_offset_taken s.profile v m s.asked.top_offset
@@ -186,6 +198,7 @@ is_asking_taken other v m s = true
 abbrev pub line_spacings : List ℕ
 line_spacings = 1 ∷ 2 ∷ 3 ∷ 4 ∷ 6 ∷ 8 ∷ 12 ∷ 16 ∷ 24 ∷ 48 ∷ []
 
+-- the numbers of PCL units per inch that are taken
 abbrev pub units_of_measure : List ℕ
 units_of_measure =
     96 ∷ 100 ∷ 120 ∷ 144 ∷ 150 ∷ 160 ∷ 180 ∷ 200 ∷ 225 ∷ 240 ∷ 288 ∷ 300 ∷ 360

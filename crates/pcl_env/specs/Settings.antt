@@ -18,6 +18,7 @@ use Rattle.pcl_env.specs.Offset.{page_offset}
 
 -- ---- lengths
 
+-- how many units an inch has
 abbrev pub inch : ℕ
 inch = 7200
 
@@ -32,6 +33,7 @@ pub record Position : Type 0 where
   pub x : ℕ
   pub y : ℕ
 
+-- what the commands so far have set, and where the cursor stands
 pub record Settings : Type 0 where
   -- which commands a job may have: the same from its first to its last
   pub profile : Profile
@@ -76,9 +78,11 @@ pub record Settings : Type 0 where
 abbrev pub put_x : ℕ → Settings → Settings
 put_x x s = record s { cursor = record { x = min x (units_wide s.size); y = s.cursor.y } }
 
+-- the cursor goes to this many units below the upper edge, held within the page
 abbrev pub put_y : ℕ → Settings → Settings
 put_y y s = record s { cursor = record { x = s.cursor.x; y = min y (units_high s.size) } }
 
+-- the cursor goes to this place, held within the page
 abbrev pub put : Position → Settings → Settings
 put place s = put_y place.y (put_x place.x s)
 
@@ -86,6 +90,7 @@ put place s = put_y place.y (put_x place.x s)
 abbrev pub first_line : Settings → ℕ
 first_line s = s.top + 3 * s.vmi / 4
 
+-- the cursor goes to the first line, and its x stays
 abbrev pub to_first_line : Settings → Settings
 to_first_line s = put_y (first_line s) s
 
@@ -96,6 +101,7 @@ advance (negsuc n) s = put_x (s.cursor.x - suc n) s
 
 -- ---- what a job asks of the printer besides dots
 
+-- nothing is asked, as at the start of a job and after a reset
 abbrev pub nothing_asked : Asked
 nothing_asked = record {
   copies = None;
@@ -132,6 +138,7 @@ asked_with Shingling v vmi asked = record asked { shingling = Some (signed_whole
 asked_with Depletion v vmi asked = record asked { depletion = Some (signed_whole v) }
 asked_with RasterQuality v vmi asked = record asked { raster_quality = Some (signed_whole v) }
 
+-- this many copies of each page were said last
 abbrev pub copies_said : ℕ → Asked → Asked
 copies_said copies asked = record asked { copies = Some (pos copies) }
 
@@ -145,6 +152,7 @@ with_size_of called asked = record asked { page_size = called.page_size; page_le
 
 -- ---- what a reset leaves
 
+-- what is set at the start of a job and after a reset, at either resolution
 abbrev pub defaults : Profile → Settings
 defaults profile = record {
   profile = profile;
@@ -199,6 +207,7 @@ abbrev pub font_of : Side → Settings → Option ℕ
 font_of Primary s = s.primary
 font_of Secondary s = s.secondary
 
+-- the ID that is selected for the font in use, primary or secondary, if there is one
 abbrev pub font_in_use : Settings → Option ℕ
 font_in_use s = font_of s.in_use s
 

@@ -19,6 +19,7 @@ use Rattle.pcl_fonts.specs.declared.header.FontType.TheVariants.{SevenBit, Eight
 abbrev pub word : List ℕ → ℕ → ℕ
 word bytes place = big_number 2 (drop place bytes)
 
+-- the number in these two bytes with a sign, from -32768 to 32767
 abbrev pub signed_word : List ℕ → ℕ → ℤ
 signed_word bytes place = cast_signed w16 (word bytes place)
 

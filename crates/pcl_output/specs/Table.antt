@@ -23,6 +23,7 @@ number_in numbers method false = by_method numbers.outside method
 abbrev pub all_alike : ℕ → ByMethod
 all_alike number = record { plain = number; runs = number; packed = number; delta = number }
 
+-- numbers that are all 0, for rows that a table doesn't have
 abbrev pub no_numbers : RowNumbers
 no_numbers = record { outside = all_alike 0; inside = all_alike 0 }
 

@@ -25,6 +25,7 @@ abbrev pub letter : ℕ → Bool → List ℕ
 letter capital true = capital ∷ []
 letter capital false = (capital + 32) ∷ []
 
+-- the bytes of a token in a page text
 abbrev pub token_bytes : Token → List ℕ
 token_bytes opening = 27 ∷ codes "*b"
 token_bytes (method digits next ends) = digits ++ letter 77 ends
@@ -37,9 +38,11 @@ IsSpelled digits number = AreDigits digits × (number_of digits ≡ number)
 
 -- ---- the rows that tokens print
 
+-- a row without a black dot: all of its bytes are 0
 abbrev pub IsWhite : List ℕ → Type 0
 IsWhite row = AllByRecursion (λ byte. byte ≡ 0) row
 
+-- rows without a black dot
 abbrev pub AreWhite : List (List ℕ) → Type 0
 AreWhite rows = AllByRecursion IsWhite rows
 
@@ -64,12 +67,14 @@ PrintsRows true current seed (send digits bytes ∷ tokens) (first ∷ rows) =
 
 -- ---- what stands around the tokens of a page, and around the pages of a job
 
+-- the first bytes of a page text: they set copies, size, top margin, cursor and resolution, and start the raster
 abbrev pub start_bytes : Dpi → ℕ → Size → List ℕ
 start_bytes dpi copies size =
     27 ∷ codes "&l" ++ decimal copies ++ codes "x" ++ decimal (code_of size) ++ codes "a0E"
     ++ 27 ∷ codes "*p0x0Y" ++ 27 ∷ codes "*t" ++ decimal (dots_per_inch dpi) ++ codes "R"
     ++ 27 ∷ codes "*r" ++ decimal (page_width size dpi) ++ codes "s0A"
 
+-- the last bytes of a page text: the end of its raster and a form feed
 abbrev pub end_bytes : List ℕ
 end_bytes = 27 ∷ codes "*rC" ++ 12 ∷ []
 

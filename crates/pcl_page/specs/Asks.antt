@@ -26,9 +26,11 @@ pub record Asks : Type 0 where
 abbrev pub first_page : PageStart
 first_page = record { is_first = true; sheet_side = None }
 
+-- a page after another one, with no reset between them, begins no sheet, and no side is asked for yet
 abbrev pub next_page : PageStart
 next_page = record { is_first = false; sheet_side = None }
 
+-- before the first command of a job: nothing is asked, and the first page begins a sheet
 abbrev pub no_asks : Asks
 no_asks = record { pages = []; exits = []; next = first_page; separation = None; lasts = false; whole = [] }
 

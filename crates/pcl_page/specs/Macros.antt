@@ -52,6 +52,7 @@ keeping_of other value = Kept
 
 -- ---- macro controls
 
+-- one thing more became of the macros: a definition that has ended, or a control
 abbrev pub with_macro_event : MacroEvent → Situation → Situation
 with_macro_event event s = record s { macros = event ∷ s.macros }
 
@@ -89,6 +90,7 @@ macro_lasts other is_defined = not is_defined
 abbrev pub is_macro_defined : Situation → Bool
 is_macro_defined s = is_some (macro_now s)
 
+-- it is noted where a macro control changes what stays in the printer, or counts on it
 abbrev pub lasting_by : Option Action → Situation → Situation
 lasting_by None s = s
 lasting_by (Some action) s = with_lasting (macro_lasts action (is_macro_defined s)) s
@@ -127,6 +129,7 @@ pub record Run : Type 0 where
   pub end : ℕ
   pub saved : Option Settings
 
+-- a macro from its first command on, with the settings to put back at its end, where it was called
 abbrev pub run_with : Option Settings → MacroBody → Run
 run_with saved body = record { next = body.from; end = body.to; saved = saved }
 
@@ -136,6 +139,7 @@ run_by (Some Execute) s = option_map (run_with None) (macro_now s)
 run_by (Some Call) s = option_map (run_with (Some (kept s.settings))) (macro_now s)
 run_by other s = None
 
+-- the macro that a macro control runs, where it is there; other commands run none
 abbrev pub run_from : Option Operation → Value → Situation → Option Run
 run_from (Some ControlMacros) value s = run_by (action_of value) s
 run_from other value s = None

@@ -6,6 +6,7 @@ use Rattle.pcl_base.specs.Dpi.{units_per_dot}
 use Rattle.pcl_bitmap.specs.declared.ink.Ink.{Ink}
 use Rattle.pcl_bitmap.specs.Dots.{is_black_ink}
 
+-- a set of dots and their ink: what a raster row, a rectangle or a character covers
 pub record Mark : Type 0 where
   pub covers : ℕ → ℕ → Bool
   pub ink : Ink

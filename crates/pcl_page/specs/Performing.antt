@@ -33,6 +33,7 @@ pub record Performance : Type 0 where
   pub situation : Situation
   pub refusal : Option Refusal
 
+-- performing has led here, and nothing was refused
 abbrev pub done : Situation → Performance
 done s = record { situation = s; refusal = None }
 
@@ -45,6 +46,7 @@ abbrev pub unless : Option Refusal → Situation → (Situation → Performance)
 unless None s next = next s
 unless (Some why) s next = record { situation = s; refusal = Some why }
 
+-- one part of a job is performed, and then the next, unless the first is refused
 abbrev pub then_on : Performance → (Situation → Performance) → Performance
 then_on first next = unless first.refusal first.situation next
 
@@ -65,6 +67,7 @@ abbrev pub and_run : (Run → Situation → Performance) → Option Run → Situ
 and_run runs None s = done s
 and_run runs (Some run) s = runs run s
 
+-- the command at a place in the list of commands, and then the macro that it runs, if any
 abbrev pub step : Dpi → (Said → Run → Situation → Performance) → ℕ → Said → Situation → Performance
 step dpi runs place command s =
     then_on (led_to command s (after_command dpi place command s)) (λ later. and_run (runs command) (run_of command s later) later)
@@ -95,6 +98,7 @@ abbrev pub ended : Dpi → ℕ → Option Kind → Situation → Performance
 ended dpi end None s = done (at_end dpi s)
 ended dpi end (Some kind) s = record { situation = s; refusal = Some (refusal kind end Empty) }
 
+-- the end of an input of this many bytes: it acts as a reset, or is refused
 abbrev pub after_end : Dpi → ℕ → Situation → Performance
 after_end dpi end s = ended dpi end (end_refusal dpi s) s
 

@@ -34,6 +34,7 @@ scale_of dpi resolution = max 1 (dots_per_inch dpi / resolution)
 abbrev pub width_to_edge : Dpi → ℕ → Settings → ℕ
 width_to_edge dpi left s = let scale = scale_of dpi s.resolution in (page_width s.size dpi - left + (scale - 1)) / scale
 
+-- the width of a raster in raster dots: the one set, or else up to the right edge
 abbrev pub width_from : Dpi → ℕ → Settings → ℕ
 width_from dpi left s = unwrap_or s.raster_width (width_to_edge dpi left s)
 
@@ -68,6 +69,7 @@ skipped count r = record r { rows = counted_to r.height (r.rows + count); seed =
 abbrev pub first_bits : ℕ → ℕ → ℕ
 first_bits count byte = byte / 2 ^ (8 - count) * 2 ^ (8 - count)
 
+-- the first bits of a row, as many as this width; the others are cleared
 abbrev pub cleared_past : ℕ → List ℕ → List ℕ
 cleared_past width [] = []
 cleared_past width (byte ∷ row) = first_bits width byte ∷ cleared_past (width - 8) row

@@ -69,6 +69,7 @@ at_begin profile = record {
   performed = 0;
 }
 
+-- whether something was performed that marks the page
 abbrev pub is_marked : Situation → Bool
 is_marked s = are_marked s.marks
 
@@ -78,18 +79,22 @@ is_marked s = are_marked s.marks
 abbrev pub below : Dpi → Raster → Position
 below dpi r = record { x = r.left * units_per_dot dpi; y = (r.top + r.rows * r.scale) * units_per_dot dpi }
 
+-- the cursor goes below the raster, where one has begun
 abbrev pub settings_below : Dpi → Option Raster → Settings → Settings
 settings_below dpi None s = s
 settings_below dpi (Some r) s = put (below dpi r) s
 
+-- the raster ends, where one has begun, and the cursor goes below it
 abbrev pub end_raster : Dpi → Situation → Situation
 end_raster dpi s = record s { settings = settings_below dpi s.raster s.settings; raster = None }
 
 -- ---- the page
 
+-- the page as it would be ejected now: its size, its copies and its marks
 abbrev pub sheet_of : Situation → Sheet
 sheet_of s = record { size = s.settings.size; copies = s.settings.copies; marks = s.marks }
 
+-- whether a command ejects the page: some never, some always, some where it is marked
 abbrev pub ejects : Effect → Bool → Bool
 ejects Stay marked = false
 ejects Eject marked = true
@@ -115,12 +120,14 @@ abbrev pub ink_of : Value → Option Ink
 ink_of value =
     option_and_then (λ n. if n == 0 || n == 5 then Some Black else (if n == 1 then Some White else None)) (count_of value)
 
+-- the rectangle that is set, with its upper left dot at the cursor's, in this ink
 abbrev pub rectangle_mark : Dpi → Ink → Settings → Mark
 rectangle_mark dpi ink s = record {
   covers = rectangle_dot (dot_at dpi s.cursor.x) (dot_at dpi s.cursor.y) (dots_of dpi s.rectangle_width) (dots_of dpi s.rectangle_height);
   ink = ink;
 }
 
+-- the rectangle at the cursor is filled with this ink, and marks the page
 abbrev pub filled_with : Dpi → Option Ink → Situation → Situation
 filled_with dpi None s = s
 filled_with dpi (Some ink) s = record s { marks = rectangle_mark dpi ink s.settings ∷ s.marks }
@@ -135,6 +142,7 @@ abbrev pub skipped_in : ℕ → Option Raster → Option Raster
 skipped_in count None = None
 skipped_in count (Some r) = Some (skipped count r)
 
+-- a row is sent to this raster: it marks the page, and becomes the seed row
 abbrev pub with_row_in : Dpi → Said → Raster → Situation → Situation
 with_row_in dpi command r s =
     let row = row_sent s.settings.method command.bytes r in
@@ -142,6 +150,7 @@ with_row_in dpi command r s =
 
 -- ---- fonts and text
 
+-- one thing more became of the soft fonts: a header, a character or a control
 abbrev pub with_event : FontEvent → Situation → Situation
 with_event event s = record s { fonts = event ∷ s.fonts }
 
@@ -150,6 +159,7 @@ abbrev pub with_font : List ℕ → Situation → Situation
 with_font [] s = s
 with_font (byte ∷ bytes) s = with_event (header s.settings.font_id (byte ∷ bytes)) s
 
+-- a character for the ID and the code that were set last; without data there is none
 abbrev pub with_character : List ℕ → Situation → Situation
 with_character [] s = s
 with_character (byte ∷ bytes) s = with_event (character s.settings.font_id s.settings.character_code (byte ∷ bytes)) s
@@ -160,6 +170,7 @@ font_lasts All is_sent = true
 font_lasts Temporary is_sent = false
 font_lasts other is_sent = not is_sent
 
+-- where the test holds, the job does what `lasts` says, and asks for all of its bytes
 abbrev pub with_lasting : Bool → Situation → Situation
 with_lasting test s = record s { asks = lasting_if test s.asks }
 
@@ -167,6 +178,7 @@ with_lasting test s = record s { asks = lasting_if test s.asks }
 abbrev pub is_font_sent : Situation → Bool
 is_font_sent s = is_some (font_after s.fonts s.settings.font_id)
 
+-- a font control, for the font and the character whose ID and code were set last
 abbrev pub fonts_controlled : Option FontControl → Situation → Situation
 fonts_controlled None s = s
 fonts_controlled (Some what) s =
@@ -206,6 +218,7 @@ abbrev pub text_in : Dpi → List ℕ → Option FontInfo → Situation → Situ
 text_in dpi codes None s = blanks_passed codes s
 text_in dpi codes (Some font) s = codes_printed dpi font (prints s.fonts (font_in_use s.settings)) codes s
 
+-- the codes of a text one after the other, in the font that is selected and in use
 abbrev pub text_printed : Dpi → List ℕ → Situation → Situation
 text_printed dpi codes s = text_in dpi codes (info_of (font_now s)) s
 
@@ -274,6 +287,7 @@ abbrev pub ◌|>◌ : Result Situation Kind → (Situation → Result Situation 
 Ok s |> next = next s
 Err kind |> next = Err kind
 
+-- one command more was performed
 abbrev pub counted : Situation → Situation
 counted s = record s { performed = s.performed + 1 }
 
@@ -281,6 +295,7 @@ counted s = record s { performed = s.performed + 1 }
 abbrev pub counted_in_limit : Situation → Result Situation Kind
 counted_in_limit s = if nat_le command_limit s.performed then Err TooManyCommands else Ok (counted s)
 
+-- whether the command is ignored, as some are in a raster
 abbrev pub is_ignored : Operation → Situation → Bool
 is_ignored operation s = is_some s.raster && is_ignored_in_raster operation
 
@@ -293,6 +308,7 @@ abbrev pub turned_by : Outcome → Situation → Result Situation Kind
 turned_by None s = Err UnsupportedValue
 turned_by (Some done) s = Ok (turned done.0 done.1 s)
 
+-- what a command sets, and whether it ejects the page, before it draws; or its value isn't taken
 abbrev pub taken : Dpi → Operation → Value → Situation → Result Situation Kind
 taken dpi operation value s = turned_by (outcome dpi operation value (is_marked s) s.settings) s
 
@@ -306,6 +322,7 @@ after dpi operation command s =
     if is_ignored operation s then Ok s
     else (taken dpi operation command.value (prepared dpi operation s) |> drawn_on dpi operation command)
 
+-- a command that counts, by what its name means; an unknown name is refused
 abbrev pub after_named : Dpi → Option Operation → Said → Situation → Result Situation Kind
 after_named dpi None command s = Err UnsupportedCommand
 after_named dpi (Some operation) command s = after dpi operation command s
@@ -314,6 +331,7 @@ after_named dpi (Some operation) command s = after dpi operation command s
 abbrev pub page_refusal : Situation → Option Kind
 page_refusal s = if nat_le (length s.pages) page_limit then None else Some TooManyPages
 
+-- a command is refused where more pages were ejected than there may be
 abbrev pub within_page_limit : Situation → Result Situation Kind
 within_page_limit s = unless_refused (page_refusal s) s
 

@@ -27,6 +27,7 @@ element_bytes e = head_bytes e.head ++ e.bytes
 abbrev pub given_by : Head → List ℕ → List ℕ
 given_by head new = flat_map (λ byte. replicate (copies_of head) byte) new
 
+-- the bytes of the row that an element gives
 abbrev pub given : Element → List ℕ
 given e = given_by e.head e.bytes
 
@@ -39,5 +40,6 @@ abbrev pub reach : List Element → ℕ
 reach [] = 0
 reach (e ∷ es) = stop e + reach es
 
+-- whole elements of a method
 abbrev pub AreElements : Method → List Element → Type 0
 AreElements method es = AllByRecursion (IsElement method) es
