@@ -103,7 +103,7 @@ list_behind most count =
 unfoldable pub list_at : ℕ → List ℕ → Result (List ℕ × List ℕ) CertFault
 list_at most bytes = uint_at w16 bytes >>= list_behind most
 
--- this many lists, one after the other, each of at most so many numbers
+-- this many lists, one after the other, each of at most this many numbers
 unfoldable pub lists_at : ℕ → ℕ → List ℕ → Result (List (List ℕ) × List ℕ) CertFault
 lists_at zero most bytes = Ok ([], bytes)
 lists_at (suc n) most bytes = do

@@ -17,7 +17,7 @@
 //!
 //! Where a job is refused its answer is as `refused at 4`.
 
-use crate::pages::Pages;
+use crate::pages::LetterPages;
 use crate::shrinking::{resolutions, shrunk_at, words_of_fault};
 use case_tables::{CasesOfLines, TableFault, bytes_of, resolution};
 use pcl_base::{Dpi, JobFault};
@@ -33,7 +33,7 @@ struct Case {
     raster: Option<Dpi>,
     /// None where the job is of pages.
     job: Option<Vec<u8>>,
-    pages: Pages,
+    pages: LetterPages,
     is_again: bool,
 }
 
@@ -62,7 +62,7 @@ impl Case {
             dpi: Some(Dpi::Dpi300),
             raster: None,
             job: None,
-            pages: Pages::new(alloc),
+            pages: LetterPages::new(alloc),
             is_again: false,
         }
     }

@@ -34,7 +34,7 @@ use std::alloc::{AllocError, Global};
 
 /// Pages of letters and of rectangles.
 #[derive(Clone, Drop)]
-pub struct Pages {
+pub struct LetterPages {
     start: Vec<u8>,
     pages: u32,
     lines: u32,
@@ -51,10 +51,10 @@ pub struct Pages {
     rectangles: Vec<Rectangle>,
 }
 
-impl Pages {
+impl LetterPages {
     /// A line of letters in the middle of a page.
-    pub fn new(alloc: Global) -> Pages {
-        Pages {
+    pub fn new(alloc: Global) -> LetterPages {
+        LetterPages {
             start: Vec::new(alloc),
             pages: 1,
             lines: 1,
