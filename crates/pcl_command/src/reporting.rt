@@ -1,5 +1,11 @@
 //! What is said of a run besides what it writes.
 
+ghost use Rattle.std.specs.Prelude.{◌≡◌, ◌++◌, IfOk, OnOk};
+ghost use Rattle.pcl_command.specs.Reporting.{IsCountUnlessRefused, says_no_page, candidate_text, doubt_text, pages_word, labelled_number};
+ghost use Rattle.pcl_command.specs.Reporting.{counts_text, reason_text, shrunk_text};
+ghost use Rattle.pcl_command.specs.Reporting.{count_members, quoted_text, written_member, doubt_member, shrunk_object_text};
+ghost use Rattle.pcl_command.specs.Reporting.{shrunk_report_in};
+
 use itoa::Buffer;
 use pcl_base::{Dpi, JobFault, Profile};
 use pcl_files::Reporter;
@@ -34,48 +40,13 @@ pub fn report_shrunk<P: Reporter>(
     asked_for: Option<Layout>,
     reporter: P,
 ) -> Result<(), AllocError> {
-    if shrunk.pages == 0 && asked_for != Some(Layout::Json) {
+    if says_no_page(shrunk.pages, asked_for) {
         reporter.report(NO_PAGE);
     }
-    match asked_for {
-        Some(Layout::Text) => reporter.report(&shrunk_line(alloc, len, shrunk)?),
-        Some(Layout::Json) => reporter.report(&shrunk_object(alloc, len, shrunk)?),
-        None => {}
+    if let Some(layout) = asked_for {
+        reporter.report(&shrunk_report(alloc, layout, len, shrunk)?);
     }
     Ok(())
-}
-
-/// What is said of a job of this many bytes that was shrunk.
-fn shrunk_line(alloc: Global, len: usize, shrunk: &Shrunk) -> Result<Vec<u8>, AllocError> {
-    let mut line = Vec::from_slice(alloc, b"pclmin: ")?;
-    append_number(len, b" bytes in, ", &mut line)?;
-    append_number(shrunk.job.len(), b" out, ", &mut line)?;
-    append_number(shrunk.pages, after_pages(shrunk.pages), &mut line)?;
-    line.extend_from_slice(candidate_name(shrunk.by))?;
-    if let Some(doubt) = shrunk.doubt {
-        line.extend_from_slice(b", since printers read otherwise ")?;
-        line.extend_from_slice(doubt_name(doubt))?;
-    }
-    line.extend_from_slice(b"\n")?;
-    Ok(line)
-}
-
-/// The same as an object of JSON.
-fn shrunk_object(alloc: Global, len: usize, shrunk: &Shrunk) -> Result<Vec<u8>, AllocError> {
-    let mut line = Vec::from_slice(alloc, b"{\"bytes_in\":")?;
-    append_number(len, b",\"bytes_out\":", &mut line)?;
-    append_number(shrunk.job.len(), b",\"pages\":", &mut line)?;
-    append_number(shrunk.pages, b",\"written\":\"", &mut line)?;
-    line.extend_from_slice(candidate_name(shrunk.by))?;
-    match shrunk.doubt {
-        None => line.extend_from_slice(b"\",\"doubt\":null}\n")?,
-        Some(doubt) => {
-            line.extend_from_slice(b"\",\"doubt\":\"")?;
-            line.extend_from_slice(doubt_name(doubt))?;
-            line.extend_from_slice(b"\"}\n")?;
-        }
-    }
-    Ok(line)
 }
 
 /// How many pages a job has; none where it is refused.
@@ -84,7 +55,9 @@ fn count_pages(
     job: &[u8],
     profile: Profile,
     dpi: Dpi,
-) -> Result<Option<usize>, AllocError> {
+) -> Result<Option<usize>, AllocError>
+    ensures { IfOk result (λ counted. IsCountUnlessRefused profile dpi job.now counted) }
+{
     match page_count(alloc, job, profile, dpi) {
         Ok(pages) => Ok(Some(pages)),
         Err(JobFault::Refused(_)) => Ok(None),
@@ -92,8 +65,123 @@ fn count_pages(
     }
 }
 
+/// Whether a line says that a shrunk job has no page: an object of JSON says how many there are.
+fn says_no_page(pages: usize, asked_for: Option<Layout>) -> bool
+    ensures { result ≡ says_no_page pages asked_for }
+{
+    match asked_for {
+        Some(Layout::Json) => false,
+        _ => pages == 0,
+    }
+}
+
+/// What is reported of a job of this many bytes that was shrunk, in a layout.
+fn shrunk_report(
+    alloc: Global,
+    layout: Layout,
+    len: usize,
+    shrunk: &Shrunk,
+) -> Result<Vec<u8>, AllocError>
+    ensures { IfOk result (λ line. line.items ≡ shrunk_report_in layout len shrunk.now) }
+{
+    let mut line = Vec::new(alloc);
+    match layout {
+        Layout::Text => append_shrunk_line(len, shrunk, &mut line)?,
+        Layout::Json => append_shrunk_object(len, shrunk, &mut line)?,
+    }
+    Ok(line)
+}
+
+/// Appends what is said of a job of this many bytes that was shrunk.
+fn append_shrunk_line(len: usize, shrunk: &Shrunk, line: &mut Vec<u8>) -> Result<(), AllocError>
+    ensures { OnOk result (line.new.items ≡ line.old.items ++ shrunk_text len shrunk.now) }
+{
+    append_counts(len, shrunk, line)?;
+    line.extend_from_slice(candidate_name(shrunk.by))?;
+    append_reason(shrunk.doubt, line)?;
+    line.extend_from_slice(b"\n")
+}
+
+/// Appends the bytes of the job that came in and of the one that goes out, and its pages.
+fn append_counts(len: usize, shrunk: &Shrunk, line: &mut Vec<u8>) -> Result<(), AllocError>
+    ensures { OnOk result (line.new.items ≡ line.old.items ++ counts_text len shrunk.now) }
+{
+    append_number(b"pclmin: ", len, line)?;
+    append_number(b" bytes in, ", shrunk.job.len(), line)?;
+    append_number(b" out, ", shrunk.pages, line)?;
+    line.extend_from_slice(after_pages(shrunk.pages))
+}
+
+/// Appends why a job is as it came, where printers may read something otherwise.
+fn append_reason(doubt: Option<Doubt>, line: &mut Vec<u8>) -> Result<(), AllocError>
+    ensures { OnOk result (line.new.items ≡ line.old.items ++ reason_text doubt) }
+{
+    match doubt {
+        None => Ok(()),
+        Some(doubt) => {
+            line.extend_from_slice(b", since printers read otherwise ")?;
+            line.extend_from_slice(doubt_name(doubt))
+        }
+    }
+}
+
+/// Appends the same as an object of JSON.
+fn append_shrunk_object(len: usize, shrunk: &Shrunk, line: &mut Vec<u8>) -> Result<(), AllocError>
+    ensures { OnOk result (line.new.items ≡ line.old.items ++ shrunk_object_text len shrunk.now) }
+{
+    append_count_members(len, shrunk, line)?;
+    append_written(shrunk.by, line)?;
+    append_doubt(shrunk.doubt, line)?;
+    line.extend_from_slice(b"}\n")
+}
+
+/// Appends the start of the object, with its numbers.
+fn append_count_members(len: usize, shrunk: &Shrunk, line: &mut Vec<u8>) -> Result<(), AllocError>
+    ensures { OnOk result (line.new.items ≡ line.old.items ++ count_members len shrunk.now) }
+{
+    append_number(b"{\"bytes_in\":", len, line)?;
+    append_number(b",\"bytes_out\":", shrunk.job.len(), line)?;
+    append_number(b",\"pages\":", shrunk.pages, line)
+}
+
+/// Appends its member that says how the pages are written.
+fn append_written(by: Candidate, line: &mut Vec<u8>) -> Result<(), AllocError>
+    ensures { OnOk result (line.new.items ≡ line.old.items ++ written_member by) }
+{
+    append_quoted(b",\"written\":\"", candidate_name(by), line)
+}
+
+/// Appends its member that says what printers may read otherwise.
+fn append_doubt(doubt: Option<Doubt>, line: &mut Vec<u8>) -> Result<(), AllocError>
+    ensures { OnOk result (line.new.items ≡ line.old.items ++ doubt_member doubt) }
+{
+    match doubt {
+        None => line.extend_from_slice(b",\"doubt\":null"),
+        Some(doubt) => append_quoted(b",\"doubt\":\"", doubt_name(doubt), line),
+    }
+}
+
+/// Appends a label that ends in a quotation mark, a text, and another mark.
+fn append_quoted(label: &[u8], text: &[u8], line: &mut Vec<u8>) -> Result<(), AllocError>
+    ensures { OnOk result (line.new.items ≡ line.old.items ++ quoted_text label.now text.now) }
+{
+    line.extend_from_slice(label)?;
+    line.extend_from_slice(text)?;
+    line.extend_from_slice(b"\"")
+}
+
+/// Appends a label and a number in decimal.
+fn append_number(label: &[u8], number: usize, line: &mut Vec<u8>) -> Result<(), AllocError>
+    ensures { OnOk result (line.new.items ≡ line.old.items ++ labelled_number label.now number) }
+{
+    line.extend_from_slice(label)?;
+    line.extend_from_slice(Buffer::new().format(number).as_bytes())
+}
+
 /// What stands after a number of pages.
-fn after_pages(pages: usize) -> &'static [u8] {
+fn after_pages(pages: usize) -> &'static [u8]
+    ensures { result.now ≡ pages_word pages }
+{
     match pages {
         1 => b" page, ",
         _ => b" pages, ",
@@ -101,7 +189,9 @@ fn after_pages(pages: usize) -> &'static [u8] {
 }
 
 /// How the pages of a job are written.
-fn candidate_name(by: Candidate) -> &'static [u8] {
+fn candidate_name(by: Candidate) -> &'static [u8]
+    ensures { result.now ≡ candidate_text by }
+{
     match by {
         Candidate::Input => b"as they came",
         Candidate::Raster => b"as least rasters",
@@ -111,7 +201,9 @@ fn candidate_name(by: Candidate) -> &'static [u8] {
 }
 
 /// What printers may read otherwise in a job.
-fn doubt_name(doubt: Doubt) -> &'static [u8] {
+fn doubt_name(doubt: Doubt) -> &'static [u8]
+    ensures { result.now ≡ doubt_text doubt }
+{
     match doubt {
         Doubt::BetweenDots => b"what stands between dots",
         Doubt::ShortRaster => b"where the cursor is after fewer rows than a raster's height",
@@ -131,11 +223,4 @@ fn doubt_name(doubt: Doubt) -> &'static [u8] {
         Doubt::TextScale => b"a text scale that isn't 0",
         Doubt::Back => b"the side of a sheet after a page that is moved",
     }
-}
-
-/// Appends a number in decimal and what follows it.
-fn append_number(number: usize, rest: &[u8], line: &mut Vec<u8>) -> Result<(), AllocError> {
-    let mut digits = Buffer::new();
-    line.extend_from_slice(digits.format(number).as_bytes())?;
-    line.extend_from_slice(rest)
 }
