@@ -71,6 +71,11 @@ static const char *line_of(const struct told *told) {
     return told->outcome == PCLMIN_NO_MEMORY ? memory_line : no_line;
 }
 
+/* The lines of these faults take no memory, so that they are always said: nobody frees them. */
+static bool is_of_argument(int fault) {
+    return fault == PCLMIN_WRONG_ARGUMENT || fault == PCLMIN_TOO_LONG;
+}
+
 static int tell(const struct told *told, pclmin_answer *answer) {
     *answer = (pclmin_answer){
         .bytes = owned(told->made),
@@ -189,6 +194,6 @@ void pclmin_free(pclmin_answer *answer) {
     line = answer->line;
     if (answer->bytes != NULL) rattle_dealloc(answer->bytes);
     if (answer->certificate != NULL) rattle_dealloc(answer->certificate);
-    if (line != NULL && line != no_line && line != memory_line && line != pointer_line) rattle_dealloc((void *)line);
+    if (line != NULL && line != no_line && line != memory_line && !is_of_argument(answer->fault)) rattle_dealloc((void *)line);
     *answer = empty;
 }

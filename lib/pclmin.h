@@ -101,7 +101,7 @@ int pclmin_explain(const unsigned char *job, size_t length, unsigned resolution,
 /* The version, as the program says it: a text that nobody frees. */
 const char *pclmin_version(void);
 
-/* Frees what an answer has, and empties it. An answer that is emptied may be freed again. */
+/* Frees what an answer has, by the fault that the call gave it, and empties it. An answer that is emptied may be freed again. */
 void pclmin_free(pclmin_answer *answer);
 
 #ifdef __cplusplus

@@ -104,8 +104,10 @@ static void run_out(const char *name, int (*call)(pclmin_answer *)) {
             TEST(answer.length == whole.length);
             TEST(answer.length == 0 || memcmp(answer.bytes, whole.bytes, whole.length) == 0);
             TEST(answer.holds == whole.holds && answer.kind == whole.kind && answer.place == whole.place);
+            TEST(strcmp(answer.line, whole.line) == 0);
         } else {
             TEST(answer.bytes == NULL && answer.length == 0 && answer.certificate == NULL);
+            TEST(!answer.holds && answer.kind == 0 && answer.place == 0 && answer.job == 0 && answer.resolution == 0);
             TEST(strcmp(answer.line, "pclmin: out of memory\n") == 0);
         }
         pclmin_free(&answer);
@@ -114,6 +116,20 @@ static void run_out(const char *name, int (*call)(pclmin_answer *)) {
     TEST(allocations > 0);
     printf("%s: each of %ld allocations failed in turn\n", name, allocations);
     pclmin_free(&whole);
+}
+
+/* No memory is needed to say that an argument is wrong. */
+static void try_arguments_without_memory(void) {
+    pclmin_answer answer;
+    left = 0;
+    TEST(pclmin_grey(JOB, LENGTH, 300, 0, 0, 33, &answer) == PCLMIN_WRONG_ARGUMENT);
+    TEST(strcmp(answer.line, "pclmin: a scale is 1 to 32\n") == 0);
+    pclmin_free(&answer);
+    TEST(pclmin_page_count(JOB, (size_t)INT_MAX + 1, 300, &answer) == PCLMIN_TOO_LONG);
+    TEST(strcmp(answer.line, "pclmin: input too long\n") == 0);
+    pclmin_free(&answer);
+    TEST(left == 0);
+    left = LONG_MAX;
 }
 
 /* ---- threads */
@@ -207,6 +223,7 @@ static void try_pointers(void) {
 
 int main(void) {
     try_pointers();
+    try_arguments_without_memory();
     run_out("preview", do_preview);
     run_out("grey", do_grey);
     run_out("min", do_min);

@@ -1,8 +1,5 @@
 -- What an answer tells.
-use Rattle.std.specs.Prelude.{◌≡◌, ◌≢◌, ◌⊎◌, ◌↔◌, ℕ, ◌≤◌, Bool, List, [], ◌∷◌, ◌++◌, length, IsTrue}
-use Rattle.std.specs.Prelude.{Option, Some, None, Result, Ok, Err}
-use Rattle.std.specs.declared.alloc.AllocError.{AllocError}
-use Rattle.std.specs.Global.{Vec}
+use Rattle.std.specs.Prelude.{◌≡◌, ◌≢◌, ◌⊎◌, ◌↔◌, ℕ, ◌≤◌, Bool, false, List, [], length, IsTrue, Option, Some, None}
 use Rattle.pcl_base.specs.declared.dpi.Dpi.{Dpi}
 use Rattle.pcl_base.specs.declared.profile.Profile.{Profile}
 use Rattle.pcl_base.specs.declared.profile.Profile.TheVariants.{Drivers}
@@ -41,21 +38,30 @@ use Rattle.pcl_files.specs.Messages.{line_of}
 use Rattle.pcl_answers.specs.Verdicts.{answer_line_of}
 use Rattle.pcl_answers.specs.ComparisonLines.{comparison_line_of, compare_line_of}
 use Rattle.pcl_library.specs.Arguments.{IsSeen, AreSeen, IsChoiceFor, IsScaleFor, IsFormatFor, IsPerformed}
-use Rattle.pcl_library.specs.Failures.{argument_line, outcome_of, job_number}
+use Rattle.pcl_library.specs.Failures.{argument_line, failure_line, outcome_of, job_number}
+use Rattle.pcl_library.specs.Lines.{c_string}
 use Rattle.pcl_library.specs.declared.answer.Answer.{Answer}
+use Rattle.pcl_library.specs.declared.failure.Argument.{Argument}
 use Rattle.pcl_library.specs.declared.failure.CallFailure.{CallFailure}
 use Rattle.pcl_library.specs.declared.failure.CallFailure.TheVariants.{Wrong, Run, OneRefused}
 
--- ---- lines and failures
+-- ---- failures
 
--- a line and a zero byte, or nothing where memory ran out for it
-abbrev pub IsLine : List ℕ → List ℕ → Type 0
-IsLine text line = (line ≡ text ++ 0 ∷ []) ⊎ (line ≡ [])
+-- an answer of no bytes, no line and no numbers but how the call ended and at which resolution
+pub record SaysNothing (answer : Answer) : Type 0 where
+  pub made : answer.made.now ≡ []
+  pub certificate : answer.certificate.now ≡ []
+  pub line : answer.line.now ≡ []
+  pub place : answer.place ≡ 0
+  pub pages : answer.pages ≡ 0
+  pub kind : answer.kind ≡ 0
+  pub job : answer.refused_job ≡ 0
+  pub holds : answer.holds ≡ false
 
--- the same of a line that may not have been made
-abbrev pub IsLineOf : Result (Vec ℕ) AllocError → List ℕ → Type 0
-IsLineOf (Ok text) line = IsLine text.items line
-IsLineOf (Err e) line = line ≡ []
+-- memory ran out, and nothing else is said
+pub record IsOutOfMemory (answer : Answer) : Type 0 where
+  pub ended : answer.outcome ≡ 5
+  pub nothing : SaysNothing answer
 
 -- a refusal by the number of its kind, by its place, by the number of the job, and by a line
 pub record TellsOf (job : Which) (line : List ℕ) (refusal : Refusal) (answer : Answer) : Type 0 where
@@ -63,23 +69,34 @@ pub record TellsOf (job : Which) (line : List ℕ) (refusal : Refusal) (answer :
   pub which : answer.refused_job ≡ job_number job
   pub kind : answer.kind ≡ kind_number refusal.kind
   pub place : answer.place ≡ refusal.at
-  pub said : IsLine line answer.line.now
+  pub said : answer.line.now ≡ line
 
 -- the refusal of a job, as the program says it
 abbrev pub TellsRefusal : Refusal → Answer → Type 0
-TellsRefusal refusal answer = TellsOf First (line_of (run.Refused refusal) 0) refusal answer
+TellsRefusal refusal answer = TellsOf First (c_string (line_of (run.Refused refusal) 0)) refusal answer
 
 -- the refusal of one of two jobs, as the program says it
 abbrev pub TellsRefusalOf : Which → Refusal → Answer → Type 0
-TellsRefusalOf which refusal answer = TellsOf which (compare_line_of (compare.Refused which refusal)) refusal answer
+TellsRefusalOf which refusal answer = TellsOf which (c_string (compare_line_of (compare.Refused which refusal))) refusal answer
 
--- what an answer tells of a failure of a call that was asked for pages up to this one
+-- what an answer tells of a failure by this line
+abbrev pub TellsBy : List ℕ → CallFailure → Answer → Type 0
+TellsBy line (Run (run.Refused refusal)) answer = TellsOf First line refusal answer
+TellsBy line (OneRefused which refusal) answer = TellsOf which line refusal answer
+TellsBy line failure answer = (answer.outcome ≡ outcome_of failure) × (answer.line.now ≡ line)
+
+-- what it tells of a failure of a call that was asked for pages up to this one, or that memory ran out for that; an argument that is
+-- wrong or too long is always told
 abbrev pub Tells : CallFailure → ℕ → Answer → Type 0
-Tells (Run (run.Refused refusal)) page answer = TellsRefusal refusal answer
-Tells (OneRefused which refusal) page answer = TellsRefusalOf which refusal answer
-Tells (Wrong argument) page answer = (answer.outcome ≡ 3) × IsLine (argument_line argument) answer.line.now
-Tells (Run run.NoSuchPage) page answer = (answer.outcome ≡ 2) × IsLine (line_of run.NoSuchPage page) answer.line.now
-Tells other page answer = answer.outcome ≡ outcome_of other
+Tells (Run run.Memory) page answer = IsOutOfMemory answer
+Tells (Run run.TooLong) page answer = TellsBy (c_string (line_of run.TooLong page)) (Run run.TooLong) answer
+Tells (Wrong argument) page answer = TellsBy (c_string (argument_line argument)) (Wrong argument) answer
+Tells failure page answer = TellsBy (c_string (failure_line failure page)) failure answer ⊎ IsOutOfMemory answer
+
+-- a number that is wrong, and an input that is too long, are told by a line of the program
+pub record TellsArguments (answer : Answer) : Type 0 where
+  pub wrong : answer.outcome ≡ 3 → (argument : Argument) × (answer.line.now ≡ c_string (argument_line argument))
+  pub too_long : answer.outcome ≡ 4 → answer.line.now ≡ c_string (line_of run.TooLong 0)
 
 -- ---- calls on one job
 
@@ -93,6 +110,7 @@ pub record AnswersAt (profile : Profile) (dpi : Dpi) (job : List ℕ) (Done : An
 
 -- the same at the resolution at which the job is seen by a number
 pub record Answers (profile : Profile) (number : ℕ) (job : List ℕ) (Done : Dpi → Answer → Type 0) (answer : Answer) : Type 0 where
+  pub arguments : TellsArguments answer
   pub no_page : answer.outcome ≢ 2
   pub done : answer.outcome ≡ 0 → (dpi : Dpi) × IsSeen profile number job dpi × (answer.resolution ≡ dots_per_inch dpi) × Done dpi answer
   pub refused : answer.outcome ≡ 1
@@ -115,7 +133,7 @@ HasGreys job first last number dpi answer =
 
 -- one of these pages, of which this is the last, is missing in an accepted job, as the program says
 abbrev pub LacksChosenAt : Dpi → List ℕ → PageChoice → ℕ → Answer → Type 0
-LacksChosenAt dpi job choice last answer = LacksPage Drivers dpi job choice × IsLine (line_of run.NoSuchPage last) answer.line.now
+LacksChosenAt dpi job choice last answer = LacksPage Drivers dpi job choice × (answer.line.now ≡ c_string (line_of run.NoSuchPage last))
 
 -- the same at the resolution at which the job is seen by a number
 abbrev pub LacksChosen : ℕ → List ℕ → PageChoice → ℕ → Answer → Type 0
@@ -135,6 +153,7 @@ pub record ShowsAt (form : ImageForm) (dpi : Dpi) (job : List ℕ) (choice : Pag
 
 -- the same at the resolution at which the job is seen by a number, where these images and these missing pages are asked for
 pub record Shows (number : ℕ) (job : List ℕ) (Done : Dpi → Answer → Type 0) (Missing : Answer → Type 0) (answer : Answer) : Type 0 where
+  pub arguments : TellsArguments answer
   pub done : answer.outcome ≡ 0 → (dpi : Dpi) × IsSeen Drivers number job dpi × (answer.resolution ≡ dots_per_inch dpi) × Done dpi answer
   pub refused : answer.outcome ≡ 1
       → (dpi : Dpi) × IsSeen Drivers number job dpi
@@ -171,7 +190,7 @@ HasExplanation job dpi answer = Explains Drivers dpi job answer.made.now
 pub record HasVerdict (beside : Beside) (input output certificate : List ℕ) (dpi : Dpi) (answer : Answer) : Type 0 where
   pub given : CheckAnswer
   pub right : IsAnswerBeside beside dpi input output certificate given
-  pub line : IsLine (answer_line_of Text given) answer.line.now
+  pub line : answer.line.now ≡ c_string (answer_line_of Text given)
   pub holds : IsTrue answer.holds ↔ (given ≡ checked.Job Proved)
 
 -- ---- a job shrunk at each resolution at which it is accepted
@@ -185,6 +204,7 @@ pub record ShrinksAt (dpi : Dpi) (job : List ℕ) (answer : Answer) : Type 0 whe
 
 -- the same at the first, whichever that is
 pub record Shrinks (job : List ℕ) (answer : Answer) : Type 0 where
+  pub arguments : TellsArguments answer
   pub no_page : answer.outcome ≢ 2
   pub done : answer.outcome ≡ 0
       → (dpi : Dpi) × IsFirstAccepted Drivers job dpi × (answer.resolution ≡ dots_per_inch dpi)
@@ -197,7 +217,7 @@ pub record Shrinks (job : List ℕ) (answer : Answer) : Type 0 where
 pub record HasComparison (asks : Bool) (first second : List ℕ) (dpi : Dpi) (answer : Answer) : Type 0 where
   pub comparison : AskedComparison
   pub right : IsComparisonFor asks Drivers dpi first second comparison
-  pub line : IsLine (comparison_line_of Text comparison) answer.line.now
+  pub line : answer.line.now ≡ c_string (comparison_line_of Text comparison)
   pub holds : IsTrue answer.holds ↔ (comparison ≡ comparisons.Same)
 
 -- one of two jobs is refused, and which
@@ -215,6 +235,7 @@ pub record ComparesAt (asks : Bool) (dpi : Dpi) (first second : List ℕ) (answe
 
 -- the same at the resolution at which the jobs are compared by a number
 pub record Compares (asks : Bool) (number : ℕ) (first second : List ℕ) (answer : Answer) : Type 0 where
+  pub arguments : TellsArguments answer
   pub no_page : answer.outcome ≢ 2
   pub done : answer.outcome ≡ 0
       → (dpi : Dpi) × AreSeen asks number first second dpi × (answer.resolution ≡ dots_per_inch dpi)

@@ -1,5 +1,5 @@
 -- Why a call fails, and what is said of it.
-use Rattle.std.specs.Prelude.{◌≡◌, ℕ, ◌<◌, List, codes}
+use Rattle.std.specs.Prelude.{ℕ, ◌<◌, Bool, true, false, List, codes}
 use Rattle.pcl_base.specs.declared.fault.JobFault.{JobFault}
 use Rattle.pcl_streams.specs.declared.fault.Fault.TheVariants as run
 use Rattle.pcl_streams.specs.JobFaults.{fault_of}
@@ -47,8 +47,14 @@ argument_line Pages = codes "pclmin: pages are 1 to 256, the last no earlier tha
 argument_line Scale = codes "pclmin: a scale is 1 to 32\n"
 argument_line Format = codes "pclmin: the format of a certificate is 1 or 2, or 0 for none\n"
 
--- the line is the one that the program says, with its line feed
-abbrev pub IsSaid : CallFailure → ℕ → List ℕ → Type 0
-IsSaid (Wrong argument) page line = line ≡ argument_line argument
-IsSaid (Run fault) page line = line ≡ line_of fault page
-IsSaid (OneRefused which refusal) page line = line ≡ compare_line_of (compare.Refused which refusal)
+-- what the program says of a failure of a call that was asked for pages up to this one
+abbrev pub failure_line : CallFailure → ℕ → List ℕ
+failure_line (Wrong argument) page = argument_line argument
+failure_line (Run fault) page = line_of fault page
+failure_line (OneRefused which refusal) page = compare_line_of (compare.Refused which refusal)
+
+-- it is said without memory
+abbrev pub is_said_at_once : CallFailure → Bool
+is_said_at_once (Wrong argument) = true
+is_said_at_once (Run run.TooLong) = true
+is_said_at_once other = false

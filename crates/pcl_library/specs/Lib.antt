@@ -1,3 +1,4 @@
+pub mod Lines
 pub mod Arguments
 pub mod Failures
 pub mod Answers

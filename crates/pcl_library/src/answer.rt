@@ -1,16 +1,16 @@
 //! What a call answers.
 
-ghost use Rattle.std.specs.Prelude.{◌≡◌, IfOk};
-ghost use Rattle.pcl_library.specs.Answers.{IsLineOf};
+ghost use Rattle.std.specs.Prelude.{◌≡◌};
 
 use crate::failure::CallFailure;
+use crate::lines::ended;
 use pcl_base::{Dpi, Refusal};
 use pcl_same::Which;
 use pcl_tool::{Fault, Output};
 use std::alloc::{AllocError, Global};
 
 /// What a call answers, in memory that the caller lends. C has the same struct in lib/pclmin.c. Bytes that are not empty are the
-/// caller's, who frees them.
+/// caller's, who frees them, but for the line of the failures 3 and 4.
 #[repr(C)]
 #[derive(Drop)]
 pub struct Answer {
@@ -19,7 +19,7 @@ pub struct Answer {
     /// The certificate of a job that was made with one.
     pub certificate: &'static [u8],
     /// What the program says: of a failure, of two jobs, or of a job that was checked. Its line feed and a zero byte end it. It is
-    /// empty where there is nothing to say, and where memory runs out for it.
+    /// empty where a call that is done has nothing to say, and where memory ran out.
     pub line: &'static [u8],
     /// The place of the refused command, in bytes from the job's start.
     pub place: usize,
@@ -38,16 +38,18 @@ pub struct Answer {
 }
 
 impl Answer {
-    ghost use Rattle.std.specs.Prelude.{◌≡◌};
+    ghost use Rattle.std.specs.Prelude.{◌≡◌, ◌⊎◌};
     ghost use Rattle.pcl_base.specs.Dpi.{dots_per_inch};
     ghost use Rattle.pcl_base.specs.Kind.{kind_number};
-    ghost use Rattle.pcl_library.specs.Answers.{IsLineOf, Tells};
+    ghost use Rattle.pcl_library.specs.Answers.{IsOutOfMemory, SaysNothing, Tells, TellsBy};
     ghost use Rattle.pcl_library.specs.Failures.{job_number};
+    ghost use Rattle.pcl_library.specs.Lines.{IsLineOf};
 
     /// An answer that says nothing yet of a call that is done at this many dots per inch.
     fn blank(resolution: u32) -> Answer
         ensures outcome { result.outcome ≡ 0 }
         ensures resolution { result.resolution ≡ resolution }
+        ensures nothing { SaysNothing result }
     {
         Answer {
             made: b"",
@@ -101,17 +103,30 @@ impl Answer {
         }
     }
 
-    /// Whether something holds, and the line that says so.
+    /// Whether something holds, and the line that says so; or that memory ran out for that.
     pub fn of_line(line: Result<Vec<u8>, AllocError>, holds: bool, dpi: Dpi) -> Answer
-        ensures outcome { result.outcome ≡ 0 }
-        ensures resolution { result.resolution ≡ dots_per_inch dpi }
-        ensures holds { result.holds ≡ holds }
-        ensures line { IsLineOf line result.line.now }
+        ensures ended { (result.outcome ≡ 0) ⊎ IsOutOfMemory result }
+        ensures resolution { result.outcome ≡ 0 → result.resolution ≡ dots_per_inch dpi }
+        ensures holds { result.outcome ≡ 0 → result.holds ≡ holds }
+        ensures line { result.outcome ≡ 0 → IsLineOf line result.line.now }
+    {
+        match ended(line) {
+            Ok(line) => Answer {
+                line,
+                holds,
+                ..Answer::blank(dpi.dots())
+            },
+            Err(_) => Answer::out_of_memory(),
+        }
+    }
+
+    /// Memory ran out.
+    fn out_of_memory() -> Answer
+        ensures { IsOutOfMemory result }
     {
         Answer {
-            line: said(line),
-            holds,
-            ..Answer::blank(dpi.dots())
+            outcome: 5,
+            ..Answer::blank(0)
         }
     }
 
@@ -119,8 +134,18 @@ impl Answer {
     pub fn of_failure(alloc: Global, failure: &CallFailure, page: usize) -> Answer
         ensures { Tells failure.now page result }
     {
+        match failure.line(alloc, page) {
+            Ok(line) => Answer::of_said(failure, line),
+            Err(_) => Answer::out_of_memory(),
+        }
+    }
+
+    /// A failure of which this is said.
+    fn of_said(failure: &CallFailure, line: &'static [u8]) -> Answer
+        ensures { TellsBy line.now failure.now result }
+    {
         let told = Answer {
-            line: said(failure.line(alloc, page)),
+            line,
             outcome: failure.outcome(),
             ..Answer::blank(0)
         };
@@ -156,23 +181,4 @@ fn kept(bytes: Vec<u8>) -> &'static [u8]
     ensures { result.now ≡ bytes.items }
 {
     if bytes.is_empty() { b"" } else { bytes.leak() }
-}
-
-/// A line and a zero byte, which the caller frees; nothing where memory runs out.
-fn said(line: Result<Vec<u8>, AllocError>) -> &'static [u8]
-    ensures { IsLineOf line result.now }
-{
-    match ended(line) {
-        Ok(text) => kept(text),
-        Err(_) => b"",
-    }
-}
-
-/// A line and a zero byte.
-fn ended(line: Result<Vec<u8>, AllocError>) -> Result<Vec<u8>, AllocError>
-    ensures { IfOk result (λ text. IsLineOf line text.items) }
-{
-    let mut text = line?;
-    text.push(0)?;
-    Ok(text)
 }

@@ -10,7 +10,8 @@ ghost use Rattle.pcl_request.specs.declared.request.Layout.TheVariants.{Text};
 ghost use Rattle.pcl_answers.specs.Verdicts.{answer_line_of};
 ghost use Rattle.pcl_library.specs.Arguments.{IsSeen, IsNoResolution, IsTooLong, FailsBy, outcome_in};
 ghost use Rattle.pcl_library.specs.Failures.{IsUnperformed};
-ghost use Rattle.pcl_library.specs.Answers.{Answers, AnswersAt, HasVerdict, IsLine};
+ghost use Rattle.pcl_library.specs.Answers.{Answers, AnswersAt, HasVerdict, IsOutOfMemory};
+ghost use Rattle.pcl_library.specs.Lines.{c_string};
 
 use crate::answer::Answer;
 use crate::arguments::{resolution_numbered, within_limit};
@@ -116,12 +117,12 @@ fn images_answer(
     }
 }
 
-/// The answer of a check that gives this.
+/// The answer of a check that gives this, or that memory ran out for its line.
 fn verdict_answer(alloc: Global, given: CheckAnswer, dpi: Dpi) -> Answer
-    ensures outcome { result.outcome ≡ 0 }
-    ensures resolution { result.resolution ≡ dots_per_inch dpi }
-    ensures line { IsLine (answer_line_of Text given) result.line.now }
-    ensures holds { IsTrue result.holds ↔ (given ≡ Job Proved) }
+    ensures ended { (result.outcome ≡ 0) ⊎ IsOutOfMemory result }
+    ensures resolution { result.outcome ≡ 0 → result.resolution ≡ dots_per_inch dpi }
+    ensures line { result.outcome ≡ 0 → result.line.now ≡ c_string (answer_line_of Text given) }
+    ensures holds { result.outcome ≡ 0 → (IsTrue result.holds ↔ (given ≡ Job Proved)) }
 {
     let holds = matches!(given, CheckAnswer::Job(JobVerdict::Proved));
     Answer::of_line(answer_line(alloc, Layout::Text, &given), holds, dpi)

@@ -1,10 +1,12 @@
 //! Why a call fails.
 
-ghost use Rattle.std.specs.Prelude.{◌≡◌, IfOk};
+ghost use Rattle.std.specs.Prelude.{◌≡◌, IfOk, IsTrue, IsOk, IsErr};
 ghost use Rattle.pcl_streams.specs.declared.fault.Fault.TheVariants.{Memory};
 ghost use Rattle.pcl_library.specs.declared.failure.CallFailure.TheVariants.{Run};
-ghost use Rattle.pcl_library.specs.Failures.{argument_line, failure_of_job, failure_of_jobs, IsSaid, outcome_of};
+ghost use Rattle.pcl_library.specs.Failures.{argument_line, failure_line, failure_of_job, failure_of_jobs, is_said_at_once, outcome_of};
+ghost use Rattle.pcl_library.specs.Lines.{c_string};
 
+use crate::lines::ended;
 use pcl_answers::{CompareFault, compare_fault_line};
 use pcl_base::{JobFault, Refusal};
 use pcl_files::fault_line;
@@ -26,17 +28,17 @@ pub enum Argument {
 }
 
 impl Argument {
-    /// What is said where it has another value.
+    /// What is said where it has another value, with a zero byte.
     fn line(self) -> &'static [u8]
-        ensures { result.now ≡ argument_line self }
+        ensures { result.now ≡ c_string (argument_line self) }
     {
         match self {
             Argument::Resolution =>
-                b"pclmin: the resolution is 300 or 600, or 0 for the first at which the job is accepted\n",
+                b"pclmin: the resolution is 300 or 600, or 0 for the first at which the job is accepted\n\0",
             Argument::Pages =>
-                b"pclmin: pages are 1 to 256, the last no earlier than the first, or 0 and 0 for all\n",
-            Argument::Scale => b"pclmin: a scale is 1 to 32\n",
-            Argument::Format => b"pclmin: the format of a certificate is 1 or 2, or 0 for none\n",
+                b"pclmin: pages are 1 to 256, the last no earlier than the first, or 0 and 0 for all\n\0",
+            Argument::Scale => b"pclmin: a scale is 1 to 32\n\0",
+            Argument::Format => b"pclmin: the format of a certificate is 1 or 2, or 0 for none\n\0",
         }
     }
 }
@@ -67,19 +69,24 @@ impl CallFailure {
         }
     }
 
-    /// What the program says of it, with a line feed; `page` is the last page that was asked for.
-    pub fn line(&self, alloc: Global, page: usize) -> Result<Vec<u8>, AllocError>
-        ensures { IfOk result (λ line. IsSaid self.now page line.items) }
+    /// What the program says of it, with a line feed and a zero byte; `page` is the last page that was asked for. That an argument is
+    /// wrong or an input too long is always said, by a line that nobody frees. That memory ran out is left to C.
+    pub fn line(&self, alloc: Global, page: usize) -> Result<&'static [u8], AllocError>
+        ensures said { IfOk result (λ line. line.now ≡ c_string (failure_line self.now page)) }
+        ensures at_once { IsTrue (is_said_at_once self.now) → IsOk result }
+        ensures memory { self.now ≡ Run Memory → IsErr result }
     {
         match self {
-            CallFailure::Wrong(argument) => Vec::from_slice(alloc, argument.line()),
-            CallFailure::Run(fault) => fault_line(alloc, fault, page),
+            CallFailure::Wrong(argument) => Ok(argument.line()),
+            CallFailure::Run(Fault::TooLong) => Ok(b"pclmin: input too long\n\0"),
+            CallFailure::Run(Fault::Memory) => Err(AllocError),
+            CallFailure::Run(fault) => ended(fault_line(alloc, fault, page)),
             CallFailure::OneRefused { which, refusal } => {
                 let refused = CompareFault::Refused {
                     which: *which,
                     refusal: *refusal,
                 };
-                compare_fault_line(alloc, &refused)
+                ended(compare_fault_line(alloc, &refused))
             }
         }
     }

@@ -10,5 +10,6 @@ mod checking;
 mod comparing;
 mod describing;
 mod failure;
+mod lines;
 mod making;
 mod showing;
