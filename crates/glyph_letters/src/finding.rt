@@ -61,7 +61,7 @@ fn append_tiles(collection: &Collection, found: &mut Letters) -> Result<(), Allo
 }
 
 /// Appends a shape as a letter whose topmost row lies so far above the baseline, or below it under 0, if that is on its page, which has
-/// this height.
+/// this height: a comma in the topmost rows may stand on none.
 fn append_letter(
     shape: &PlacedShape,
     top: i32,
@@ -69,7 +69,9 @@ fn append_letter(
     found: &mut Letters,
 ) -> Result<(), AllocError> {
     let pattern = shape.pattern;
-    let baseline = u32::from(shape.top).saturating_add_signed(top);
+    let Some(baseline) = u32::from(shape.top).checked_add_signed(top) else {
+        return Ok(());
+    };
     if baseline <= height {
         let (glyph, _) = found.glyphs.insert_full(LetterGlyph { pattern, top })?;
         found
