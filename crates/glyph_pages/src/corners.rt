@@ -3,15 +3,13 @@
 ghost use Rattle.std.specs.Prelude.{◌≡◌, ◌≤◌, ◌*◌, length};
 ghost use Rattle.pcl_bitmap.specs.Bitmap.{IsPicture};
 
-use pcl_bitmap::{Bitmap, Page};
+use glyph_shapes::row_at;
+use pcl_bitmap::{Bitmap, Ink, trimmed_len};
 use std::alloc::{AllocError, Global};
 
 /// A raster starts further right than the page where that leaves out this many bytes of each row: fewer are in the first byte of data of
 /// method 3 anyway.
 const LEAST_LEFT: usize = 16;
-
-/// Rasters of pages with more dots per inch start at the corner of the page: to move their dots, three of them would be held at once.
-const MOST_DOTS: u32 = 300;
 
 /// A place on a page where a raster starts: this many bytes of dots from the left, and this many rows from the top.
 #[derive(Clone, Copy)]
@@ -32,9 +30,6 @@ impl Corner {
 
 /// The upper left corner of all ink of a page: that of the page where the ink begins near its left edge, or where there is none.
 pub fn corner_of(bitmap: &Bitmap) -> Corner {
-    if bitmap.dpi().dots() > MOST_DOTS {
-        return Corner::OF_PAGE;
-    }
     let mut left = bitmap.size().row_bytes(bitmap.dpi());
     let mut top = None;
     for y in 0..bitmap.size().height(bitmap.dpi()) {
@@ -55,32 +50,42 @@ fn white_bytes(row: &[u8], most: usize) -> usize {
     front.iter().position(|byte| *byte != 0).unwrap_or(most)
 }
 
-/// A page whose upper left corner is this one of another, of which it has the dots from there on.
-pub fn page_from(alloc: Global, page: &Page, corner: Corner) -> Result<Page, AllocError> {
-    let mut bitmap = Bitmap::new(alloc, page.size, page.dpi)?;
-    paint_from(&page.bitmap, corner, &mut bitmap);
-    Ok(Page {
-        size: page.size,
-        copies: page.copies,
-        dpi: page.dpi,
-        bitmap,
-    })
-}
-
-/// Paints the dots of a page from a corner on. White rows are passed over.
-fn paint_from(whole: &Bitmap, corner: Corner, bitmap: &mut Bitmap)
-    requires { IsPicture bitmap.old }
+/// Moves the dots of a page so that this corner becomes its upper left one. Left of it and above it the page is white.
+pub fn move_to_corner(alloc: Global, corner: Corner, bitmap: &mut Bitmap) -> Result<(), AllocError>
     ensures size { bitmap.new.size ≡ bitmap.old.size }
     ensures dpi { bitmap.new.dpi ≡ bitmap.old.dpi }
-    ensures picture { IsPicture bitmap.new }
+    ensures picture { IsPicture bitmap.old → IsPicture bitmap.new }
+{
+    let mut row = Vec::new(alloc);
+    let height = bitmap.size().height(bitmap.dpi());
+    for y in corner.top..height {
+        row.clear();
+        row.extend_from_slice(row_from(bitmap, y, corner.left))?;
+        set_row(&row, y.saturating_sub(corner.top), bitmap);
+    }
+    for y in height.saturating_sub(corner.top)..height {
+        set_row(&[], y, bitmap);
+    }
+    Ok(())
+}
+
+/// Row `y` of a page from this byte on.
+fn row_from(bitmap: &Bitmap, y: u32, left: usize) -> &[u8] {
+    row_at(bitmap, y).get(left..).unwrap_or(&[])
+}
+
+/// Has row `y` of a page have these dots, and white ones right of them.
+fn set_row(row: &[u8], y: u32, bitmap: &mut Bitmap)
+    ensures size { bitmap.new.size ≡ bitmap.old.size }
+    ensures dpi { bitmap.new.dpi ≡ bitmap.old.dpi }
+    ensures picture { IsPicture bitmap.old → IsPicture bitmap.new }
 {
     let page_width = bitmap.size().width(bitmap.dpi());
-    for y in corner.top..whole.size().height(whole.dpi()) {
-        if !whole.is_blank(y) {
-            let row = whole.row(y).get(corner.left..).unwrap_or(&[]);
-            let down = u64::from(y.saturating_sub(corner.top));
-            bitmap.paint_row(0, down, 1, page_width.min(bits_of(row)), row);
-        }
+    if trimmed_len(row_at(bitmap, y)) != 0 {
+        bitmap.fill(0, y, u64::from(page_width), 1, Ink::White);
+    }
+    if trimmed_len(row) != 0 {
+        bitmap.paint_row(0, u64::from(y), 1, page_width.min(bits_of(row)), row);
     }
 }
 

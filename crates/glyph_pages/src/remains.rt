@@ -3,10 +3,10 @@
 ghost use Rattle.std.specs.Prelude.{◌≡◌};
 ghost use Rattle.pcl_bitmap.specs.Bitmap.{IsPicture};
 
-use crate::corners::{bits_of, corner_of, page_from};
+use crate::corners::{bits_of, corner_of, move_to_corner};
 use crate::rule_writing::{RulePen, append_rules, sparse_rules};
 use crate::shortening::shortened;
-use crate::sparing::are_surely_shorter;
+use crate::sparing::{Saving, saving_of};
 use glyph_patterns::{Dot, Letter, Letters, Patterns, StampInk, stamp};
 use glyph_shapes::{Rule, ink_rules};
 use pcl_bitmap::{Bitmap, Ink, Page, trimmed_len};
@@ -48,8 +48,6 @@ pub struct Rest {
     pub text: Vec<u8>,
     /// The size of rectangles that the printer holds after it.
     pen: RulePen,
-    /// Whether a raster with its rules is surely longer.
-    is_sure: bool,
 }
 
 impl Rest {
@@ -86,37 +84,93 @@ pub fn shortest_rest(
     page: &Page,
     pen: RulePen,
 ) -> Result<Rest, AllocError> {
-    let mut others = page_without(alloc, taken, page)?;
-    ink_rules(taken.rules, Ink::White, &mut others.bitmap);
-    let mut shortest = rest_with(alloc, &others, taken.rules, taken.free_id, pen)?;
+    let mut ruled = Ruled::none();
+    ruled.add(alloc, taken, taken.rules, page, pen)?;
     let sparse = sparse_rules(alloc, taken.rules)?;
-    if !sparse.is_empty() && sparse.len() < taken.rules.len() {
-        ink_rules(taken.rules, Ink::Black, &mut others.bitmap);
-        ink_rules(&sparse, Ink::White, &mut others.bitmap);
-        shortest = shortest.or_shorter(rest_with(alloc, &others, &sparse, taken.free_id, pen)?);
+    if sparse.len() < taken.rules.len() {
+        ruled.add(alloc, taken, &sparse, page, pen)?;
     }
-    if !shortest.is_sure {
-        ink_rules(taken.rules, Ink::Black, &mut others.bitmap);
-        shortest = shortest.or_shorter(rest_with(alloc, &others, &[], taken.free_id, pen)?);
+    let Ruled { shortest, is_sure } = ruled;
+    match shortest {
+        Some(rest) if is_sure => Ok(rest),
+        Some(rest) => Ok(rest.or_shorter(unruled(alloc, taken, page, pen)?)),
+        None => unruled(alloc, taken, page, pen),
     }
-    Ok(shortest)
 }
 
-/// The rest of a page with these rules as rectangles, of which this is the page without them and its letters.
-fn rest_with(
+/// The rest of a page with all its rules in the raster.
+fn unruled(alloc: Global, taken: Taken<'_>, page: &Page, pen: RulePen) -> Result<Rest, AllocError> {
+    let text = raster_text(alloc, page_without(alloc, taken, page)?)?;
+    Ok(Rest { text, pen })
+}
+
+/// The shortest rest of a page with some of its rules as rectangles.
+#[derive(Drop)]
+struct Ruled {
+    shortest: Option<Rest>,
+    /// Whether a raster with its rules is surely longer.
+    is_sure: bool,
+}
+
+impl Ruled {
+    /// No rules yet.
+    fn none() -> Ruled {
+        Ruled {
+            shortest: None,
+            is_sure: false,
+        }
+    }
+
+    /// Adds these of the rules of a page as rectangles, unless they surely take more bytes than in its raster.
+    fn add(
+        &mut self,
+        alloc: Global,
+        taken: Taken<'_>,
+        rules: &[Rule],
+        page: &Page,
+        pen: RulePen,
+    ) -> Result<(), AllocError> {
+        if rules.is_empty() {
+            return Ok(());
+        }
+        let mut others = page_without(alloc, taken, page)?;
+        ink_rules(rules, Ink::White, &mut others.bitmap);
+        let mut rectangles = Vec::new(alloc);
+        let pen = append_rules(alloc, rules, pen, taken.free_id, &mut rectangles)?;
+        let saving = saving_of_rules(alloc, &others.bitmap, rules, rectangles.len())?;
+        if saving != Saving::SurelyLonger {
+            let mut text = raster_text(alloc, others)?;
+            text.extend_from_slice(&rectangles)?;
+            self.keep(Rest { text, pen }, saving == Saving::SurelyShorter);
+        }
+        Ok(())
+    }
+
+    /// Keeps a rest if it is the shortest so far.
+    fn keep(&mut self, rest: Rest, is_sure: bool) {
+        let is_shortest = match &self.shortest {
+            Some(shortest) => rest.text.len() < shortest.text.len(),
+            None => true,
+        };
+        if is_shortest {
+            self.shortest = Some(rest);
+            self.is_sure = is_sure;
+        }
+    }
+}
+
+/// How rectangles of this many bytes compare with the dots of their rules in the raster of a page, which has no dots of these here.
+fn saving_of_rules(
     alloc: Global,
-    others: &Page,
+    bitmap: &Bitmap,
     rules: &[Rule],
-    free_id: u32,
-    pen: RulePen,
-) -> Result<Rest, AllocError> {
-    let mut rectangles = Vec::new(alloc);
-    let pen = append_rules(alloc, rules, pen, free_id, &mut rectangles)?;
-    let is_sure = rectangles.len() <= white_rows(&others.bitmap, rules)
-        || are_surely_shorter(alloc, &others.bitmap, rules, rectangles.len())?;
-    let mut text = raster_text(alloc, others)?;
-    text.extend_from_slice(&rectangles)?;
-    Ok(Rest { text, pen, is_sure })
+    rectangles: usize,
+) -> Result<Saving, AllocError> {
+    if rectangles <= white_rows(bitmap, rules) {
+        Ok(Saving::SurelyShorter)
+    } else {
+        saving_of(alloc, bitmap, rules, rectangles)
+    }
 }
 
 /// How many rows of the highest of some rules are white on a page without them: each would take a byte at least in a raster with it.
@@ -133,15 +187,16 @@ fn white_rows(bitmap: &Bitmap, rules: &[Rule]) -> usize {
     count
 }
 
-/// The page text of a page as it is sent beside letters and rectangles, without its form feed.
-fn raster_text(alloc: Global, page: &Page) -> Result<Vec<u8>, AllocError> {
+/// The page text of a page as it is sent beside letters and rectangles, without its form feed. Its dots are moved where the raster starts
+/// further right: so no more than two pages are held at once.
+fn raster_text(alloc: Global, page: Page) -> Result<Vec<u8>, AllocError> {
+    let mut page = page;
     let corner = corner_of(&page.bitmap);
-    let text = if corner.is_of_page() {
-        least_text(alloc, page)?
-    } else {
-        least_text(alloc, &page_from(alloc, page, corner)?)?
-    };
-    shortened(alloc, &text, page, corner)
+    if !corner.is_of_page() {
+        move_to_corner(alloc, corner, &mut page.bitmap)?;
+    }
+    let text = least_text(alloc, &page)?;
+    shortened(alloc, &text, &page, corner)
 }
 
 /// The least page text of a page, without its form feed.

@@ -6,18 +6,41 @@ use pcl_bitmap::{Bitmap, Ink};
 use std::alloc::{AllocError, Global};
 use std::mem::swap;
 
-/// Rectangles are surely shorter where the raster is shorter without their dots by five quarters of their bytes: what rows take is known
-/// about.
-const SURE_QUARTERS: usize = 5;
+/// Rectangles are surely shorter where the raster is shorter without their dots by five quarters of their bytes, and surely longer where
+/// it is so by less than two: what rows take is known about.
+const SHORTER_QUARTERS: usize = 5;
 
-/// Whether rectangles of this many bytes surely take fewer than the dots of their rules in the raster of a page, which has no dots of
-/// these here.
-pub fn are_surely_shorter(
+const LONGER_QUARTERS: usize = 2;
+
+/// How the bytes of rectangles compare with those that the raster of their page is shorter by without them.
+#[derive(Clone, Copy, PartialEq, Eq)]
+pub enum Saving {
+    SurelyShorter,
+    SurelyLonger,
+    Unsure,
+}
+
+impl Saving {
+    /// That of rectangles of this many bytes, which spare the raster so many.
+    fn of(rectangles: usize, spared: usize) -> Saving {
+        let quarters = spared.saturating_mul(4);
+        if quarters >= rectangles.saturating_mul(SHORTER_QUARTERS) {
+            Saving::SurelyShorter
+        } else if quarters < rectangles.saturating_mul(LONGER_QUARTERS) {
+            Saving::SurelyLonger
+        } else {
+            Saving::Unsure
+        }
+    }
+}
+
+/// How rectangles of this many bytes compare with the dots of their rules in the raster of a page, which has no dots of these here.
+pub fn saving_of(
     alloc: Global,
     bitmap: &Bitmap,
     rules: &[Rule],
     rectangles: usize,
-) -> Result<bool, AllocError> {
+) -> Result<Saving, AllocError> {
     let mut raster = RasterBytes {
         ruled: 0,
         unruled: 0,
@@ -36,7 +59,7 @@ pub fn are_surely_shorter(
         above = row;
     }
     let spared = raster.ruled.saturating_sub(raster.unruled);
-    Ok(spared.saturating_mul(4) >= rectangles.saturating_mul(SURE_QUARTERS))
+    Ok(Saving::of(rectangles, spared))
 }
 
 /// The rows of a page with its rules, where they have dots.
