@@ -13,8 +13,8 @@ const ROUNDS: u32 = 3;
 /// that run one, since phrases join letters too.
 const CODE_BYTES: usize = 2;
 
-/// How many kinds of pairs are counted in a round, at most.
-const PAIR_LIMIT: usize = 65_536;
+/// Where there are more kinds of pairs than this no shapes are joined: a text has some hundreds, a crowd of specks as many as shapes.
+const PAIR_LIMIT: usize = 8_192;
 
 /// Two patterns in turn on a line that have columns in common, and how they stand. The first one begins further left.
 #[derive(Clone, Copy, PartialEq, Eq, Hash)]
@@ -113,7 +113,7 @@ fn first_pairs(
     shorter_pairs(alloc, collection, apart, &pairs)
 }
 
-/// How often each pair is there.
+/// How often each pair is there: none where there are too many kinds.
 fn count_pairs(
     alloc: Global,
     collection: &Collection,
@@ -123,16 +123,17 @@ fn count_pairs(
         if let Some(pair) = two_at(collection, place) {
             count_pair(pair, &mut counts)?;
         }
+        if counts.len() > PAIR_LIMIT {
+            return Ok(IndexMap::new(alloc));
+        }
     }
     Ok(counts)
 }
 
-/// Counts a pair, unless it is of one kind too many.
+/// Counts a pair.
 fn count_pair(pair: Pair, counts: &mut IndexMap<Pair, usize>) -> Result<(), AllocError> {
-    if counts.len() < PAIR_LIMIT || counts.contains_key(&pair) {
-        let count = counts.entry(pair)?.or_insert(0usize);
-        *count = count.saturating_add(1);
-    }
+    let count = counts.entry(pair)?.or_insert(0usize);
+    *count = count.saturating_add(1);
     Ok(())
 }
 

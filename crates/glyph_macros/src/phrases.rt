@@ -81,17 +81,23 @@ pub fn find_phrases(alloc: Global, script: Script) -> Result<PhrasedText, AllocE
         pairs: IndexSet::new(alloc),
     };
     for _ in 0..ROUNDS {
-        text.join(alloc)?;
+        if !text.join(alloc)? {
+            break;
+        }
     }
     text.drop_dear(alloc)?;
     Ok(text)
 }
 
 impl PhrasedText {
-    /// Joins the pairs that are frequent.
-    fn join(&mut self, alloc: Global) -> Result<(), AllocError> {
+    /// Joins the pairs that are frequent, and says whether there were any.
+    fn join(&mut self, alloc: Global) -> Result<bool, AllocError> {
         let pairs = self.frequent_pairs(alloc)?;
-        self.join_pairs(alloc, &pairs)
+        if pairs.is_empty() {
+            return Ok(false);
+        }
+        self.join_pairs(alloc, &pairs)?;
+        Ok(true)
     }
 
     /// Joins these pairs.

@@ -17,6 +17,9 @@ const MEDIAN_ROUNDS: u32 = 8;
 
 const MEAN_ROUNDS: u32 = 12;
 
+/// Where there are more pairs of glyphs than this, as those of hundreds of rare ones, only those that come again are fitted.
+const PAIR_LIMIT: usize = 8_192;
+
 /// How letters advance and stand.
 #[derive(Drop)]
 pub struct Metrics {
@@ -52,7 +55,10 @@ pub fn find_metrics(
     letters: &[Letter],
     glyphs: usize,
 ) -> Result<Metrics, AllocError> {
-    let pairs = find_pairs(alloc, letters)?;
+    let mut pairs = find_pairs(alloc, letters)?;
+    if pairs.len() > PAIR_LIMIT {
+        pairs.retain(|pair: &Pair| -> bool { pair.count > 1 });
+    }
     let mut fit = Fit::new(alloc, glyphs)?;
     fit.fit(alloc, &pairs)?;
     let shift = whole_shift(&pairs, &fit);

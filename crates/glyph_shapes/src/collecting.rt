@@ -25,6 +25,12 @@ const FIRST_SHAPES: usize = 32_768;
 
 const SHAPE_BYTES: usize = 24;
 
+/// A page with more shapes than this at 300 dots per inch, four times as many at 600, and one more for this many bytes of its text, is no
+/// text but a crowd of specks, which take longer as letters than all else does with the page. A page of text has some 3,000.
+const FIRST_ON_PAGE: usize = 6_144;
+
+const SHAPE_BYTES_ON_PAGE: usize = 64;
+
 /// After this many tiles, and one more for as many bytes of the texts, no further pictures are cut in tiles.
 const FIRST_TILES: usize = 65_536;
 
@@ -241,7 +247,8 @@ impl Collection {
         before
     }
 
-    /// Collects the shapes of a page that were found, unless none of them can be a letter. The first row of the page is in this place.
+    /// Collects the shapes of a page that were found, unless none of them can be a letter, or too many. The first row of the page is in
+    /// this place.
     fn collect_found(
         &mut self,
         page: Unpainted<'_>,
@@ -249,10 +256,19 @@ impl Collection {
         first: usize,
     ) -> Result<(), AllocError> {
         let stay = self.screen(shapes, first)?;
-        if stay.iter().all(|stays| *stays) {
+        let count = stay.iter().filter(|stays| !**stays).count();
+        if count == 0 || count > self.room_on_page() {
             return Ok(());
         }
         self.collect_shapes(page, shapes, &stay, first)
+    }
+
+    /// How many shapes the page that comes may have.
+    fn room_on_page(&self) -> usize {
+        let scale = self.form.scale() as usize;
+        FIRST_ON_PAGE
+            .saturating_mul(scale.saturating_mul(scale))
+            .saturating_add(self.page_bytes / SHAPE_BYTES_ON_PAGE)
     }
 
     /// Which of the shapes of a page whose first row is in this place can't be letters.

@@ -28,7 +28,7 @@ mod upright_rules;
 mod words;
 
 pub use collecting::{Collection, PlacedShape};
-pub use dots::{are_equal, ink_dots};
+pub use dots::{are_equal, ink_dots, row_at};
 pub use edges::append_edges;
 pub use row_rules::RowRules;
 pub use rows::row_bytes;

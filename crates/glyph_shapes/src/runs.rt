@@ -19,12 +19,11 @@ pub struct BlackRun {
     pub label: u32,
 }
 
-/// After this many labels no further runs are looked for on a page: its shapes are the dots of a picture, and each label takes memory. With
-/// those of a row more they are less than a power of two, by which lists grow.
+/// After this many labels no further runs are looked for on a page: its shapes are the dots of a picture, and each label takes memory.
 fn label_limit(dpi: Dpi) -> u32 {
     match dpi {
-        Dpi::Dpi300 => 130_000,
-        Dpi::Dpi600 => 260_000,
+        Dpi::Dpi300 => 100_000,
+        Dpi::Dpi600 => 200_000,
     }
 }
 
@@ -35,11 +34,11 @@ pub struct Link {
     pub other: u32,
 }
 
-/// This many runs of a page are kept, in two or four megabytes; those of a page with more are found once more where they are wanted.
+/// This many runs of a page are kept, in 1.3 or 2.6 megabytes; those of a page with more are found once more where they are wanted.
 fn kept_runs_limit(dpi: Dpi) -> usize {
     match dpi {
-        Dpi::Dpi300 => 262_144,
-        Dpi::Dpi600 => 524_288,
+        Dpi::Dpi300 => 163_840,
+        Dpi::Dpi600 => 327_680,
     }
 }
 
