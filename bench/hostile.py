@@ -2,7 +2,7 @@
 """Makes small jobs that ask for much work, and times programs on them.
 
     python3 bench/hostile.py FOLDER [PCLMIN PLAIN]
-    python3 bench/hostile.py --shrink FOLDER PCLMIN
+    python3 bench/hostile.py --shrink FOLDER PCLMIN [PAGES]
     python3 bench/hostile.py --commands FOLDER PCLMIN
 
 glyph.pcl       the largest character, printed 2,000 times at one place by a run of text, from the page's left edge on
@@ -26,9 +26,9 @@ Without programs it only makes the jobs. PCLMIN is the program of this repositor
 With --commands it makes jobs of one kind of command each, the dearest that are known, and prints the processor's seconds that `pbm` and
 `min` take for 1 MB of these commands: of those that take longest for 20 KB, in proportion.
 
-With --shrink it makes jobs of 256 pages by macros, for 300 and for 600 dots per inch, and prints what `min` and `shrink` take of each: the
-processor's seconds of one run, the peak memory that GNU time tells, and the bytes that are written. The status is 1 where `shrink` takes
-more than FACTORS times what `min` does.
+With --shrink it makes jobs of 256 pages by macros, or of PAGES, for 300 and for 600 dots per inch, and prints what `min` and `shrink` take
+of each, without options and by the drivers' profile: the processor's seconds, of one run or of as many as take a second, the peak memory
+that GNU time tells, and the bytes that are written. The status is 1 where `shrink` takes more than FACTORS times what `min` does.
 
 checkerboard    black and white dots in turn
 random_dots     1,000 rows of random dots, again and again
@@ -36,6 +36,8 @@ thin            the same with one dot in eight black
 squares         random squares of four dots
 unlike          48 large shapes on each page, each with a dot that no other has there
 small           shapes of twelve rows by the ten thousands, which hang together in none but small groups
+cells           as many of them apart from each other, each whole
+few_cells       a third of these, few enough for letters
 stripes         a stripe of four dots for each eight, down the page
 dots            a single dot for each eight dots of each second row
 letters         two letters on each page
@@ -190,11 +192,11 @@ def defined(number, body):
     return b"\x1b&f%dy0X" % number + body + b"\x1b&f1X"
 
 
-def pages(dpi, rows, times):
-    """256 pages that each send some rows so often."""
+def pages(dpi, rows, times, count):
+    """That many pages that each send some rows so often."""
     start = b"\x1b*p0x0Y\x1b*t%dR\x1b*r0F\x1b*r1A\x1b&f1y" % dpi
     page = defined(2, start + (times - 1) * b"2x" + b"2X\x1b*rC\x0c")
-    return b"\x1b&l0E" + defined(1, rows) + page + b"\x1b&f2y" + 255 * b"3x" + b"3X"
+    return b"\x1b&l0E" + defined(1, rows) + page + b"\x1b&f2y" + (count - 1) * b"3x" + b"3X"
 
 
 def equal_bytes(byte, count):
@@ -207,34 +209,34 @@ def plain_rows(rows):
     return b"".join(b"\x1b*b%dW" % len(row) + bytes(row) for row in rows)
 
 
-def checkerboard(dpi):
-    return pages(dpi, 33 * (equal_bytes(0xAA, dpi) + equal_bytes(0x55, dpi)), dpi // 6)
+def checkerboard(dpi, count):
+    return pages(dpi, 33 * (equal_bytes(0xAA, dpi) + equal_bytes(0x55, dpi)), dpi // 6, count)
 
 
-def random_dots(dpi):
+def random_dots(dpi, count):
     source = random.Random(1)
-    return pages(dpi, plain_rows(source.randbytes(dpi) for _ in range(1000)), dpi // 100)
+    return pages(dpi, plain_rows(source.randbytes(dpi) for _ in range(1000)), dpi // 100, count)
 
 
-def thin(dpi):
+def thin(dpi, count):
     source = random.Random(1)
     draws = (zip(source.randbytes(dpi), source.randbytes(dpi), source.randbytes(dpi)) for _ in range(1000))
-    return pages(dpi, plain_rows(bytes(one & two & three for one, two, three in row) for row in draws), dpi // 100)
+    return pages(dpi, plain_rows(bytes(one & two & three for one, two, three in row) for row in draws), dpi // 100, count)
 
 
-def squares(dpi):
+def squares(dpi, count):
     source, row_of = random.Random(9), {0: 0x00, 1: 0x0F, 2: 0xF0, 3: 0xFF}
     rows = (plain_rows([bytes(row_of[source.randrange(4)] for _ in range(dpi))]) for _ in range(250))
-    return pages(dpi, b"".join(row + 3 * b"\x1b*b3m0W" + b"\x1b*b0M" for row in rows), dpi // 100)
+    return pages(dpi, b"".join(row + 3 * b"\x1b*b3m0W" + b"\x1b*b0M" for row in rows), dpi // 100, count)
 
 
-def unlike(dpi):
+def unlike(dpi, count):
     source, scale = random.Random(5), dpi // 300
     side = 380 * scale
     bars = 44 * (b"\x1b*p+%dY\x1b*c%da2b0P" % (8 * scale, side))
     frame = b"\x1b&f0S\x1b*c4a%db0P\x1b*c%da2b0P" % (side, side) + bars + b"\x1b&f1S"
     job = b"\x1b&l0E" + defined(1, frame) + b"\x1b&u%dD" % dpi
-    for place in range(256 * 48):
+    for place in range(count * 48):
         corner = place % 6 * 400 * scale, place // 6 % 8 * 400 * scale
         spot = source.randrange(10, side - 4), source.randrange(4, side - 4)
         job += b"\x1b*p%dx%dY\x1b&f1y2X\x1b*p+%dx+%dY\x1b*c3a3b0P" % (corner + spot)
@@ -242,60 +244,89 @@ def unlike(dpi):
     return job
 
 
-def small(dpi):
+def small(dpi, count):
     source, rows = random.Random(3), []
     for place in range(900):
         row = bytearray(dpi)
         if place % 15 < 12:
             row[::2] = bytes(source.getrandbits(8) | 0x18 for _ in range(dpi // 2))
         rows.append(row)
-    return pages(dpi, plain_rows(rows), 11 * dpi // 900 + 1)
+    return pages(dpi, plain_rows(rows), 11 * dpi // 900 + 1, count)
 
 
-def stripes(dpi):
-    return pages(dpi, equal_bytes(0xF0, dpi) + b"\x1b*b3M\x1b*b" + 98 * b"w" + b"W", 11 * dpi // 100)
+def cell_row(source):
+    """A row of a cell: a run of dots around the two in its middle."""
+    return 0xFF >> source.randrange(4) & 0xFF << source.randrange(4) & 0xFF
 
 
-def dots(dpi):
-    return pages(dpi, 50 * (equal_bytes(0x80, dpi) + b"\x1b*bW"), 11 * dpi // 100)
+def cells(dpi, count, share=1.0):
+    """Cells of twelve rows and a byte in each second byte, or in a share of these."""
+    source, rows = random.Random(3), []
+    for _ in range(60):
+        used = [place for place in range(0, dpi, 2) if source.random() < share]
+        band = [bytearray(dpi) for _ in range(15)]
+        for row in band[:12]:
+            for place in used:
+                row[place] = cell_row(source)
+        rows += band
+    return pages(dpi, plain_rows(rows), 11 * dpi // 900 + 1, count)
 
 
-def letters(dpi):
+def few_cells(dpi, count):
+    return cells(dpi, count, 1 / 3)
+
+
+def stripes(dpi, count):
+    return pages(dpi, equal_bytes(0xF0, dpi) + b"\x1b*b3M\x1b*b" + 98 * b"w" + b"W", 11 * dpi // 100, count)
+
+
+def dots(dpi, count):
+    return pages(dpi, 50 * (equal_bytes(0x80, dpi) + b"\x1b*bW"), 11 * dpi // 100, count)
+
+
+def letters(dpi, count):
     letter = b"\x1b*t%dR\x1b*r1A" % dpi + plain_rows([63, 8 * row % 256] for row in range(24)) + b"\x1b*rC"
     page = b"\x1b*p300x3000Y" + letter + b"\x1b*p600x300Y" + letter + b"\x0c"
-    return b"\x1b&l0E" + defined(1, page) + b"\x1b&f1y" + 255 * b"3x" + b"3X"
+    return b"\x1b&l0E" + defined(1, page) + b"\x1b&f1y" + (count - 1) * b"3x" + b"3X"
 
 
-PAGES = [checkerboard, random_dots, thin, squares, unlike, small, stripes, dots, letters]
+PAGES = [checkerboard, random_dots, thin, squares, unlike, small, cells, few_cells, stripes, dots, letters]
 FACTORS = 4, 2
 
 
-def taken(program, how, path, dpi):
-    """The processor's seconds and the bytes of memory of a run, and the bytes that it writes. What printers read otherwise is shrunk too."""
-    out = path.with_suffix("." + how)
-    readers = ["--profile-only"] if how == "shrink" else []
-    command = ["/usr/bin/time", "-f", "%U %S %M", program, how, *readers, "--dpi", str(dpi), "-o", out, path]
-    told = subprocess.run(command, stderr=subprocess.PIPE, text=True, check=True).stderr.splitlines()[-1]
-    user, system, kilobytes = told.split()
+def taken(program, how, path, dpi, *options):
+    """The processor's seconds and the bytes of memory of a run, and the bytes that it writes: the mean of as many runs as take a second."""
+    out, runs = path.with_suffix("." + how), []
+    command = ["/usr/bin/time", "-f", "%U %S %M", program, how, *options, "--dpi", str(dpi), "-o", out, path]
+    while not runs or sum(seconds for seconds, _ in runs) < 1 and len(runs) < 20:
+        told = subprocess.run(command, stderr=subprocess.PIPE, text=True, check=True).stderr.splitlines()[-1]
+        user, system, kilobytes = told.split()
+        runs.append((float(user) + float(system), 1024 * int(kilobytes)))
     written = out.stat().st_size
     out.unlink()
-    return float(user) + float(system), 1024 * int(kilobytes), written
+    return sum(seconds for seconds, _ in runs) / len(runs), max(memory for _, memory in runs), written
 
 
-def shrunk(folder, program):
+# What printers read otherwise is shrunk too.
+WAYS = {"": ["--profile-only"], "--drivers": ["--profile-only", "--drivers"]}
+
+
+def shrunk(folder, program, count=256):
     """Prints the table of `min` and `shrink`, and gives the status."""
     status = 0
-    print("| Job | dpi | Bytes | `min`, s | MB | bytes | `shrink`, s | MB | bytes | Time | Memory |\n|---|" + 10 * "---:|")
+    print("| Job | dpi | Bytes | `min`, s | MB | bytes | `shrink` | s | MB | bytes | Time | Memory |\n|---|" + 11 * "---:|")
     for make in PAGES:
         for dpi in (300, 600):
             path = folder / f"{make.__name__}-{dpi}.pcl"
-            path.write_bytes(make(dpi))
-            least, best = (taken(program, how, path, dpi) for how in ("min", "shrink"))
-            factors = best[0] / max(least[0], 0.01), best[1] / least[1]
-            status |= factors[0] > FACTORS[0] or factors[1] > FACTORS[1]
-            cells = [f"{seconds:.1f} | {memory / 1e6:.0f} | {written:,}" for seconds, memory, written in (least, best)]
-            sizes = f"{path.stat().st_size:,} | {cells[0]} | {cells[1]}"
-            print(f"| `{make.__name__}` | {dpi} | {sizes} | {factors[0]:.1f} | {factors[1]:.1f} |", flush=True)
+            path.write_bytes(make(dpi, int(count)))
+            least = taken(program, "min", path, dpi)
+            for name, options in WAYS.items():
+                best = taken(program, "shrink", path, dpi, *options)
+                factors = best[0] / max(least[0], 0.001), best[1] / least[1]
+                status |= factors[0] > FACTORS[0] or factors[1] > FACTORS[1]
+                figures = [f"{seconds:.2f} | {memory / 1e6:.0f} | {written:,}" for seconds, memory, written in (least, best)]
+                sizes = f"{path.stat().st_size:,} | {figures[0]} | {name} | {figures[1]}"
+                print(f"| `{make.__name__}` | {dpi} | {sizes} | {factors[0]:.1f} | {factors[1]:.1f} |", flush=True)
     return int(status)
 
 
