@@ -1,8 +1,10 @@
 //! What of a job goes as letters and as rules, and how.
 
 use crate::character_writing::CharacterWriter;
-use crate::macro_writing::MacroWriter;
-use crate::rule_writing::RulePen;
+use crate::macro_writing::{MacroWriter, free_id};
+use crate::repeats::Repeats;
+use crate::rule_writing::{FIRST_ID, RulePen};
+use crate::series::SERIES_MACROS;
 use glyph_fonts::{FontLayout, append_fonts, append_unit, lay_out};
 use glyph_letters::find_letters;
 use glyph_macros::{MacroLayout, append_definitions, append_settings, lay_out_macros};
@@ -69,6 +71,18 @@ impl Lettering {
                 Lettered::Characters(layout) => layout.letters.letters.is_empty(),
                 Lettered::Macros(layout) => layout.letters.letters.is_empty(),
             }
+    }
+
+    /// What repeats in pages with these letters, before the first page. The rules have the IDs above. Macros of letters are three deep, so
+    /// no other runs them.
+    pub fn repeats(&self, alloc: Global) -> Repeats {
+        let rules = u32::try_from(SERIES_MACROS).unwrap_or(0);
+        match &self.letters {
+            Lettered::Characters(_) => Repeats::new(alloc, FIRST_ID.saturating_sub(rules), true),
+            Lettered::Macros(layout) => {
+                Repeats::new(alloc, free_id(layout).saturating_sub(rules), false)
+            }
+        }
     }
 
     /// Appends what is sent before pages with letters: the fonts or the macros. A reset deletes them.

@@ -85,7 +85,7 @@ impl<'a> MacroWriter<'a> {
 }
 
 /// The highest ID that no macro of a layout has: they go down from the first.
-fn free_id(layout: &MacroLayout) -> u32 {
+pub fn free_id(layout: &MacroLayout) -> u32 {
     let count = u32::try_from(layout.plan.macros.uses.len()).unwrap_or(0);
     FIRST_ID.saturating_sub(count)
 }

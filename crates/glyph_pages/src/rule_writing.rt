@@ -1,6 +1,6 @@
 //! Rules written as rectangles (PCL 5 manual, "Rectangular Area Fills").
 
-use crate::series::RulesLeft;
+use crate::series::{RulesLeft, SeriesMacros};
 use glyph_patterns::{append_labelled, digit_count};
 use glyph_shapes::{Rule, count_beside};
 use std::alloc::{AllocError, Global};
@@ -11,11 +11,13 @@ pub const FIRST_ID: u32 = 32_767;
 /// About how many bytes a rectangle takes.
 const RECTANGLE_BYTES: u32 = 14;
 
-/// The size of the next rectangle that the printer holds, in dots.
+/// What the printer holds for rules.
 #[derive(Clone, Copy)]
 pub struct RulePen {
+    /// The size of the next rectangle, in dots.
     width: u32,
     height: u32,
+    macros: SeriesMacros,
 }
 
 impl RulePen {
@@ -24,12 +26,13 @@ impl RulePen {
         RulePen {
             width: 0,
             height: 0,
+            macros: SeriesMacros::new(),
         }
     }
 }
 
 /// Appends the rules of a page, where the PCL unit is a dot: for each a move, and the rectangle with what of its size isn't set yet. A
-/// series of rules is one rule and a macro of this ID, which is run for each of the others.
+/// series of rules is one rule and a macro, of this ID or one below it, which is run for each of the others.
 pub fn append_rules(
     alloc: Global,
     rules: &[Rule],
@@ -39,17 +42,16 @@ pub fn append_rules(
 ) -> Result<RulePen, AllocError> {
     let mut left = RulesLeft::new(alloc, rules)?;
     let mut pen = pen;
+    pen.macros = pen.macros.on_page();
     let mut before = None;
-    let mut defined = None;
     for (place, rule) in rules.iter().enumerate() {
         if left.take(place) {
             append_move(rule, before, out)?;
             pen = append_rectangle(rule, pen, out)?;
             before = Some(*rule);
-            if let Some(series) = left.longest_series(*rule, place, defined) {
-                series.append(defined, id, out)?;
+            if let Some(series) = left.longest_series(*rule, place, pen.macros) {
+                pen.macros = series.append(pen.macros, id, out)?;
                 before = Some(left.take_series(*rule, series));
-                defined = Some(series.step);
             }
         }
     }
@@ -102,6 +104,7 @@ fn append_rectangle(rule: &Rule, pen: RulePen, out: &mut Vec<u8>) -> Result<Rule
     Ok(RulePen {
         width: rule.width,
         height: rule.height,
+        macros: pen.macros,
     })
 }
 

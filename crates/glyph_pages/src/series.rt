@@ -10,12 +10,18 @@ const DEFINITION_BYTES: usize = 28;
 /// The bytes that start its runs.
 const START_BYTES: usize = 3;
 
+/// About how many bytes it takes to set its ID.
+const ID_BYTES: usize = 6;
+
 /// About how many bytes a run saves: a move and a rectangle are eleven, a run two.
 const SAVED_BYTES: usize = 9;
 
 /// This many rules after one are looked at for the second of its series. Lines whose distance is no whole number of dots are two or three
 /// series in one another.
 const AHEAD: usize = 8;
+
+/// How many macros series have at a time.
+pub const SERIES_MACROS: usize = 8;
 
 /// How far right and down of a rule the next one of its series stands, in dots.
 #[derive(Clone, Copy, PartialEq, Eq)]
@@ -70,32 +76,91 @@ pub struct Series {
 }
 
 impl Series {
-    /// How many bytes it saves, where the macro that is defined makes this step: none if it saves none.
-    fn saved(self, defined: Option<SeriesStep>) -> Option<usize> {
-        let definition = if defined == Some(self.step) {
-            0
-        } else {
-            DEFINITION_BYTES
+    /// How many bytes it saves, where the printer holds these macros: none if it saves none.
+    fn saved(self, macros: SeriesMacros) -> Option<usize> {
+        let definition = match macros.place_of(self.step) {
+            None => DEFINITION_BYTES,
+            place if place == macros.set => 0,
+            _ => ID_BYTES,
         };
         let saved = self.count.saturating_mul(SAVED_BYTES);
         saved.checked_sub(definition.saturating_add(START_BYTES))
     }
 
-    /// Appends the macro of this ID, unless it is defined so, and its runs.
+    /// Appends its runs, and before them its macro, unless the printer holds it. Macros have this ID and those below it. Gives the macros
+    /// that the printer holds then.
     pub fn append(
         self,
-        defined: Option<SeriesStep>,
-        id: u32,
+        macros: SeriesMacros,
+        first_id: u32,
         out: &mut Vec<u8>,
-    ) -> Result<(), AllocError> {
-        if defined != Some(self.step) {
-            append_definition(self.step, id, out)?;
+    ) -> Result<SeriesMacros, AllocError> {
+        let mut macros = macros;
+        let place = macros.place_of(self.step);
+        if place.is_none() {
+            macros.hold(self.step);
+            append_definition(self.step, macros.set_id(first_id), out)?;
         }
         out.extend_from_slice(b"\x1b&f")?;
+        if place.is_some() && place != macros.set {
+            macros.set = place;
+            append_labelled(b"", macros.set_id(first_id), out)?;
+            out.extend_from_slice(b"y")?;
+        }
         for _ in 1..self.count {
             out.extend_from_slice(b"2x")?;
         }
-        out.extend_from_slice(b"2X")
+        out.extend_from_slice(b"2X")?;
+        Ok(macros)
+    }
+}
+
+/// The macros of series that the printer holds.
+#[derive(Clone, Copy)]
+pub struct SeriesMacros {
+    /// The step that each makes.
+    steps: [Option<SeriesStep>; SERIES_MACROS],
+    /// The place of the one whose ID is set, if one's is.
+    set: Option<usize>,
+    /// The place of the one that is defined next.
+    next: usize,
+}
+
+impl SeriesMacros {
+    /// After a reset.
+    pub fn new() -> SeriesMacros {
+        SeriesMacros {
+            steps: [None; SERIES_MACROS],
+            set: None,
+            next: 0,
+        }
+    }
+
+    /// At the start of a page, where the ID of another macro may be set.
+    pub fn on_page(self) -> SeriesMacros {
+        let mut macros = self;
+        macros.set = None;
+        macros
+    }
+
+    /// The place of the macro that makes a step, if there is one.
+    fn place_of(self, step: SeriesStep) -> Option<usize> {
+        self.steps.iter().position(|made| *made == Some(step))
+    }
+
+    /// Holds a macro that makes a step, in place of the oldest one, and its ID is set.
+    fn hold(&mut self, step: SeriesStep) {
+        if let Some(oldest) = self.steps.get_mut(self.next) {
+            *oldest = Some(step);
+        }
+        self.set = Some(self.next);
+        self.next = self.next.saturating_add(1) % SERIES_MACROS;
+    }
+
+    /// The ID that is set, of those from this one down.
+    fn set_id(self, first_id: u32) -> u32 {
+        let place = self.set.unwrap_or(0);
+        first_id.saturating_sub(u32::try_from(place).unwrap_or(0))
     }
 }
 
@@ -144,18 +209,13 @@ impl<'a> RulesLeft<'a> {
     }
 
     /// The series of rules that are left that saves the most after a rule, whose place this is, if one saves any.
-    pub fn longest_series(
-        &self,
-        rule: Rule,
-        place: usize,
-        defined: Option<SeriesStep>,
-    ) -> Option<Series> {
+    pub fn longest_series(&self, rule: Rule, place: usize, macros: SeriesMacros) -> Option<Series> {
         let mut longest = None;
         let mut most: usize = 0;
         let start = place.saturating_add(1);
         for next in start..start.saturating_add(AHEAD) {
             if let Some(series) = self.series_to(rule, next) {
-                let saved = series.saved(defined).unwrap_or(0);
+                let saved = series.saved(macros).unwrap_or(0);
                 if saved > most {
                     most = saved;
                     longest = Some(series);
