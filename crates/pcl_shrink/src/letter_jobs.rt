@@ -5,10 +5,11 @@ use crate::proposals::says_length;
 use crate::reading::ReadJob;
 use crate::shifts::{Shift, shift_at};
 use crate::watching::{Pass, ShrinkWatcher};
-use glyph_pages::{END_RASTER, Lettering, PageWriter};
+use glyph_pages::{END_RASTER, Lettering, PageWriter, Repeats};
 use pcl_base::JobFault;
 use pcl_page::{Asks, Page, PageSink, perform_by};
 use std::alloc::AllocError;
+use std::hash::{FoldHasher, Hasher};
 use std::marker::Model;
 
 /// A proposal of a smaller job with the same pages, which asks for what a job asks for, with these letters as soft fonts or as macros
@@ -47,12 +48,16 @@ struct LetterWriter<'a, 'b, P> {
     texts: &'b [Vec<u8>],
     lettering: &'b Lettering,
     writer: PageWriter<'b>,
+    /// What repeats in the pages since a reset.
+    repeats: Repeats,
     /// How many pages came.
     pages: usize,
     /// How many of them came before the stretch.
     first: usize,
-    /// How many bytes the stretch takes without letters.
+    /// How many bytes the stretch takes without letters, at least: a page that was there since a reset counts none.
     plain: usize,
+    /// Hashes of the texts of the pages since that reset.
+    known: Vec<u64>,
     /// Where the stretch begins in what is written.
     place: usize,
     /// Whether a reset stands within it.
@@ -85,9 +90,11 @@ impl<'a, 'b, P: ShrinkWatcher> LetterWriter<'a, 'b, P> {
             texts,
             lettering,
             writer: PageWriter::new(lettering, says_length(asks)),
+            repeats: lettering.repeats(source.alloc),
             pages: 0,
             first: 0,
             plain: 0,
+            known: Vec::new(source.alloc),
             place: 0,
             spans_reset: false,
             has_letters: false,
@@ -101,6 +108,7 @@ impl<'a, 'b, P: ShrinkWatcher> LetterWriter<'a, 'b, P> {
     /// Gives up where the stretch, with letters and without, makes what is written too long.
     fn give_up_if_too_long(&mut self) {
         let stretch = self.out.len().saturating_sub(self.place);
+        let stretch = stretch.saturating_sub(self.repeats.most_saved());
         if self.place.saturating_add(stretch.min(self.plain)) >= self.limit {
             self.out = Vec::new(*self.out.allocator());
             self.is_too_long = true;
@@ -116,6 +124,9 @@ impl<'a, 'b, P: ShrinkWatcher> LetterWriter<'a, 'b, P> {
         let mut start = Vec::new(*self.out.allocator());
         let is_reset = append_page_start(self.asks, self.pages, &mut start)?;
         self.plain = self.plain.saturating_add(start.len());
+        if is_reset {
+            self.repeats.end(&mut self.out)?;
+        }
         self.out.extend_from_slice(&start)?;
         if starts {
             self.spans_reset = spans_reset(self.asks, self.pages);
@@ -125,6 +136,7 @@ impl<'a, 'b, P: ShrinkWatcher> LetterWriter<'a, 'b, P> {
         }
         if is_reset {
             self.writer.restart();
+            self.known.clear();
         }
         Ok(())
     }
@@ -141,14 +153,14 @@ impl<'a, 'b, P: ShrinkWatcher> LetterWriter<'a, 'b, P> {
 
     /// Ends the stretch, which stays as it is written where that is shorter than without letters.
     fn end_stretch(&mut self) -> Result<(), AllocError> {
+        self.repeats.end(&mut self.out)?;
         if self.spans_reset {
             self.lettering.append_deletion(&mut self.out)?;
         }
         if self.out.len().saturating_sub(self.place) < self.plain {
             self.has_letters = true;
         } else {
-            self.out.truncate(self.place);
-            self.append_plain()?;
+            self.take_plain_if_shorter()?;
         }
         self.first = self.pages;
         self.plain = 0;
@@ -157,15 +169,33 @@ impl<'a, 'b, P: ShrinkWatcher> LetterWriter<'a, 'b, P> {
         Ok(())
     }
 
+    /// Leaves the stretch as it is written where that is shorter than without letters.
+    fn take_plain_if_shorter(&mut self) -> Result<(), AllocError> {
+        let lettered = self.out.split_off(self.place.min(self.out.len()))?;
+        self.append_plain()?;
+        let plain = self.out.len().saturating_sub(self.place);
+        if lettered.len() < plain {
+            self.has_letters = true;
+            self.out.truncate(self.place);
+            self.out.extend_from_slice(&lettered)?;
+        }
+        Ok(())
+    }
+
     /// Appends the pages of the stretch without letters.
     fn append_plain(&mut self) -> Result<(), AllocError> {
         for (number, text) in self.texts.iter().enumerate() {
             if self.first <= number && number < self.pages {
-                append_page_start(self.asks, number, &mut self.out)?;
+                let is_reset = append_page_start(self.asks, number, &mut self.out)?;
+                if is_reset {
+                    self.repeats.end(&mut self.out)?;
+                }
+                let place = self.out.len();
                 append_page_text(self.asks, number, text, &mut self.out)?;
+                self.repeats.add_page(&self.out, place)?;
             }
         }
-        Ok(())
+        self.repeats.end(&mut self.out)
     }
 
     /// The job with the pages that came: none where no stretch has letters, or where it is too long.
@@ -200,20 +230,41 @@ impl<'a, 'b, P: ShrinkWatcher> LetterWriter<'a, 'b, P> {
         }
     }
 
+    /// Whether no page since the last reset has this text without letters. From here on one has it.
+    fn is_new(&mut self, text: &[u8]) -> Result<bool, AllocError> {
+        let hash = hash_of(text);
+        if self.known.contains(&hash) {
+            return Ok(false);
+        }
+        self.known.push(hash)?;
+        Ok(true)
+    }
+
     /// Appends a page, of which this is a text without letters.
     fn append_page(&mut self, page: &Page, text: &[u8]) -> Result<(), AllocError> {
         self.begin_page()?;
         let mut written = Vec::new(*self.out.allocator());
         append_page_text(self.asks, self.pages, text, &mut written)?;
-        self.plain = self.plain.saturating_add(written.len());
+        if self.is_new(text)? {
+            self.plain = self.plain.saturating_add(written.len());
+        }
         written.clear();
         self.writer.append_page(page, text, &mut written)?;
+        let place = self.out.len();
         self.append_written(&written, text)?;
+        self.repeats.add_page(&self.out, place)?;
         self.pages = self.pages.saturating_add(1);
         self.watcher.pages_passed(Pass::Write, self.pages);
         self.give_up_if_too_long();
         Ok(())
     }
+}
+
+/// A hash of a text.
+fn hash_of(text: &[u8]) -> u64 {
+    let mut hasher = FoldHasher::default();
+    hasher.write(text);
+    hasher.finish()
 }
 
 /// What ends the start of a page text: no top margin.
