@@ -11,6 +11,9 @@ use std::alloc::{AllocError, Global};
 use std::hash::{FoldHasher, Hasher};
 use std::mem::swap;
 
+/// What macros save counts up to this many bytes: pages that repeat more are sent by macros already, or take no more than they did.
+const MOST_SAVED: usize = 1_048_576;
+
 /// What is known of the pages since a reset.
 #[derive(Drop)]
 pub struct Repeats {
@@ -43,9 +46,9 @@ impl Repeats {
         }
     }
 
-    /// How many bytes macros may save at most, of the pages that were added.
+    /// How many bytes macros may save at most, of the pages that were added, as far as they count.
     pub fn most_saved(&self) -> usize {
-        self.repeated
+        self.repeated.min(MOST_SAVED)
     }
 
     /// Adds a page, whose text is what is written from this place on. What stands between pages stays there.
@@ -75,7 +78,7 @@ impl Repeats {
             return self.passages.add(segment.start, len, true);
         }
         let bytes = pages.get(segment.start..segment.end).unwrap_or(&[]);
-        let hash = hash_of(bytes);
+        let hash = text_hash(bytes);
         match self.known.get(&hash) {
             Some(number) if self.passages.bytes(*number, pages) == bytes => {
                 self.repeated = self.repeated.saturating_add(len);
@@ -113,8 +116,8 @@ impl Repeats {
     }
 }
 
-/// A hash of some bytes.
-fn hash_of(bytes: &[u8]) -> u64 {
+/// A hash of a text.
+pub fn text_hash(bytes: &[u8]) -> u64 {
     let mut hasher = FoldHasher::default();
     hasher.write(bytes);
     hasher.finish()

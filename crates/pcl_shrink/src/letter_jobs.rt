@@ -5,11 +5,10 @@ use crate::proposals::says_length;
 use crate::reading::ReadJob;
 use crate::shifts::{Shift, shift_at};
 use crate::watching::{Pass, ShrinkWatcher};
-use glyph_pages::{END_RASTER, Lettering, PageWriter, Repeats};
+use glyph_pages::{END_RASTER, Lettering, PageWriter, Repeats, text_hash};
 use pcl_base::JobFault;
 use pcl_page::{Asks, Page, PageSink, perform_by};
 use std::alloc::AllocError;
-use std::hash::{FoldHasher, Hasher};
 use std::marker::Model;
 
 /// A proposal of a smaller job with the same pages, which asks for what a job asks for, with these letters as soft fonts or as macros
@@ -232,7 +231,7 @@ impl<'a, 'b, P: ShrinkWatcher> LetterWriter<'a, 'b, P> {
 
     /// Whether no page since the last reset has this text without letters. From here on one has it.
     fn is_new(&mut self, text: &[u8]) -> Result<bool, AllocError> {
-        let hash = hash_of(text);
+        let hash = text_hash(text);
         if self.known.contains(&hash) {
             return Ok(false);
         }
@@ -258,13 +257,6 @@ impl<'a, 'b, P: ShrinkWatcher> LetterWriter<'a, 'b, P> {
         self.give_up_if_too_long();
         Ok(())
     }
-}
-
-/// A hash of a text.
-fn hash_of(text: &[u8]) -> u64 {
-    let mut hasher = FoldHasher::default();
-    hasher.write(text);
-    hasher.finish()
 }
 
 /// What ends the start of a page text: no top margin.
