@@ -27,7 +27,7 @@ With --commands it makes jobs of one kind of command each, the dearest that are 
 `min` take for 1 MB of these commands: of those that take longest for 20 KB, in proportion.
 
 With --shrink it makes jobs of 256 pages by macros, or of PAGES, for 300 and for 600 dots per inch, and prints what `min` and `shrink` take
-of each, without options and by the drivers' profile: the processor's seconds, of one run or of as many as take a second, the peak memory
+of each, without options and by the drivers' profile: the processor's seconds, the least of as many runs as take a second, the peak memory
 that GNU time tells, and the bytes that are written. The status is 1 where `shrink` takes more than FACTORS times what `min` does.
 
 checkerboard    black and white dots in turn
@@ -43,6 +43,7 @@ dots            a single dot for each eight dots of each second row
 letters         two letters on each page
 """
 
+import os
 import random
 import subprocess
 import sys
@@ -295,16 +296,20 @@ FACTORS = 4, 2
 
 
 def taken(program, how, path, dpi, *options):
-    """The processor's seconds and the bytes of memory of a run, and the bytes that it writes: the mean of as many runs as take a second."""
+    """The processor's seconds and the bytes of memory of a run, and the bytes that it writes: the least time of as many runs as take a
+    second. The memory is what GNU time tells, since what a child held before it was the program counts for this script."""
     out, runs = path.with_suffix("." + how), []
-    command = ["/usr/bin/time", "-f", "%U %S %M", program, how, *options, "--dpi", str(dpi), "-o", out, path]
-    while not runs or sum(seconds for seconds, _ in runs) < 1 and len(runs) < 20:
-        told = subprocess.run(command, stderr=subprocess.PIPE, text=True, check=True).stderr.splitlines()[-1]
-        user, system, kilobytes = told.split()
-        runs.append((float(user) + float(system), 1024 * int(kilobytes)))
+    command = ["/usr/bin/time", "-f", "%M", program, how, *options, "--dpi", str(dpi), "-o", out, path]
+    while not runs or sum(seconds for seconds, _ in runs) < 1 and len(runs) < 9:
+        process = subprocess.Popen(command, stderr=subprocess.PIPE, text=True)
+        told = process.stderr.read().splitlines()
+        _, status, usage = os.wait4(process.pid, 0)
+        if status != 0:
+            sys.exit(f"{how} of {path.name} ends with status {os.waitstatus_to_exitcode(status)}")
+        runs.append((usage.ru_utime + usage.ru_stime, 1024 * int(told[-1])))
     written = out.stat().st_size
     out.unlink()
-    return sum(seconds for seconds, _ in runs) / len(runs), max(memory for _, memory in runs), written
+    return min(seconds for seconds, _ in runs), max(memory for _, memory in runs), written
 
 
 # What printers read otherwise is shrunk too.
@@ -324,7 +329,7 @@ def shrunk(folder, program, count=256):
                 best = taken(program, "shrink", path, dpi, *options)
                 factors = best[0] / max(least[0], 0.001), best[1] / least[1]
                 status |= factors[0] > FACTORS[0] or factors[1] > FACTORS[1]
-                figures = [f"{seconds:.2f} | {memory / 1e6:.0f} | {written:,}" for seconds, memory, written in (least, best)]
+                figures = [f"{seconds:.3f} | {memory / 1e6:.0f} | {written:,}" for seconds, memory, written in (least, best)]
                 sizes = f"{path.stat().st_size:,} | {figures[0]} | {name} | {figures[1]}"
                 print(f"| `{make.__name__}` | {dpi} | {sizes} | {factors[0]:.1f} | {factors[1]:.1f} |", flush=True)
     return int(status)

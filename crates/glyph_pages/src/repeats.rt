@@ -11,9 +11,6 @@ use std::alloc::{AllocError, Global};
 use std::hash::{FoldHasher, Hasher};
 use std::mem::swap;
 
-/// What macros save counts up to this many bytes: pages that repeat more are sent by macros already, or take no more than they did.
-const MOST_SAVED: usize = 1_048_576;
-
 /// What is known of the pages since a reset.
 #[derive(Drop)]
 pub struct Repeats {
@@ -28,8 +25,8 @@ pub struct Repeats {
     passages: Passages,
     /// Segments by their hashes, each as the number of a passage.
     known: IndexMap<u64, usize>,
-    /// How many bytes stand in segments that were known.
-    repeated: usize,
+    /// Whether a segment stands again.
+    has_any: bool,
 }
 
 impl Repeats {
@@ -42,13 +39,8 @@ impl Repeats {
             len: 0,
             passages: Passages::new(alloc),
             known: IndexMap::new(alloc),
-            repeated: 0,
+            has_any: false,
         }
-    }
-
-    /// How many bytes macros may save at most, of the pages that were added, as far as they count.
-    pub fn most_saved(&self) -> usize {
-        self.repeated.min(MOST_SAVED)
     }
 
     /// Adds a page, whose text is what is written from this place on. What stands between pages stays there.
@@ -81,7 +73,7 @@ impl Repeats {
         let hash = text_hash(bytes);
         match self.known.get(&hash) {
             Some(number) if self.passages.bytes(*number, pages) == bytes => {
-                self.repeated = self.repeated.saturating_add(len);
+                self.has_any = true;
                 self.passages.add_again(*number)
             }
             Some(_) => self.passages.add(segment.start, len, segment.has_macros),
@@ -102,10 +94,10 @@ impl Repeats {
             base,
             len,
             mut passages,
-            repeated,
+            has_any,
             ..
         } = found;
-        if repeated == 0 {
+        if !has_any {
             return Ok(());
         }
         passages.join(alloc)?;

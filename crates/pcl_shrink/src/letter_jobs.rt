@@ -53,7 +53,9 @@ struct LetterWriter<'a, 'b, P> {
     pages: usize,
     /// How many of them came before the stretch.
     first: usize,
-    /// How many bytes the stretch takes without letters, at least: a page that was there since a reset counts none.
+    /// How many bytes the stretch takes without letters, and without macros for what repeats.
+    whole: usize,
+    /// How many it takes without letters, at least: a page that was there since a reset counts none.
     plain: usize,
     /// Hashes of the texts of the pages since that reset.
     known: Vec<u64>,
@@ -92,6 +94,7 @@ impl<'a, 'b, P: ShrinkWatcher> LetterWriter<'a, 'b, P> {
             repeats: lettering.repeats(source.alloc),
             pages: 0,
             first: 0,
+            whole: 0,
             plain: 0,
             known: Vec::new(source.alloc),
             place: 0,
@@ -107,8 +110,7 @@ impl<'a, 'b, P: ShrinkWatcher> LetterWriter<'a, 'b, P> {
     /// Gives up where the stretch, with letters and without, makes what is written too long.
     fn give_up_if_too_long(&mut self) {
         let stretch = self.out.len().saturating_sub(self.place);
-        let stretch = stretch.saturating_sub(self.repeats.most_saved());
-        if self.place.saturating_add(stretch.min(self.plain)) >= self.limit {
+        if self.place.saturating_add(stretch.min(self.whole)) >= self.limit {
             self.out = Vec::new(*self.out.allocator());
             self.is_too_long = true;
         }
@@ -122,6 +124,7 @@ impl<'a, 'b, P: ShrinkWatcher> LetterWriter<'a, 'b, P> {
         }
         let mut start = Vec::new(*self.out.allocator());
         let is_reset = append_page_start(self.asks, self.pages, &mut start)?;
+        self.whole = self.whole.saturating_add(start.len());
         self.plain = self.plain.saturating_add(start.len());
         if is_reset {
             self.repeats.end(&mut self.out)?;
@@ -162,6 +165,7 @@ impl<'a, 'b, P: ShrinkWatcher> LetterWriter<'a, 'b, P> {
             self.take_plain_if_shorter()?;
         }
         self.first = self.pages;
+        self.whole = 0;
         self.plain = 0;
         self.place = self.out.len();
         self.spans_reset = false;
@@ -244,6 +248,7 @@ impl<'a, 'b, P: ShrinkWatcher> LetterWriter<'a, 'b, P> {
         self.begin_page()?;
         let mut written = Vec::new(*self.out.allocator());
         append_page_text(self.asks, self.pages, text, &mut written)?;
+        self.whole = self.whole.saturating_add(written.len());
         if self.is_new(text)? {
             self.plain = self.plain.saturating_add(written.len());
         }

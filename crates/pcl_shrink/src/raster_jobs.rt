@@ -42,13 +42,16 @@ pub fn asked_len(alloc: Global, asks: &Asks<'_>, texts: &[Text]) -> Result<usize
 }
 
 /// The same as `asked_job` with any texts of the pages, each of which is dropped once it is appended, and with what repeats as macros:
-/// none where that has this many bytes or more.
+/// none where that, or the texts, have this many bytes or more.
 pub fn plain_job(
     alloc: Global,
     asks: &Asks<'_>,
     texts: Vec<Vec<u8>>,
     limit: usize,
 ) -> Result<Option<Vec<u8>>, AllocError> {
+    if total_len(&texts) >= limit {
+        return Ok(None);
+    }
     let pages = texts.len();
     let mut out = Vec::new(alloc);
     let mut repeats = Repeats::new(alloc, FIRST_ID, false);
@@ -59,11 +62,17 @@ pub fn plain_job(
         let place = out.len();
         append_page_text(asks, number, &text, &mut out)?;
         repeats.add_page(&out, place)?;
-        if out.len().saturating_sub(repeats.most_saved()) >= limit {
-            return Ok(None);
-        }
     }
     repeats.end(&mut out)?;
     append_end(asks, pages, &mut out)?;
     Ok((out.len() < limit).then_some(out))
+}
+
+/// How many bytes some texts have together.
+fn total_len(texts: &[Vec<u8>]) -> usize {
+    let mut len: usize = 0;
+    for text in texts {
+        len = len.saturating_add(text.len());
+    }
+    len
 }
