@@ -2,6 +2,7 @@
 
 use crate::asking::{append_end, append_page_start, append_page_text};
 use crate::proposals::says_length;
+use crate::raster_jobs::REPEATED_BYTES;
 use crate::reading::ReadJob;
 use crate::shifts::{Shift, shift_at};
 use crate::watching::{Pass, ShrinkWatcher};
@@ -67,7 +68,7 @@ struct LetterWriter<'a, 'b, P> {
     has_letters: bool,
     /// What is written, with the stretch after the letters.
     out: Vec<u8>,
-    /// With this many bytes what is written is too long.
+    /// With this many bytes what is written is too long, but for what may repeat in it.
     limit: usize,
     /// Whether it is: then nothing of it is left, and no more is written.
     is_too_long: bool,
@@ -110,7 +111,8 @@ impl<'a, 'b, P: ShrinkWatcher> LetterWriter<'a, 'b, P> {
     /// Gives up where the stretch, with letters and without, makes what is written too long.
     fn give_up_if_too_long(&mut self) {
         let stretch = self.out.len().saturating_sub(self.place);
-        if self.place.saturating_add(stretch.min(self.whole)) >= self.limit {
+        let limit = self.limit.saturating_add(REPEATED_BYTES);
+        if self.place.saturating_add(stretch.min(self.whole)) >= limit {
             self.out = Vec::new(*self.out.allocator());
             self.is_too_long = true;
         }

@@ -41,15 +41,18 @@ pub fn asked_len(alloc: Global, asks: &Asks<'_>, texts: &[Text]) -> Result<usize
     Ok(len.saturating_add(around.len()))
 }
 
+/// So many bytes more than the job may a proposal have before what repeats in it goes as macros: more would take hostile jobs long.
+pub const REPEATED_BYTES: usize = 512;
+
 /// The same as `asked_job` with any texts of the pages, each of which is dropped once it is appended, and with what repeats as macros:
-/// none where that, or the texts, have this many bytes or more.
+/// none where that has this many bytes, or where the texts have far more.
 pub fn plain_job(
     alloc: Global,
     asks: &Asks<'_>,
     texts: Vec<Vec<u8>>,
     limit: usize,
 ) -> Result<Option<Vec<u8>>, AllocError> {
-    if total_len(&texts) >= limit {
+    if total_len(&texts) >= limit.saturating_add(REPEATED_BYTES) {
         return Ok(None);
     }
     let pages = texts.len();
