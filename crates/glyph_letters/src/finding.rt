@@ -12,7 +12,7 @@ const UNSURE_PART: usize = 5;
 
 /// The letters of a job of this many bytes: the shapes of patterns that are so frequent that they take fewer bytes so, some of them joined.
 /// None where all shapes take more bytes than the job, as those of a page that macros print again and again: then no job with letters is
-/// shorter.
+/// shorter. None either where they are more than the pages may have.
 pub fn find_letters(
     alloc: Global,
     collection: &mut Collection,
@@ -21,6 +21,9 @@ pub fn find_letters(
     let frequency = find_frequency(alloc, collection)?;
     let bytes = frequency.bytes_of_shapes(alloc, collection)?;
     if bytes.saturating_sub(bytes / UNSURE_PART) > job_bytes {
+        return Ok(Letters::new(alloc));
+    }
+    if frequency.letter_count(alloc, collection)? > collection.letter_room {
         return Ok(Letters::new(alloc));
     }
     let frequency = join_shapes(alloc, collection, frequency)?;

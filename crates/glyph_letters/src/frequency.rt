@@ -71,6 +71,21 @@ impl Frequency {
         Ok(bytes)
     }
 
+    /// How many shapes are letters.
+    pub fn letter_count(
+        &self,
+        alloc: Global,
+        collection: &Collection,
+    ) -> Result<usize, AllocError> {
+        let mut letters: usize = 0;
+        for (place, count) in count_uses(alloc, collection)?.iter().enumerate() {
+            if self.is_letter(number_of_place(place)) {
+                letters = letters.saturating_add(*count);
+            }
+        }
+        Ok(letters)
+    }
+
     /// Looks at all patterns once more, which have this many shapes. Says whether there are new letters.
     fn look_again(
         &mut self,

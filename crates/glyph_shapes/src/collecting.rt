@@ -25,11 +25,20 @@ const FIRST_SHAPES: usize = 32_768;
 
 const SHAPE_BYTES: usize = 24;
 
-/// A page with more shapes than this at 300 dots per inch, four times as many at 600, and one more for this many bytes of its text, is no
-/// text but a crowd of specks, which take longer as letters than all else does with the page. A page of text has some 3,000.
-const FIRST_ON_PAGE: usize = 6_144;
+/// A page with more shapes than this at 300 dots per inch, four times as many at 600, and one more for this many bytes of its text, is a
+/// crowd of specks. A page of text has some 3,000, one with a picture ten times as many.
+const FIRST_ON_PAGE: usize = 16_384;
 
-const SHAPE_BYTES_ON_PAGE: usize = 64;
+const SHAPE_BYTES_ON_PAGE: usize = 32;
+
+/// Both sides of a speck have fewer dots than this at 300 dots per inch.
+const SPECK_SIDE: u32 = 8;
+
+/// The pages of a job have fewer letters than this each at 300 dots per inch, than four times as many at 600, and one more for this many
+/// bytes of their texts: more take longer than all else does with the pages.
+const LETTERS_ON_PAGE: usize = 6_144;
+
+const LETTER_BYTES_ON_PAGE: usize = 64;
 
 /// After this many tiles, and one more for as many bytes of the texts, no further pictures are cut in tiles.
 const FIRST_TILES: usize = 65_536;
@@ -72,6 +81,8 @@ pub struct Collection {
     pub rows: Vec<Row>,
     /// For each page, how many rows come before its own.
     pub starts: Vec<usize>,
+    /// How many letters the pages may have, with the page that comes.
+    pub letter_room: usize,
     /// How many bytes the texts of the pages take as rasters, with that of the page that comes.
     text_bytes: usize,
     /// How many bytes the text of the page that comes takes as a raster.
@@ -98,6 +109,7 @@ impl Collection {
             tiles: Vec::new(alloc),
             rows: Vec::new(alloc),
             starts: Vec::new(alloc),
+            letter_room: 0,
             text_bytes: 0,
             page_bytes: 0,
         }
@@ -107,6 +119,7 @@ impl Collection {
     pub fn add_room(&mut self, bytes: usize) {
         self.page_bytes = bytes;
         self.patterns.add_room(bytes / BYTES_FOR_PATTERNS);
+        self.letter_room = self.letter_room.saturating_add(self.letters_on_page());
         self.text_bytes = self.text_bytes.saturating_add(bytes);
     }
 
@@ -247,17 +260,22 @@ impl Collection {
         before
     }
 
-    /// Collects the shapes of a page that were found, unless none of them can be a letter, or too many. The first row of the page is in
-    /// this place.
+    /// Collects the shapes of a page that were found, unless none of them can be a letter. Where they are too many its specks stay in the
+    /// raster, and if there are more others than letters, all do. The first row of the page is in this place.
     fn collect_found(
         &mut self,
         page: Unpainted<'_>,
         shapes: &Shapes,
         first: usize,
     ) -> Result<(), AllocError> {
-        let stay = self.screen(shapes, first)?;
-        let count = stay.iter().filter(|stays| !**stays).count();
-        if count == 0 || count > self.room_on_page() {
+        let mut stay = self.screen(shapes, first)?;
+        if count_moving(&stay) > self.room_on_page() {
+            leave_specks(&shapes.extents, self.form.scale(), &mut stay);
+            if count_moving(&stay) > self.letters_on_page() {
+                return Ok(());
+            }
+        }
+        if count_moving(&stay) == 0 {
             return Ok(());
         }
         self.collect_shapes(page, shapes, &stay, first)
@@ -265,10 +283,20 @@ impl Collection {
 
     /// How many shapes the page that comes may have.
     fn room_on_page(&self) -> usize {
-        let scale = self.form.scale() as usize;
-        FIRST_ON_PAGE
-            .saturating_mul(scale.saturating_mul(scale))
+        self.per_area(FIRST_ON_PAGE)
             .saturating_add(self.page_bytes / SHAPE_BYTES_ON_PAGE)
+    }
+
+    /// How many letters the page that comes may have, if no other has fewer.
+    fn letters_on_page(&self) -> usize {
+        self.per_area(LETTERS_ON_PAGE)
+            .saturating_add(self.page_bytes / LETTER_BYTES_ON_PAGE)
+    }
+
+    /// As many for the dots of a page as this is for those at 300 dots per inch.
+    fn per_area(&self, count: usize) -> usize {
+        let scale = self.form.scale() as usize;
+        count.saturating_mul(scale.saturating_mul(scale))
     }
 
     /// Which of the shapes of a page whose first row is in this place can't be letters.
@@ -355,6 +383,22 @@ impl Collection {
             pattern,
         })?;
         Ok(())
+    }
+}
+
+/// How many of the shapes of a page don't stay in the raster.
+fn count_moving(stay: &[bool]) -> usize {
+    stay.iter().filter(|stays| !**stays).count()
+}
+
+/// Has the specks among the shapes with these boxes stay in the raster: they are smaller than letters. `scale` dots are one at 300 dots per
+/// inch.
+fn leave_specks(extents: &[Extent], scale: u32, stay: &mut [bool]) {
+    let side = SPECK_SIDE.saturating_mul(scale);
+    for (extent, stays) in extents.iter().zip(stay.iter_mut()) {
+        if extent.width() < side && extent.height() < side {
+            *stays = true;
+        }
     }
 }
 
