@@ -228,7 +228,7 @@ impl Passages {
     }
 }
 
-/// How many bytes a passage takes where so many of its uses are joined to others.
+/// How many bytes a passage takes where this many of its uses are joined to others.
 fn bytes_of_left(passage: Passage, joined: usize) -> usize {
     match passage.uses.saturating_sub(joined) {
         0 => 0,

@@ -21,7 +21,7 @@ pub enum Saving {
 }
 
 impl Saving {
-    /// That of rectangles of this many bytes, which spare the raster so many.
+    /// That of rectangles of this many bytes, which spare the raster this many.
     fn of(rectangles: usize, spared: usize) -> Saving {
         let quarters = spared.saturating_mul(4);
         if quarters >= rectangles.saturating_mul(SHORTER_QUARTERS) {

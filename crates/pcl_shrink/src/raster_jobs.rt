@@ -41,7 +41,7 @@ pub fn asked_len(alloc: Global, asks: &Asks<'_>, texts: &[Text]) -> Result<usize
     Ok(len.saturating_add(around.len()))
 }
 
-/// So many bytes more than the job may a proposal have before what repeats in it goes as macros: more would take hostile jobs long.
+/// A proposal may have this many bytes more than the job before what repeats in it goes as macros: with more, hostile jobs take long.
 pub const REPEATED_BYTES: usize = 512;
 
 /// The same as `asked_job` with any texts of the pages, each of which is dropped once it is appended, and with what repeats as macros:
