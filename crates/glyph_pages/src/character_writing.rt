@@ -1,6 +1,6 @@
 //! Pages written as rasters and characters.
 
-use crate::remains::{FORM_FEED, Taken, shortest_rest};
+use crate::remains::{FORM_FEED, Taken, WholePage, append_shorter};
 use crate::rule_writing::{FIRST_ID, RulePen};
 use glyph_fonts::{FontLayout, Pen, append_text};
 use glyph_patterns::Letter;
@@ -35,12 +35,11 @@ impl<'a> CharacterWriter<'a> {
         self.pen = Pen::new(self.pen.keeps_spacing);
     }
 
-    /// Appends the next page, which has these rules, and of which this is a text without letters: that text, or one with letters and
-    /// rules where it takes fewer bytes. The printer holds this size of rectangles; gives the one that it holds then.
+    /// Appends the next page, which has these rules: its text without letters, or one with letters and rules where it takes fewer bytes.
+    /// The printer holds this size of rectangles; gives the one that it holds then.
     pub fn append_page(
         &mut self,
-        page: &Page,
-        plain: &[u8],
+        whole: WholePage<'_>,
         rules: &[Rule],
         pen: RulePen,
         out: &mut Vec<u8>,
@@ -57,12 +56,12 @@ impl<'a> CharacterWriter<'a> {
             free_id: FIRST_ID,
         };
         if taken.is_empty() {
-            out.extend_from_slice(plain)?;
+            out.extend_from_slice(whole.plain)?;
             return Ok(pen);
         }
-        let mut rest = shortest_rest(*out.allocator(), taken, page, pen)?;
-        let letter_pen = append_letters(layout, letters, page, self.pen, &mut rest.text)?;
-        let Some(rule_pen) = rest.append_if_shorter(plain, out)? else {
+        let mut printed = Vec::new(*out.allocator());
+        let letter_pen = append_letters(layout, letters, whole.page, self.pen, &mut printed)?;
+        let Some(rule_pen) = append_shorter(taken, whole, pen, &printed, out)? else {
             return Ok(pen);
         };
         self.pen = letter_pen;

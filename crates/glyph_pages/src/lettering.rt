@@ -2,6 +2,7 @@
 
 use crate::character_writing::CharacterWriter;
 use crate::macro_writing::{MacroWriter, free_id};
+use crate::remains::WholePage;
 use crate::repeats::Repeats;
 use crate::rule_writing::{FIRST_ID, RulePen};
 use crate::series::SERIES_MACROS;
@@ -10,7 +11,6 @@ use glyph_letters::find_letters;
 use glyph_macros::{MacroLayout, append_definitions, append_settings, lay_out_macros};
 use glyph_patterns::{Form, Letters};
 use glyph_shapes::{Collection, Rules};
-use pcl_bitmap::Page;
 use std::alloc::{AllocError, Global};
 
 /// The letters of a job, and its rules.
@@ -178,21 +178,18 @@ impl<'a> PageWriter<'a> {
         }
     }
 
-    /// Appends the next page, of which this is a text without letters: that text, or one with letters where it takes fewer bytes, and
-    /// with its rules as rectangles where that takes fewer yet.
+    /// Appends the next page: its text without letters, or one with letters where it takes fewer bytes, and with its rules as rectangles
+    /// where that takes fewer yet.
     pub fn append_page(
         &mut self,
-        page: &Page,
-        plain: &[u8],
+        whole: WholePage<'_>,
         out: &mut Vec<u8>,
     ) -> Result<(), AllocError> {
         let rules = self.rules.of_page(self.page);
         self.page = self.page.saturating_add(1);
         self.pen = match &mut self.letters {
-            FormWriter::Characters(writer) => {
-                writer.append_page(page, plain, rules, self.pen, out)?
-            }
-            FormWriter::Macros(writer) => { writer.append_page(page, plain, rules, self.pen, out)? }
+            FormWriter::Characters(writer) => writer.append_page(whole, rules, self.pen, out)?,
+            FormWriter::Macros(writer) => writer.append_page(whole, rules, self.pen, out)?,
         };
         Ok(())
     }

@@ -23,5 +23,6 @@ mod sparing;
 
 pub use lettering::{Lettering, PageWriter};
 pub use macro_writing::END_RASTER;
+pub use remains::WholePage;
 pub use repeats::{Repeats, text_hash};
 pub use rule_writing::FIRST_ID;

@@ -1,10 +1,9 @@
 //! Pages written as rasters and macros that are run.
 
-use crate::remains::{FORM_FEED, Taken, shortest_rest};
+use crate::remains::{FORM_FEED, Taken, WholePage, append_shorter};
 use crate::rule_writing::{FIRST_ID, RulePen};
 use glyph_macros::{MacroLayout, append_lines};
 use glyph_shapes::Rule;
-use pcl_bitmap::Page;
 use std::alloc::AllocError;
 
 /// Puts back method 0, by which the rows of a page text begin.
@@ -42,12 +41,11 @@ impl<'a> MacroWriter<'a> {
         self.leaves_method = false;
     }
 
-    /// Appends the next page, which has these rules, and of which this is a text without letters: that text, or one with letters and
-    /// rules where it takes fewer bytes. The printer holds this size of rectangles; gives the one that it holds then.
+    /// Appends the next page, which has these rules: its text without letters, or one with letters and rules where it takes fewer bytes.
+    /// The printer holds this size of rectangles; gives the one that it holds then.
     pub fn append_page(
         &mut self,
-        page: &Page,
-        plain: &[u8],
+        whole: WholePage<'_>,
         rules: &[Rule],
         pen: RulePen,
         out: &mut Vec<u8>,
@@ -70,13 +68,13 @@ impl<'a> MacroWriter<'a> {
             free_id: free_id(layout),
         };
         if taken.is_empty() {
-            out.extend_from_slice(plain)?;
+            out.extend_from_slice(whole.plain)?;
             return Ok(pen);
         }
-        let mut rest = shortest_rest(*out.allocator(), taken, page, pen)?;
-        self.marks = append_lines(layout, lines, self.marks, &mut rest.text)?;
-        rest.text.push(FORM_FEED)?;
-        let Some(rule_pen) = rest.append_if_shorter(plain, out)? else {
+        let mut printed = Vec::new(*out.allocator());
+        self.marks = append_lines(layout, lines, self.marks, &mut printed)?;
+        printed.push(FORM_FEED)?;
+        let Some(rule_pen) = append_shorter(taken, whole, pen, &printed, out)? else {
             return Ok(pen);
         };
         self.leaves_method = !lines.is_empty();

@@ -6,7 +6,7 @@ ghost use Rattle.pcl_bitmap.specs.Bitmap.{IsPicture};
 use crate::corners::{bits_of, corner_of, move_to_corner};
 use crate::rule_writing::{RulePen, append_rules, sparse_rules};
 use crate::shortening::shortened;
-use crate::sparing::{Saving, saving_of};
+use crate::sparing::{Saving, may_be_shorter, saving_of};
 use glyph_patterns::{Dot, Letter, Letters, Patterns, StampInk, stamp};
 use glyph_shapes::{Rule, ink_rules};
 use pcl_bitmap::{Bitmap, Ink, Page, trimmed_len};
@@ -41,88 +41,115 @@ impl<'a> Taken<'a> {
     }
 }
 
-/// What of a page is neither a letter nor, as a rectangle, a rule: a page text without its form feed, and the rectangles. The letters
-/// are appended to it.
+/// A page that is written, in its text without letters or in a shorter one.
+#[derive(Clone, Copy)]
+pub struct WholePage<'a> {
+    pub page: &'a Page,
+    /// Its text without letters.
+    pub plain: &'a [u8],
+    /// A text of it is useless with this many bytes, if that counts.
+    pub room: Option<usize>,
+}
+
+/// What of a page is neither a letter nor, as a rectangle, a rule: a page text without its form feed, and the rectangles.
 #[derive(Drop)]
-pub struct Rest {
-    pub text: Vec<u8>,
+struct Rest {
+    text: Vec<u8>,
     /// The size of rectangles that the printer holds after it.
     pen: RulePen,
 }
 
-impl Rest {
-    /// Appends it with the letters of its page, or this text of the page without any where that has no more bytes. Gives the size of
-    /// rectangles that the printer holds then, where it has the letters.
-    pub fn append_if_shorter(
-        self,
-        plain: &[u8],
-        out: &mut Vec<u8>,
-    ) -> Result<Option<RulePen>, AllocError> {
-        if self.text.len() >= plain.len() {
-            out.extend_from_slice(plain)?;
-            return Ok(None);
-        }
-        out.extend_from_slice(&self.text)?;
-        Ok(Some(self.pen))
-    }
-
-    /// The shorter one of two.
-    fn or_shorter(self, other: Rest) -> Rest {
-        if other.text.len() < self.text.len() {
-            other
-        } else {
-            self
+/// Appends the shortest rest of a page and what prints its letters, or its text without any where that has no more bytes. The printer
+/// holds this size of rectangles; gives the one that it holds then, where it has the letters.
+pub fn append_shorter(
+    taken: Taken<'_>,
+    whole: WholePage<'_>,
+    pen: RulePen,
+    printed: &[u8],
+    out: &mut Vec<u8>,
+) -> Result<Option<RulePen>, AllocError> {
+    let room = whole.room.map(|room| room.saturating_sub(printed.len()));
+    match shortest_rest(*out.allocator(), taken, whole.page, pen, room)? {
+        Some(Rest { text, pen }) if text.len().saturating_add(printed.len()) < whole.plain.len() =>
+            {
+                out.extend_from_slice(&text)?;
+                out.extend_from_slice(printed)?;
+                Ok(Some(pen))
+            }
+        _ => {
+            out.extend_from_slice(whole.plain)?;
+            Ok(None)
         }
     }
 }
 
 /// The shortest rest of a page that was found: with all rules as rectangles, with those alone that share their rows with few, or with
-/// none. The printer holds this size of rectangles before it.
-pub fn shortest_rest(
+/// none. The printer holds this size of rectangles before it. Where a room is given, none is made that surely takes as many bytes.
+fn shortest_rest(
     alloc: Global,
     taken: Taken<'_>,
     page: &Page,
     pen: RulePen,
-) -> Result<Rest, AllocError> {
-    let mut ruled = Ruled::none();
-    ruled.add(alloc, taken, taken.rules, page, pen)?;
+    room: Option<usize>,
+) -> Result<Option<Rest>, AllocError> {
+    let mut rests = Rests::new(room);
+    rests.add_ruled(alloc, taken, taken.rules, page, pen)?;
     let sparse = sparse_rules(alloc, taken.rules)?;
     if sparse.len() < taken.rules.len() {
-        ruled.add(alloc, taken, &sparse, page, pen)?;
+        rests.add_ruled(alloc, taken, &sparse, page, pen)?;
     }
-    let Ruled { shortest, is_sure } = ruled;
-    match shortest {
-        Some(rest) if is_sure => Ok(rest),
-        Some(rest) => Ok(rest.or_shorter(unruled(alloc, taken, page, pen)?)),
-        None => unruled(alloc, taken, page, pen),
+    if !rests.is_sure {
+        rests.add_unruled(alloc, taken, page, pen)?;
     }
+    Ok(rests.shortest)
 }
 
-/// The rest of a page with all its rules in the raster.
-fn unruled(alloc: Global, taken: Taken<'_>, page: &Page, pen: RulePen) -> Result<Rest, AllocError> {
-    let text = raster_text(alloc, page_without(alloc, taken, page)?)?;
-    Ok(Rest { text, pen })
-}
-
-/// The shortest rest of a page with some of its rules as rectangles.
+/// The shortest rest of a page so far.
 #[derive(Drop)]
-struct Ruled {
+struct Rests {
+    /// A rest may have fewer bytes than this, if that counts.
+    room: Option<usize>,
     shortest: Option<Rest>,
-    /// Whether a raster with its rules is surely longer.
+    /// Whether a raster with all rules is surely longer.
     is_sure: bool,
 }
 
-impl Ruled {
-    /// No rules yet.
-    fn none() -> Ruled {
-        Ruled {
+impl Rests {
+    /// None yet.
+    fn new(room: Option<usize>) -> Rests {
+        Rests {
+            room,
             shortest: None,
             is_sure: false,
         }
     }
 
-    /// Adds these of the rules of a page as rectangles, unless they surely take more bytes than in its raster.
-    fn add(
+    /// Whether there may be room for a page as a raster, beside rectangles of this many bytes.
+    fn has_room(&self, rectangles: usize, bitmap: &Bitmap) -> bool {
+        match self.room {
+            Some(room) => may_be_shorter(bitmap, room.saturating_sub(rectangles)),
+            None => true,
+        }
+    }
+
+    /// Adds the rest with all rules in the raster, if it has room.
+    fn add_unruled(
+        &mut self,
+        alloc: Global,
+        taken: Taken<'_>,
+        page: &Page,
+        pen: RulePen,
+    ) -> Result<(), AllocError> {
+        let others = page_without(alloc, taken, page)?;
+        if self.has_room(0, &others.bitmap) {
+            let text = raster_text(alloc, others)?;
+            self.keep(Rest { text, pen }, false);
+        }
+        Ok(())
+    }
+
+    /// Adds the rest with these rules as rectangles, if it has room, unless they surely take more bytes than in the raster.
+    fn add_ruled(
         &mut self,
         alloc: Global,
         taken: Taken<'_>,
@@ -137,6 +164,9 @@ impl Ruled {
         ink_rules(rules, Ink::White, &mut others.bitmap);
         let mut rectangles = Vec::new(alloc);
         let pen = append_rules(alloc, rules, pen, taken.free_id, &mut rectangles)?;
+        if !self.has_room(rectangles.len(), &others.bitmap) {
+            return Ok(());
+        }
         let saving = saving_of_rules(alloc, &others.bitmap, rules, rectangles.len())?;
         if saving != Saving::SurelyLonger {
             let mut text = raster_text(alloc, others)?;

@@ -1,7 +1,7 @@
-//! What the raster of a page saves where its rules are sent as rectangles.
+//! What the raster of a page takes at least, and what it saves where its rules are sent as rectangles.
 
 use glyph_patterns::ROW_BYTES;
-use glyph_shapes::{RowRules, Rule, are_equal, ink_dots, row_bytes};
+use glyph_shapes::{RowRules, Rule, are_equal, ink_dots, row_at, row_bytes};
 use pcl_bitmap::{Bitmap, Ink};
 use std::alloc::{AllocError, Global};
 use std::mem::swap;
@@ -11,6 +11,21 @@ use std::mem::swap;
 const SHORTER_QUARTERS: usize = 5;
 
 const LONGER_QUARTERS: usize = 2;
+
+/// Whether the raster of a page may take fewer bytes than this: it does so unless its rows take as many at least.
+pub fn may_be_shorter(bitmap: &Bitmap, limit: usize) -> bool {
+    let mut bytes: usize = 0;
+    let mut above: &[u8] = &[];
+    for y in 0..bitmap.size().height(bitmap.dpi()) {
+        let row = row_at(bitmap, y);
+        bytes = bytes.saturating_add(bytes_of_row(above, row));
+        if bytes >= limit {
+            return false;
+        }
+        above = row;
+    }
+    true
+}
 
 /// How the bytes of rectangles compare with those that the raster of their page is shorter by without them.
 #[derive(Clone, Copy, PartialEq, Eq)]
@@ -116,7 +131,7 @@ impl RasterBytes {
     }
 }
 
-/// About how many bytes a row takes: its data and those around them, or none where it is the row above once more.
+/// About how many bytes a row takes at least: its data and those around them, or none where it is the row above once more.
 fn bytes_of_row(above: &[u8], row: &[u8]) -> usize {
     match row_bytes(above, row) as usize {
         0 => 0,

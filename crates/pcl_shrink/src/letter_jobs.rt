@@ -6,7 +6,7 @@ use crate::raster_jobs::REPEATED_BYTES;
 use crate::reading::ReadJob;
 use crate::shifts::{Shift, shift_at};
 use crate::watching::{Pass, ShrinkWatcher};
-use glyph_pages::{END_RASTER, Lettering, PageWriter, Repeats, text_hash};
+use glyph_pages::{END_RASTER, Lettering, PageWriter, Repeats, WholePage, text_hash};
 use pcl_base::JobFault;
 use pcl_page::{Asks, Page, PageSink, perform_by};
 use std::alloc::AllocError;
@@ -108,11 +108,19 @@ impl<'a, 'b, P: ShrinkWatcher> LetterWriter<'a, 'b, P> {
         }
     }
 
+    /// With how many bytes more what is written is too long: none where the stretch is not, as long as it goes without letters.
+    fn room(&self) -> Option<usize> {
+        let limit = self.limit.saturating_add(REPEATED_BYTES);
+        if self.place.saturating_add(self.whole) < limit {
+            None
+        } else {
+            Some(limit.saturating_sub(self.out.len()))
+        }
+    }
+
     /// Gives up where the stretch, with letters and without, makes what is written too long.
     fn give_up_if_too_long(&mut self) {
-        let stretch = self.out.len().saturating_sub(self.place);
-        let limit = self.limit.saturating_add(REPEATED_BYTES);
-        if self.place.saturating_add(stretch.min(self.whole)) >= limit {
+        if self.room() == Some(0) {
             self.out = Vec::new(*self.out.allocator());
             self.is_too_long = true;
         }
@@ -255,7 +263,12 @@ impl<'a, 'b, P: ShrinkWatcher> LetterWriter<'a, 'b, P> {
             self.plain = self.plain.saturating_add(written.len());
         }
         written.clear();
-        self.writer.append_page(page, text, &mut written)?;
+        let whole = WholePage {
+            page,
+            plain: text,
+            room: self.room(),
+        };
+        self.writer.append_page(whole, &mut written)?;
         let place = self.out.len();
         self.append_written(&written, text)?;
         self.repeats.add_page(&self.out, place)?;
