@@ -73,8 +73,20 @@ impl KeptRuns {
             self.ends.clear();
         }
         if !self.is_full {
+            self.make_room(runs.len())?;
             self.runs.extend_from_slice(runs)?;
             self.ends.push(self.runs.len())?;
+        }
+        Ok(())
+    }
+
+    /// Makes room for this many runs more, and for twice as many as there are then, but never for more than are kept.
+    fn make_room(&mut self, count: usize) -> Result<(), AllocError> {
+        let needed = self.runs.len().saturating_add(count);
+        if needed > self.runs.capacity() {
+            let room = needed.saturating_mul(2).min(self.limit);
+            self.runs
+                .reserve_exact(room.saturating_sub(self.runs.len()))?;
         }
         Ok(())
     }
