@@ -2,8 +2,7 @@
 use Rattle.std.specs.Prelude.{ℕ, ℤ, Bool, true, false, List, ◌++◌, Option, None, Some, codes, decimal}
 use Rattle.std.specs.Fmt.{signed_decimal}
 use Rattle.pcl_base.specs.Refusal.{refusal_text}
-use Rattle.pcl_base.specs.declared.size.Size.{Size}
-use Rattle.pcl_base.specs.declared.size.Size.TheVariants.{Executive, Letter, Legal, A4}
+use Rattle.pcl_base.specs.Size.{size_name}
 use Rattle.pcl_env.specs.Offset.{offset_text}
 use Rattle.pcl_request.specs.declared.request.Layout.{Layout}
 use Rattle.pcl_answers.specs.Layouts.{laid_out}
@@ -29,18 +28,12 @@ use Rattle.pcl_answers.specs.declared.comparisons.CompareFault.TheVariants.{Refu
 use Rattle.pcl_files.specs.Messages.{line_of, status_for}
 use Rattle.pcl_answers.specs.Verdicts.{page_text}
 
-abbrev pub size_text : Size → List ℕ
-size_text Executive = codes "Executive"
-size_text Letter = codes "Letter"
-size_text Legal = codes "Legal"
-size_text A4 = codes "A4"
-
 -- what is said of the first job, and of the second
 abbrev pub pair_text : List ℕ → List ℕ → List ℕ → List ℕ
 pair_text label first second = label ++ first ++ codes " " ++ second
 
 abbrev pub difference_text : Difference → List ℕ
-difference_text (difference.Size first second) = pair_text (codes "size ") (size_text first) (size_text second)
+difference_text (difference.Size first second) = pair_text (codes "size ") (size_name first) (size_name second)
 difference_text (difference.Copies first second) = pair_text (codes "copies ") (decimal first) (decimal second)
 difference_text (difference.Dot x y) = pair_text (codes "dot ") (decimal x) (decimal y)
 

@@ -1,7 +1,7 @@
 //! What the program says of two compared jobs.
 
 ghost use Rattle.std.specs.Prelude.{◌≡◌, ◌++◌, IfOk, OnOk};
-ghost use Rattle.pcl_answers.specs.ComparisonLines.{size_text, pair_text, difference_text, pages_text, comparison_text, comparison_line_of, are_same};
+ghost use Rattle.pcl_answers.specs.ComparisonLines.{pair_text, difference_text, pages_text, comparison_text, comparison_line_of, are_same};
 ghost use Rattle.pcl_answers.specs.ComparisonLines.{setting_label, setting_text, asked_text, number_text, value_text, exit_text, asks_text};
 ghost use Rattle.pcl_answers.specs.ComparisonLines.{comparison_status_for, refused_job_text, compare_line_of, compare_status_for};
 
@@ -9,7 +9,6 @@ use crate::comparisons::CompareFault;
 use crate::layouts::laid_out;
 use crate::verdicts::append_page;
 use itoa::Buffer;
-use pcl_base::Size;
 use pcl_env::append_offset;
 use pcl_files::{fault_line, status_of};
 use pcl_request::Layout;
@@ -190,7 +189,12 @@ fn append_difference(difference: Difference, line: &mut Vec<u8>) -> Result<(), A
 {
     match difference {
         Difference::Size { first, second } => {
-            append_pair(b"size ", size_name(first), size_name(second), line)
+            append_pair(
+                b"size ",
+                first.name().as_bytes(),
+                second.name().as_bytes(),
+                line,
+            )
         }
         Difference::Copies { first, second } => append_pair(
             b"copies ",
@@ -220,18 +224,6 @@ fn append_pair(
     line.extend_from_slice(first)?;
     line.extend_from_slice(b" ")?;
     line.extend_from_slice(second)
-}
-
-/// The name of a page size.
-fn size_name(size: Size) -> &'static [u8]
-    ensures { result.now ≡ size_text size }
-{
-    match size {
-        Size::Executive => b"Executive",
-        Size::Letter => b"Letter",
-        Size::Legal => b"Legal",
-        Size::A4 => b"A4",
-    }
 }
 
 /// The status of a run that compared two jobs so.

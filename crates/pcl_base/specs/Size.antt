@@ -1,5 +1,5 @@
 -- Page sizes, in dots.
-use Rattle.std.specs.Prelude.{ℕ, ◌+◌, ◌*◌, ◌/◌, ◌==◌, if◌then◌else◌, Option, Some, None}
+use Rattle.std.specs.Prelude.{ℕ, ◌+◌, ◌*◌, ◌/◌, ◌==◌, if◌then◌else◌, List, Option, Some, None, codes}
 use Rattle.pcl_base.specs.declared.dpi.Dpi.{Dpi}
 use Rattle.pcl_base.specs.declared.size.Size.{Size}
 use Rattle.pcl_base.specs.declared.size.Size.TheVariants.{Executive, Letter, Legal, A4}
@@ -19,6 +19,13 @@ size_with_code code =
     else (if code == 2 then Some Letter
     else (if code == 3 then Some Legal
     else (if code == 26 then Some A4 else None)))
+
+-- the name, as messages print it
+abbrev pub size_name : Size → List ℕ
+size_name Executive = codes "Executive"
+size_name Letter = codes "Letter"
+size_name Legal = codes "Legal"
+size_name A4 = codes "A4"
 
 -- dots across at 300 per inch
 abbrev pub width_at_300 : Size → ℕ

@@ -1,7 +1,7 @@
 //! The page sizes.
 
 ghost use Rattle.std.specs.Prelude.{◌≡◌};
-ghost use Rattle.pcl_base.specs.Size.{code_of, size_with_code, page_width, page_height, page_row_bytes, units_wide, units_high};
+ghost use Rattle.pcl_base.specs.Size.{code_of, size_with_code, size_name, page_width, page_height, page_row_bytes, units_wide, units_high};
 
 use crate::Dpi;
 use crate::limits::DOT_UNITS;
@@ -38,6 +38,18 @@ impl Size {
             Size::Letter => 2,
             Size::Legal => 3,
             Size::A4 => 26,
+        }
+    }
+
+    /// The name of the size, as messages print it.
+    pub fn name(self) -> &'static str
+        ensures { result.now ≡ size_name self }
+    {
+        match self {
+            Size::Executive => "Executive",
+            Size::Letter => "Letter",
+            Size::Legal => "Legal",
+            Size::A4 => "A4",
         }
     }
 
