@@ -2,6 +2,7 @@
 //! tables that bound from below what is still to come (docs/OUTPUT.md, "Page texts").
 #![tactic(auto)]
 
+mod around;
 mod bitmap_rows;
 mod by_method;
 mod costs;
@@ -10,6 +11,7 @@ mod node;
 mod step;
 mod table;
 
+pub use around::{END_PAGE, RESET};
 pub use bitmap_rows::row_above;
 pub use by_method::ByMethod;
 pub use costs::{digits, row_cost};

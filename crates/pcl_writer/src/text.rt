@@ -9,6 +9,7 @@ use crate::body::append_body;
 use crate::number::append_labelled;
 use pcl_base::{Dpi, Size};
 use pcl_bitmap::Page;
+use pcl_output::{END_PAGE, RESET};
 use pcl_plan::Plan;
 use std::alloc::AllocError;
 
@@ -34,7 +35,7 @@ pub fn write_page(page: &Page, plan: &Plan, out: &mut Vec<u8>) -> Result<(), All
 pub fn write_frame(out: &mut Vec<u8>) -> Result<(), AllocError>
     ensures { out.new.items ≡ (if is_ok result then out.old.items ++ frame_bytes else out.old.items) }
 {
-    out.extend_from_slice(b"\x1bE")
+    out.extend_from_slice(RESET)
 }
 
 /// Appends a page text, or a prefix of it where memory runs out.
@@ -46,7 +47,7 @@ fn append_page(page: &Page, plan: &Plan, out: &mut Vec<u8>) -> Result<(), AllocE
     let bitmap = &page.bitmap;
     append_start(page.copies, bitmap.size(), bitmap.dpi(), out)?;
     append_body(bitmap, plan, out)?;
-    out.extend_from_slice(b"\x1b*rC\x0c")?;
+    out.extend_from_slice(END_PAGE)?;
     Ok(())
 }
 

@@ -11,10 +11,8 @@ ghost use Rattle.pcl_check.specs.inner.Reading.{IsParameter, IsStep, IsBodyVerdi
 use super::comparison::Comparison;
 use super::parameter::{Parameter, read_parameter};
 use pcl_base::{Method, ROW_LIMIT};
+use pcl_output::END_PAGE;
 use pcl_rows::{decode, is_whole};
-
-/// The end of a page text, after its body.
-const END: &[u8] = b"\x1b*rC\x0c";
 
 /// What opens a sequence.
 const OPENING: &[u8] = b"\x1b*b";
@@ -48,7 +46,7 @@ pub fn read_body(comparison: Comparison<'_>, text: &[u8], is_same: bool) -> Opti
         inside: false,
         is_same,
     };
-    while place.inside || place.text != END {
+    while place.inside || place.text != END_PAGE {
         place = step(comparison, place, above)?;
     }
     Some(place.is_same && comparison.has_white_rows(place.row, comparison.height() - place.row))
