@@ -1,6 +1,6 @@
 -- How far deeds bring a situation.
 use Rattle.std.proofs.Common.{◌≡◌, ℕ, ◌+◌, ◌≤◌, ◌<◌, false, cond, List, [], ◌∷◌, ◌++◌, length, Some, None, Result, Ok, Err, refl, ap, ◌∙◌, arith}
-use Rattle.pcl_meaning.proofs.Names.{is_some, Dpi, Kind, UnsupportedCommand, Empty, Operation, Reset, ControlMacros, ControlFonts, Value, Said, outcome, Run, after_macros, after_command, run_from, run_of, Performance, done, in_order, step, then_from, after_adds, checked_as}
+use Rattle.pcl_meaning.proofs.Names.{is_some, Dpi, Kind, UnsupportedCommand, Empty, Operation, Reset, ControlMacros, ControlFonts, Value, command_limit, Said, outcome, Run, after_macros, after_command, run_from, run_of, Performance, done, in_order, step, then_from, after_adds, checked_as}
 use Rattle.pcl_base.specs.declared.operation.Asking.TheVariants.{SheetSide}
 use Rattle.pcl_base.specs.declared.operation.Operation.TheVariants.{Ask}
 use Rattle.pcl_page.specs.Situation.{Situation, is_marked, drawn, draw_refusal, ◌|>◌, turned_by, drawn_on, counted, prepared, is_ignored, after, page_refusal, within_page_limit, after_checked}
@@ -103,7 +103,7 @@ fits_too now next e fits = let same : page_refusal now ≡ None = rw (← e) fit
 
 -- outside of a definition a deed's command leads where the deed does, and runs no macro
 command_done : {dpi : Dpi} (place : ℕ) (command : Said) {d : Deed} {s next : Situation} → IsSaid command d → IsDone dpi d s next
-    → page_refusal next ≡ None → s.performed < 100000000 → s.begun ≡ None
+    → page_refusal next ≡ None → s.performed < command_limit → s.begun ≡ None
     → (after_command dpi place command s ≡ Ok next) × (run_of command s next ≡ None)
 command_done {dpi} place command {d} {s} {next} is done fits few none =
     let closed : is_some s.begun ≡ false = rw none refl in
@@ -114,7 +114,7 @@ command_done {dpi} place command {d} {s} {next} is done fits few none =
 
 -- performing commands that are deeds leads where the deeds do
 pub commands_done : (dpi : Dpi) (f : Said → Run → Situation → Performance) (place : ℕ) (commands : List Said) (deeds : List Deed)
-    (s : Situation) {later : Situation} → AreSaid commands deeds → AreLeading dpi deeds s later → s.performed + length deeds ≤ 100000000
+    (s : Situation) {later : Situation} → AreSaid commands deeds → AreLeading dpi deeds s later → s.performed + length deeds ≤ command_limit
     → s.begun ≡ None → (in_order (step dpi f) place commands s ≡ done later) × (later.begun ≡ None)
 commands_done dpi f place [] [] s a stay few none = (refl, none)
 commands_done dpi f place (command ∷ commands) (d ∷ deeds) s a (lead e fits rest) few none =

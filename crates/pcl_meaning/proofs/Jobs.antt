@@ -1,6 +1,6 @@
 -- Whole jobs of page texts are accepted, and mean the pages of the texts.
 use Rattle.std.proofs.Common.{◌≡◌, ℕ, ◌+◌, ◌*◌, ◌<◌, ◌≤◌, List, [], ◌∷◌, ◌++◌, length, map, Option, None, refl, sym, ap, subst, ◌∙◌, append_assoc, append-nil, length-append, arith, lit≤, false}
-use Rattle.pcl_meaning.proofs.Names.{flat_map, nat_tests, Dpi, Profile, Stated, Size, Refusal, macro_limit, command_limit, page_width, page_height, page_row_bytes, height_small, commands_of, IsReading, Settings, defaults, Page, Temporary, control, pages_fit, Mark, is_black, Sheet, Situation, at_begin, at_end, Shows, Performance, done, unless, then_on, runs, after_all, end_refusal, after_end, pages_of, asks_among, HasPagesBy, HasAsksBy, performance_of, Token, command_count, token_bytes, start_bytes, end_bytes, frame_bytes, IsPageText, bitmap_rows, IsWrittenPage, AreAlike, AllAlike, PrintEach, most_commands, of_job, said_for, page_said, first_page, next_page, PageStart, dot_of_rows, job_of, MeansRows}
+use Rattle.pcl_meaning.proofs.Names.{flat_map, nat_tests, Dpi, Profile, Stated, Size, Refusal, macro_limit, command_limit, page_limit, page_width, page_height, page_row_bytes, height_small, commands_of, IsReading, Settings, defaults, Page, Temporary, control, pages_fit, Mark, is_black, Sheet, Situation, at_begin, at_end, Shows, Performance, done, unless, then_on, runs, after_all, end_refusal, after_end, pages_of, asks_among, HasPagesBy, HasAsksBy, performance_of, Token, command_count, token_bytes, start_bytes, end_bytes, frame_bytes, IsPageText, bitmap_rows, IsWrittenPage, AreAlike, AllAlike, PrintEach, most_commands, of_job, said_for, page_said, first_page, next_page, PageStart, dot_of_rows, job_of, MeansRows}
 use Rattle.pcl_env.specs.Outcome.{outcome}
 use Rattle.pcl_macros.specs.declared.table.MacroControl.TheVariants as macros
 use Rattle.pcl_macros.specs.History.{control as macro_control}
@@ -44,7 +44,7 @@ closed profile pages n =
     }
 
 -- the end of the input changes nothing after a reset
-ended_there : (profile : Profile) (dpi : Dpi) (end : ℕ) {pages : List Sheet} {n : ℕ} → length pages ≤ 256
+ended_there : (profile : Profile) (dpi : Dpi) (end : ℕ) {pages : List Sheet} {n : ℕ} → length pages ≤ page_limit
     → after_end dpi end (closed profile pages n) ≡ done (at_end dpi (closed profile pages n))
 ended_there profile dpi end {pages} {n} few = rw (pages_fit (at_end dpi (closed profile pages n)) few) refl
 
@@ -56,7 +56,7 @@ pub record IsAccepted (profile : Profile) (dpi : Dpi) (job : List ℕ) (pages : 
 
 -- bytes that are read as deeds that eject these pages
 pub job_accepted : {profile : Profile} {dpi : Dpi} {text : List ℕ} {deeds : List Deed} (t : Settings) {pages : List Sheet} (n : ℕ)
-    → ReadsAs text deeds → AreLeading dpi deeds (between (defaults profile) [] 1) (between t pages n) → length pages ≤ 256
+    → ReadsAs text deeds → AreLeading dpi deeds (between (defaults profile) [] 1) (between t pages n) → length pages ≤ page_limit
     → length deeds ≤ 99999998 → IsAccepted profile dpi (frame_bytes ++ text ++ frame_bytes) pages (length deeds + 2)
 unfolding after outcome
 job_accepted {profile} {dpi} {text} {deeds} t {pages} n read leads fits few =
@@ -68,7 +68,7 @@ job_accepted {profile} {dpi} {text} {deeds} t {pages} n read leads fits few =
     let last = closed t.profile pages (n + 1) in
     let closes : AreLeading dpi (reset ∷ []) (between t pages n) last = lead refl (pages_fit last fits) stay in
     let whole : AreLeading dpi all (at_begin profile) last = lead refl (pages_fit first (lit≤ tt)) (leading_append leads closes) in
-    let count : (at_begin profile).performed + length all ≤ 100000000 = omega (arith, length-append deeds (reset ∷ [])) in
+    let count : (at_begin profile).performed + length all ≤ command_limit = omega (arith, length-append deeds (reset ∷ [])) in
     let c = commands_done dpi (runs macro_limit dpi commands) 0 commands all (at_begin profile) (r.said 0) whole count refl in
     let performed : performance_of profile dpi job commands ≡ done (at_end dpi last) =
     ap (λ (p : Performance). then_on p (after_end dpi (length job))) c.0 ∙ ended_there t.profile dpi (length job) fits in
@@ -124,7 +124,7 @@ at_resolution : (page : Page) {text : List ℕ} {dpi : Dpi} → page.dpi ≡ dpi
 at_resolution page e w = rw (← e) (w.0, w.1)
 
 pub texts_taken : {dpi : Dpi} (meant : List Sheet) {texts : List ℕ} {t : Settings} {pages : List Sheet} {n : ℕ}
-    → PrintEach IsWrittenPage dpi meant texts → IsBetween t → length pages + length meant ≤ 256
+    → PrintEach IsWrittenPage dpi meant texts → IsBetween t → length pages + length meant ≤ page_limit
     → AreTextsTaken dpi meant texts (between t pages n) pages
 texts_taken [] {t} {pages} {n} p b few = taken [] [] t n (rw p reads_none) (rw (append-nil pages) stay) tt refl (omega arith)
 texts_taken {dpi} (sheet ∷ meant) {t} {pages} {n} p b few =
@@ -133,7 +133,7 @@ texts_taken {dpi} (sheet ∷ meant) {t} {pages} {n} p b few =
     let written = at_resolution page shows.resolution p.2.2 in
     let printed = written.0 in
     let deeds = text_deeds dpi page.size page.copies printed.tokens in
-    let room : length pages < 256 = omega arith in
+    let room : length pages < page_limit = omega arith in
     let one = text_taken printed b room in
     let again : Sheet = record { size = page.size; copies = page.copies; marks = one.inked } in
     let more = pages ++ again ∷ [] in
@@ -150,17 +150,18 @@ texts_taken {dpi} (sheet ∷ meant) {t} {pages} {n} p b few =
 -- ---- the pages of an accepted job
 
 abbrev Fits : Performance → Type 0
-Fits whole = whole.refusal ≡ None → length (pages_of whole) ≤ 256
+Fits whole = whole.refusal ≡ None → length (pages_of whole) ≤ page_limit
 
 -- no more pages than there may be, where the end of the input is not refused
-end_fits : (dpi : Dpi) (s : Situation) → end_refusal dpi s ≡ None → length (at_end dpi s).pages ≤ 256
+end_fits : (dpi : Dpi) (s : Situation) → end_refusal dpi s ≡ None → length (at_end dpi s).pages ≤ page_limit
 end_fits dpi s n = grind (arith, nat_tests)
 
 -- it is the end of the input that tells
 unless_fits : (dpi : Dpi) (end : ℕ) (why : Option Refusal) (s : Situation) → Fits (unless why s (after_end dpi end))
 unless_fits dpi end why s = grind (arith, end_fits dpi s)
 
-pub job_fits : {profile : Profile} {dpi : Dpi} {job : List ℕ} {pages : List Sheet} → HasPagesBy profile dpi job pages → length pages ≤ 256
+pub job_fits : {profile : Profile} {dpi : Dpi} {job : List ℕ} {pages : List Sheet} → HasPagesBy profile dpi job pages
+    → length pages ≤ page_limit
 job_fits {profile} {dpi} {job} h =
     let first = after_all dpi h.commands 0 h.commands (at_begin profile) in
     rw h.ejected (unless_fits dpi (length job) first.refusal first.situation h.accepted)

@@ -1,6 +1,6 @@
 -- Performing the deeds of a page text prints its page.
 use Rattle.std.proofs.Common.{◌≡◌, ℕ, zero, suc, ◌+◌, ◌-◌, ◌*◌, ◌/◌, ◌<◌, ◌≤◌, Bool, true, false, cond, ◌||◌, ◌==◌, nat_le, List, [], ◌∷◌, ◌++◌, length, drop, replicate, Option, Some, None, refl, ap, ◌∙◌, length-append, arith, Ok}
-use Rattle.pcl_meaning.proofs.Names.{not, nat_lt, AllByRecursion, length-replicate, map-append, or-false, nat_tests, Dpi, Profile, Dpi300, Dpi600, Method, Plain, Horizontal, Vertical, PclUnit, Operation, FormFeed, PageSize, Copies, TopMargin, Move, RasterResolution, RasterWidth, StartRaster, EndRasterResetMethod, RasterMethod, RasterOffset, RasterRow, Size, Executive, Value, dots_per_inch, method_code, code_of, page_width, units_high, zero_value, Effect, Settings, put, put_x, put_y, to_first_line, copies_said, size_said, defaults, with_size, before_feed, return_carriage, Temporary, FontEvent, control, MacroEvent, Asked, pages_fit, with_page, Mark, is_black, dot_at, Raster, ends_raster, scale_of, raster_from, bytes_of_width, row_sent, row_mark, IsRowData, decoded_is, Token, opening, method, skip, send, IsRowOf, IsPageText, PageStart, Asks, first_page, next_page, sheet_said, page_said, said_for, dot_of_rows}
+use Rattle.pcl_meaning.proofs.Names.{not, nat_lt, AllByRecursion, length-replicate, map-append, or-false, nat_tests, Dpi, Profile, Dpi300, Dpi600, Method, Plain, Horizontal, Vertical, PclUnit, Operation, FormFeed, PageSize, Copies, TopMargin, Move, RasterResolution, RasterWidth, StartRaster, EndRasterResetMethod, RasterMethod, RasterOffset, RasterRow, Size, Executive, Value, page_limit, dots_per_inch, method_code, code_of, page_width, units_high, zero_value, Effect, Settings, put, put_x, put_y, to_first_line, copies_said, size_said, defaults, with_size, before_feed, return_carriage, Temporary, FontEvent, control, MacroEvent, Asked, pages_fit, with_page, Mark, is_black, dot_at, Raster, ends_raster, scale_of, raster_from, bytes_of_width, row_sent, row_mark, IsRowData, decoded_is, Token, opening, method, skip, send, IsRowOf, IsPageText, PageStart, Asks, first_page, next_page, sheet_said, page_said, said_for, dot_of_rows}
 use Rattle.pcl_env.specs.declared.effect.Effect.TheVariants as page
 use Rattle.pcl_env.specs.Outcome.{outcome}
 use Rattle.pcl_env.specs.Settings.{nothing_asked}
@@ -155,7 +155,7 @@ start_after {size} dpi {copies} {t} {pages} n b =
 
 -- a command that sets something between texts, and the deeds behind it
 set_leads : {dpi : Dpi} {operation : Operation} {value : Value} {t next : Settings} {effect : Effect} {pages : List Sheet} {n : ℕ}
-    {deeds : List Deed} {later : Situation} → length pages ≤ 256
+    {deeds : List Deed} {later : Situation} → length pages ≤ page_limit
     → outcome dpi operation value false t ≡ Some (next, effect) → ejects effect false ≡ false
     → ((s : Situation) → (drawn_on dpi operation (said_of (deed operation value [])) s |> quietly operation value) ≡ Ok s)
     → AreLeading dpi deeds (between next pages (n + 1)) later → AreLeading dpi (deed operation value [] ∷ deeds) (between t pages n) later
@@ -166,7 +166,7 @@ set_leads {dpi} {operation} {value} {t} {next} {pages} {n} fits set turns draws 
     lead {next = at} (rw (prepared, set, turns) (draws at)) (pages_fit at fits) rest
 
 start_leads : (size : Size) (dpi : Dpi) (copies : ℕ) {t : Settings} (pages : List Sheet) (n : ℕ) → IsBetween t → 0 < copies → copies < 100
-    → length pages ≤ 256 → AreLeading dpi (start_deeds dpi copies size) (between t pages n)
+    → length pages ≤ page_limit → AreLeading dpi (start_deeds dpi copies size) (between t pages n)
     (in_body size dpi (ready dpi size copies t) Plain 0 (zeros size dpi) [] pages (n + 1 + 1 + 1 + 1 + 1 + 1 + 1 + 1))
 start_leads size dpi copies {t} pages n b some few fits =
     let sized = with_size size (with_copies copies t) in
@@ -242,7 +242,7 @@ sent_dots size dpi k seed row rest inked x y within =
 -- a command, and what is printed after it
 printed_after : {size : Size} {dpi : Dpi} {t : Settings} {d : Deed} {deeds : List Deed} {rows below : List (List ℕ)} {k further : ℕ}
     {from next : Situation} {inked newer : List Mark} {pages : List Sheet} → does dpi d from ≡ Ok next
-    → length next.pages ≤ 256 → IsPrinted size dpi t deeds below further next newer pages → ((x y : ℕ) → x < page_width size dpi
+    → length next.pages ≤ page_limit → IsPrinted size dpi t deeds below further next newer pages → ((x y : ℕ) → x < page_width size dpi
     → (dot_from further below x y || is_black newer x y) ≡ (dot_from k rows x y || is_black inked x y))
     → IsPrinted size dpi t (d ∷ deeds) rows k from inked pages
 printed_after {next = next} one fits (is_printed last end seed all count rest black) same =
@@ -251,7 +251,7 @@ printed_after {next = next} one fits (is_printed last end seed all count rest bl
 body_printed : (inside : Bool) (tokens : List Token) {size : Size} {dpi : Dpi} (t : Settings) {m : Method} {seed : List ℕ}
     (rows : List (List ℕ)) (k : ℕ) (inked : List Mark) (pages : List Sheet) (n : ℕ)
     → PrintsRows inside m seed tokens rows → AllByRecursion (IsRowOf size dpi) rows → length seed ≡ bytes_of_width (page_width size dpi)
-    → length pages ≤ 256 → IsPrinted size dpi t (body_deeds tokens) rows k (in_body size dpi t m k seed inked pages n) inked pages
+    → length pages ≤ page_limit → IsPrinted size dpi t (body_deeds tokens) rows k (in_body size dpi t m k seed inked pages n) inked pages
 unfolding PrintsRows
 body_printed false [] t {m} {seed} rows k inked pages n p are long fits =
     is_printed m k seed inked n stay (λ x y within. rw (white_from k rows x y p) refl)
@@ -304,7 +304,7 @@ ended_at size dpi t m k seed = to_first_line (before_feed (behind size dpi t m k
 
 end_leads : (size : Size) (dpi : Dpi) (t : Settings) (m : Method) (k : ℕ) (seed : List ℕ) (marks : List Mark) (pages : List Sheet) (n : ℕ)
     → t.raster_height ≡ None → AsksForLittle t.asked → t.asked ≡ sheet_said (record { size = t.size; copies = t.copies; marks = marks })
-    → length pages < 256 → IsBetween (ended_at size dpi t m k seed)
+    → length pages < page_limit → IsBetween (ended_at size dpi t m k seed)
     × AreLeading dpi end_deeds (in_body size dpi t m k seed marks pages n)
     (between (ended_at size dpi t m k seed) (pages ++ record { size = t.size; copies = t.copies; marks = marks } ∷ []) (n + 1 + 1))
 end_leads size dpi t m k seed marks pages n none little asked few =
@@ -340,7 +340,7 @@ all_rows rows x y =
 
 pub text_taken : {dpi : Dpi} {size : Size} {copies : ℕ} {rows : List (List ℕ)} {text : List ℕ}
     (printed : IsPageText dpi size copies rows text)
-    {t : Settings} {pages : List Sheet} {n : ℕ} → IsBetween t → length pages < 256
+    {t : Settings} {pages : List Sheet} {n : ℕ} → IsBetween t → length pages < page_limit
     → IsTextTaken dpi size copies (text_deeds dpi size copies printed.tokens) rows (between t pages n) pages
 text_taken {dpi} {size} {copies} {rows} text {t} {pages} {n} b few =
     let u = ready dpi size copies t in

@@ -109,12 +109,12 @@ adds_named dpi None command s e = absurd cc
 adds_named dpi (Some operation) command s e = after_adds dpi operation command s e
 
 limit_from : (past : Bool) {s later : Situation} → nat_le command_limit s.performed ≡ past
-    → cond past (Err TooManyCommands) (Ok (counted s)) ≡ Ok later → (later ≡ counted s) × (s.performed < 100000000)
+    → cond past (Err TooManyCommands) (Ok (counted s)) ≡ Ok later → (later ≡ counted s) × (s.performed < command_limit)
 limit_from past p e = grind (arith, nat_tests)
 
 -- a command that counts, and isn't refused
 pub record IsCounted (dpi : Dpi) (command : Said) (s later : Situation) : Type 0 where
-  pub few : s.performed < 100000000
+  pub few : s.performed < command_limit
   pub after_is : after_named dpi (operation_of command.name) command (counted s) ≡ Ok later
   pub adds : Adds (counted s) later
 

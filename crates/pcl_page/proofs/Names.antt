@@ -1,6 +1,7 @@
 -- What proofs of this crate name of std, of the crates below, and of its own definitions; those above take these from here too.
 pub use Rattle.std.specs.Prelude.{length}
 pub use Rattle.pcl_base.proofs.Names.{Err, IsTrue, Ok, YieldsList-from_slice, [], all_from_yields_List, ap, arith, command_limit, drop, err_from_is_err_and, is_below_zero, is_some, macro_limit, nat_le, nat_tests, on_ok_weaker, operation_of, option_map, pow_mono, pow_pos, refl, refusal, rules, set, slice_get, slice_get_within, take_at, tests, to_z-of_z, to_z_pos, units_per_dot, w16, w32}
+pub use Rattle.pcl_base.specs.{Limits.page_limit}
 pub use Rattle.pcl_base.specs.contracts.{size.Size.the_type}
 pub use Rattle.pcl_base.specs.declared.{dpi.Dpi.Dpi, fault.CallFault.CallFault, fault.CallFault.TheVariants.Memory, fault.CallFault.TheVariants.Refused, fault.JobFault.JobFault, kind.Kind.Kind, kind.Kind.TheVariants.CharacterData, kind.Kind.TheVariants.MacroDepth, kind.Kind.TheVariants.MacroOpen, kind.Kind.TheVariants.NoFont, kind.Kind.TheVariants.TooManyCommands, kind.Kind.TheVariants.TooManyPages, method.Method.Method, operation.Asking.Asking, operation.Asking.TheVariants.LeftOffset, operation.Asking.TheVariants.PaperSource, operation.Asking.TheVariants.SheetSide, operation.Axis.Axis, operation.Operation.Operation, operation.Operation.TheVariants.LineSpacing, operation.Operation.TheVariants.RasterResolution, operation.Operation.TheVariants.Reset, operation.Operation.TheVariants.UnitOfMeasure, profile.Profile.Profile, operation.Operation.TheVariants.Ask, operation.Operation.TheVariants.ControlFonts, operation.Operation.TheVariants.ControlMacros, operation.Operation.TheVariants.DownloadCharacter, operation.Operation.TheVariants.DownloadFont, operation.Operation.TheVariants.EndRaster, operation.Operation.TheVariants.FillRectangle, operation.Operation.TheVariants.PrintText, operation.Side.Side, profile.Profile.TheVariants.Drivers, profile.Profile.TheVariants.Stated, refusal.Refusal.Refusal, size.Size.Size, value.Value.Value}
 pub use Rattle.pcl_bitmap.proofs.Names.{IsSamePage, Picture, dot, raster_dot}

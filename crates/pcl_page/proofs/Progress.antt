@@ -1,6 +1,6 @@
 -- How far commands and macros bring a performance, and how much work they leave.
 use Rattle.std.proofs.Common.{◌≡◌, ℕ, zero, suc, ◌+◌, ◌-◌, ◌*◌, ◌<◌, ◌≤◌, List, [], ◌∷◌, ◌++◌, length, take, drop, Option, Some, None, Result, Ok, Err, refl, sym, ap, ◌∙◌, length-append, suc-mul, arith, inl, inr, rules, is_some, ◌⊎◌, slice_get}
-use Rattle.pcl_page.proofs.Names.{Dpi, CallFault, JobFault, Kind, Refusal, macro_limit, refusal, Settings, Said, Page, Interpreter, Running, Situation, Run, after_command, run_of, macro_ended, Performance, stopped, then_on, step, commands_left, runs, HandsMore, IsAt, run_in, entered, Enters, rest_of, resumed, begun_among, left_in, work_left, GoesOn, IsStepped}
+use Rattle.pcl_page.proofs.Names.{Dpi, CallFault, JobFault, Kind, Refusal, command_limit, macro_limit, refusal, Settings, Said, Page, Interpreter, Running, Situation, Run, after_command, run_of, macro_ended, Performance, stopped, then_on, step, commands_left, runs, HandsMore, IsAt, run_in, entered, Enters, rest_of, resumed, begun_among, left_in, work_left, GoesOn, IsStepped}
 use Rattle.pcl_base.specs.declared.fault.CallFault.TheVariants as call
 use Rattle.pcl_base.specs.declared.fault.JobFault.TheVariants as job
 use Rattle.pcl_page.proofs.Sinks.{no_pages, first_of_more, none_of_more, goes_from, goes_to}
@@ -126,12 +126,12 @@ left_entered : (count : ℕ) (run : Option Run) → left_in count (entered run) 
 left_entered count run = grind arith
 
 -- a command that counts is worth all that its macro may have left
-fewer_left : (performed later count old new : ℕ) → performed < 100000000 → later ≡ performed + 1 → new ≤ old + (count + 1)
-    → (100000001 - later) * (count + 2) + new ≤ (100000001 - performed) * (count + 2) + old
+fewer_left : (performed later count old new : ℕ) → performed < command_limit → later ≡ performed + 1 → new ≤ old + (count + 1)
+    → (command_limit + 1 - later) * (count + 2) + new ≤ (command_limit + 1 - performed) * (count + 2) + old
 fewer_left performed later count old new few next more =
-    let n = 100000000 - performed in
-    let one : 100000001 - later ≡ n = omega (arith, next) in
-    let two : 100000001 - performed ≡ suc n = omega arith in
+    let n = command_limit - performed in
+    let one : command_limit + 1 - later ≡ n = omega (arith, next) in
+    let two : command_limit + 1 - performed ≡ suc n = omega arith in
     rw (one, two) (omega (arith, suc-mul n (count + 2), more))
 
 pub stepped_work : (dpi : Dpi) (place count : ℕ) (command : Said) (s later : Situation) (old new : Interpreter) → IsAt dpi s old

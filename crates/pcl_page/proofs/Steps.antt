@@ -1,6 +1,6 @@
 -- The performer follows the situation, command by command.
 use Rattle.std.proofs.Common.{◌≡◌, ℕ, ◌+◌, ◌<◌, ◌≤◌, Bool, true, false, cond, nat_le, List, [], ◌∷◌, ◌++◌, length, Option, Some, None, Result, Ok, Err, refl, sym, ap, ◌∙◌, append-nil, length-append, inl, inr, arith, rules, is_some, ◌&&◌}
-use Rattle.pcl_page.proofs.Names.{nat_tests, Dpi, CallFault, Refused, Memory, Kind, TooManyPages, Operation, FillRectangle, ControlFonts, DownloadFont, DownloadCharacter, PrintText, command_limit, operation_of, is_below_zero, Said, Effect, Stay, Settings, defaults, Outcome, stays, Page, Performer, ends_raster, is_ignored_in_raster, Shows, IsIn, IsEjected, Takes, Draws, HandsMore, IsTurned, IsTried, Asked, Asks, asks_of, lasting_if, restarted, with_page}
+use Rattle.pcl_page.proofs.Names.{nat_tests, Dpi, CallFault, Refused, Memory, Kind, TooManyPages, Operation, FillRectangle, ControlFonts, DownloadFont, DownloadCharacter, PrintText, command_limit, page_limit, operation_of, is_below_zero, Said, Effect, Stay, Settings, defaults, Outcome, stays, Page, Performer, ends_raster, is_ignored_in_raster, Shows, IsIn, IsEjected, Takes, Draws, HandsMore, IsTurned, IsTried, Asked, Asks, asks_of, lasting_if, restarted, with_page}
 use Rattle.pcl_env.specs.Outcome.{outcome}
 use Rattle.pcl_fonts.specs.History.{has_permanent as is_font_permanent}
 use Rattle.pcl_macros.specs.History.{has_permanent as is_macro_permanent}
@@ -17,7 +17,7 @@ pub counted_in : {dpi : Dpi} {s : Situation} {old new : Performer} → IsIn dpi 
 counted_in i e r b m j p a f = search (rules, f, b)
 
 -- a command that is not past the limit, by its operation
-pub checked_as : (dpi : Dpi) (command : Said) {operation : Option Operation} (s : Situation) → s.performed < 100000000
+pub checked_as : (dpi : Dpi) (command : Said) {operation : Option Operation} (s : Situation) → s.performed < command_limit
     → operation_of command.name ≡ operation
     → after_checked dpi command s ≡ (after_named dpi operation command (counted s) |> within_page_limit)
 checked_as dpi command s few named =
@@ -67,7 +67,7 @@ module _ {S : Type 0} (takes : S → Page → S → Type 0) (dpi : Dpi) (operati
   turned_with done = turned done.0 done.1 before
 
   pub checked_ignored : (old new : Performer) (sink : S)
-      → IsIn dpi s old → old.performed < 100000000 → old.ejected ≤ 256 → operation_of command.name ≡ Some operation
+      → IsIn dpi s old → old.performed < command_limit → old.ejected ≤ page_limit → operation_of command.name ≡ Some operation
       → (is_some old.raster && is_ignored_in_raster operation) ≡ true → IsIn dpi (counted s) new
       → IsTried takes dpi command s (Ok operation) new sink sink
   unfolding after
@@ -118,7 +118,7 @@ module _ {S : Type 0} (takes : S → Page → S → Type 0) (dpi : Dpi) (operati
       → Draws dpi (draw_refusal dpi operation command now) (drawn dpi operation command now) result new
 
   -- a command that isn't ignored
-  module _ {old : Performer} (i : IsIn dpi s old) (few : old.performed < 100000000) (named : operation_of command.name ≡ Some operation)
+  module _ {old : Performer} (i : IsIn dpi s old) (few : old.performed < command_limit) (named : operation_of command.name ≡ Some operation)
       (performed : (is_some old.raster && is_ignored_in_raster operation) ≡ false) where
     -- what it leads to, by the outcome of its operation
     checked_at : {o : Outcome} → set_to ≡ o
@@ -193,7 +193,7 @@ end_asks s asks = restarted (lasting_if (is_macro_permanent s.macros) (lasting_i
 
 pub end_marked : {S : Type 0} (takes : S → Page → S → Type 0) (dpi : Dpi) (s : Situation) (copies : ℕ) (asked : Asked)
     (old middle new : Performer) (sink later : S) → IsIn dpi s old
-    → old.is_marked ≡ true → old.ejected < 256 → copies ≡ old.environment.copies → asked ≡ old.environment.asked
+    → old.is_marked ≡ true → old.ejected < page_limit → copies ≡ old.environment.copies → asked ≡ old.environment.asked
     → IsEjected asked old middle → Takes takes copies old sink later
     → asks_of new.asks ≡ end_asks s (asks_of middle.asks) → EndsAt takes dpi s (at_end dpi s) new sink later
 end_marked takes dpi s copies asked old middle new sink later i m few c a e t again =
@@ -212,7 +212,7 @@ end_marked takes dpi s copies asked old middle new sink later i m few c a e t ag
     )
 
 pub end_unmarked : {S : Type 0} (takes : S → Page → S → Type 0) (dpi : Dpi) (s : Situation) (old new : Performer) (sink later : S)
-    → IsIn dpi s old → old.is_marked ≡ false → old.ejected ≤ 256 → later ≡ sink → asks_of new.asks ≡ end_asks s (asks_of old.asks)
+    → IsIn dpi s old → old.is_marked ≡ false → old.ejected ≤ page_limit → later ≡ sink → asks_of new.asks ≡ end_asks s (asks_of old.asks)
     → EndsAt takes dpi s (at_end dpi s) new sink later
 end_unmarked takes dpi s old new sink later i m few same again =
     let is : is_marked s ≡ false = cc in
@@ -223,7 +223,7 @@ end_unmarked takes dpi s old new sink later i m few same again =
       again ∙ ap (end_asks s) i.asks,
     )
 
-pub end_past : {dpi : Dpi} {s : Situation} {old : Performer} → IsIn dpi s old → old.is_marked ≡ true → 256 ≤ old.ejected
+pub end_past : {dpi : Dpi} {s : Situation} {old : Performer} → IsIn dpi s old → old.is_marked ≡ true → page_limit ≤ old.ejected
     → page_refusal (at_end dpi s) ≡ Some TooManyPages
 end_past {dpi} {s} i m many =
     let end = end_raster dpi s in

@@ -1,6 +1,6 @@
 -- The performer follows the situation: rasters that end, pages that are turned, and what is drawn.
 use Rattle.std.proofs.Common.{◌≡◌, ℕ, ◌<◌, ◌≤◌, Bool, true, false, cond, nat_le, List, [], ◌∷◌, length, Option, Some, None, Result, Ok, Err, refl, sym, ◌∙◌, append-nil, length-append, arith, rules, ◌++◌}
-use Rattle.pcl_page.proofs.Names.{nat_tests, Dpi, Memory, TooManyPages, Operation, Size, Value, Picture, Effect, Stay, Eject, EjectMarked, Unsupported, Settings, to_first_line, Outcome, outcome, Answers, Page, Performer, Asked, Mark, are_marked, Raster, ends_raster, Situation, settings_below, end_raster, is_marked, ejects, sheet_of, turned_page, prepared, page_refusal, Shows, IsPainted, IsIn, IsWhite, IsFollowed, IsEjected, IsHanded, Takes, IsPrepared, IsDrawn, HandsMore, IsTurned}
+use Rattle.pcl_page.proofs.Names.{nat_tests, Dpi, Memory, TooManyPages, Operation, Size, Value, page_limit, Picture, Effect, Stay, Eject, EjectMarked, Unsupported, Settings, to_first_line, Outcome, outcome, Answers, Page, Performer, Asked, Mark, are_marked, Raster, ends_raster, Situation, settings_below, end_raster, is_marked, ejects, sheet_of, turned_page, prepared, page_refusal, Shows, IsPainted, IsIn, IsWhite, IsFollowed, IsEjected, IsHanded, Takes, IsPrepared, IsDrawn, HandsMore, IsTurned}
 use Rattle.pcl_page.proofs.Sizes.{size_kept}
 
 -- ---- pages
@@ -101,11 +101,11 @@ stayed_size {dpi} operation value {s} Stay i o e marked =
 stayed_size operation value EjectMarked i o e marked = absurd cc
 
 -- as many pages as there may be
-pub pages_fit : (s : Situation) → length s.pages ≤ 256 → page_refusal s ≡ None
-pages_fit s le = let t : nat_le (length s.pages) 256 ≡ true = grind (arith, nat_tests) in rw t refl
+pub pages_fit : (s : Situation) → length s.pages ≤ page_limit → page_refusal s ≡ None
+pages_fit s le = let t : nat_le (length s.pages) page_limit ≡ true = grind (arith, nat_tests) in rw t refl
 
-pub pages_past : (s : Situation) → 256 < length s.pages → page_refusal s ≡ Some TooManyPages
-pages_past s gt = let t : nat_le (length s.pages) 256 ≡ false = grind (arith, nat_tests) in rw t refl
+pub pages_past : (s : Situation) → page_limit < length s.pages → page_refusal s ≡ Some TooManyPages
+pages_past s gt = let t : nat_le (length s.pages) page_limit ≡ false = grind (arith, nat_tests) in rw t refl
 
 -- what a situation is whose page isn't ejected
 abbrev pub with_settings : Settings → Situation → Situation
@@ -140,7 +140,7 @@ module _ {S : Type 0} (takes : S → Page → S → Type 0) (dpi : Dpi) (operati
 
   pub turned_stays : (old new : Performer) (sink later : S)
       → IsIn dpi s old → Answers (outcome dpi operation value old.is_marked old.environment) (Ok effect) old.environment new.environment
-      → ejects effect old.is_marked ≡ false → old.ejected ≤ 256 → new.page.bitmap ≡ old.page.bitmap → new.is_marked ≡ old.is_marked
+      → ejects effect old.is_marked ≡ false → old.ejected ≤ page_limit → new.page.bitmap ≡ old.page.bitmap → new.is_marked ≡ old.is_marked
       → new.ejected ≡ old.ejected → new.performed ≡ old.performed → new.asks ≡ old.asks → new.raster ≡ old.raster
       → new.fonts ≡ old.fonts → later ≡ sink → IsTurned takes dpi comes_to s (Ok tt) new sink later
   turned_stays old new sink later i a e few b m j p q r t same =
@@ -158,7 +158,7 @@ module _ {S : Type 0} (takes : S → Page → S → Type 0) (dpi : Dpi) (operati
   -- the settings were set, the page was handed over, and a white one began
   module _ {size : Size} {copies : ℕ} {asked : Asked} {old middle begun last : Performer} (sink later : S) (i : IsIn dpi s old)
       (a : Answers (outcome dpi operation value old.is_marked old.environment) (Ok effect) old.environment middle.environment)
-      (does : ejects effect old.is_marked ≡ true) (few : old.ejected < 256) (size_is : size ≡ old.environment.size)
+      (does : ejects effect old.is_marked ≡ true) (few : old.ejected < page_limit) (size_is : size ≡ old.environment.size)
       (copies_are : copies ≡ old.environment.copies) (asked_is : asked ≡ old.environment.asked) (f : IsFollowed size middle begun)
       (e : IsEjected asked begun last × Takes takes copies begun sink later)
       (page : middle.page ≡ old.page) (ejected : middle.ejected ≡ old.ejected) (performed : middle.performed ≡ old.performed)

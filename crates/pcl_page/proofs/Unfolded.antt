@@ -1,6 +1,6 @@
 -- Performances of commands and of macros, unfolded.
 use Rattle.std.proofs.Common.{◌≡◌, ℕ, zero, suc, ◌+◌, ◌-◌, ◌<◌, Bool, true, false, cond, List, [], ◌∷◌, ◌++◌, length, Option, Some, None, Result, Ok, Err, refl, sym, ◌∙◌, append-nil, arith, inl, inr, is_some, ◌⊎◌}
-use Rattle.pcl_page.proofs.Names.{Dpi, Kind, MacroDepth, Operation, ControlMacros, Value, macro_limit, operation_of, Settings, Said, Running, Action, Keeping, Situation, after_checked, Run, action_of, keeping_of, acted, lasting_by, after_macros, after_counted, defining, after_command, run_of, macro_ended, Performance, done, stopped, unless, then_on, in_order, led_to, and_run, step, commands_left, runs, run_in, entered, HasLevel, rest_of, resumed, begun_among}
+use Rattle.pcl_page.proofs.Names.{Dpi, Kind, MacroDepth, Operation, ControlMacros, Value, command_limit, macro_limit, operation_of, Settings, Said, Running, Action, Keeping, Situation, after_checked, Run, action_of, keeping_of, acted, lasting_by, after_macros, after_counted, defining, after_command, run_of, macro_ended, Performance, done, stopped, unless, then_on, in_order, led_to, and_run, step, commands_left, runs, run_in, entered, HasLevel, rest_of, resumed, begun_among}
 use Rattle.pcl_page.proofs.Keeping.{then_from, is_counted}
 use Rattle.pcl_page.proofs.Sinks.{Onward, stays_there, onward_on}
 
@@ -71,7 +71,7 @@ module _ (dpi : Dpi) (all : List Said) (place : ℕ) (command : Said) (running :
 pub record Counts (s later : Situation) : Type 0 where
   pub onward : Onward s later
   pub performed : later.performed ≡ s.performed + 1
-  pub few : s.performed < 100000000
+  pub few : s.performed < command_limit
 
 -- neither pages nor counts change where something is done to macros
 pub record ActsOnMacros (s later : Situation) : Type 0 where

@@ -1,7 +1,7 @@
 //! Performing one command after the other.
 
 ghost use Rattle.std.specs.Prelude.{◌≤◌, ◌*◌, ◌^◌};
-ghost use Rattle.pcl_base.specs.Limits.{copies_limit};
+ghost use Rattle.pcl_base.specs.Limits.{command_limit, copies_limit, page_limit};
 ghost use Rattle.pcl_page.specs.Raster.{rows_in};
 
 use crate::asks::Asks;
@@ -42,8 +42,8 @@ pub struct Performer<'a> {
     pub doubts: Doubts,
     /// Where pages and rasters take their memory.
     pub alloc: Global,
-    ghost few_pages: { ejected ≤ 256 },
-    ghost few_commands: { performed ≤ 100000000 },
+    ghost few_pages: { ejected ≤ page_limit },
+    ghost few_commands: { performed ≤ command_limit },
     ghost few_rows: { rows_in raster ≤ 2 ^ 20 * performed },
 }
 
@@ -231,7 +231,7 @@ impl<'a> Performer<'a> {
         asked: Asked,
         sink: &mut S,
     ) -> Result<(), AllocError>
-        requires few { self.old.ejected < 256 }
+        requires few { self.old.ejected < page_limit }
         requires copies { (1 ≤ copies) × (copies ≤ copies_limit) }
         ensures ok { OnOk result (IsEjected asked self.old self.new × Takes S.takes copies self.old sink.old sink.new) }
         ensures err { OnErr result (sink.new ≡ sink.old) }
