@@ -1,13 +1,12 @@
 -- The checks of a parameter whose shape is right, in their order: the range of its value, its name, its data.
-use Rattle.std.specs.Prelude.{ℕ, Bool, ◌==◌, ◌&&◌, nat_lt, if◌then◌else◌, Option, Some, None, Result, Ok, Err}
+use Rattle.std.specs.Prelude.{ℕ, Bool, ◌==◌, ◌&&◌, nat_lt, if◌then◌else◌, Option, Some, None, Result, Ok, Err, codes}
 use Rattle.pcl_base.specs.declared.name.Name.{Name}
-use Rattle.pcl_base.specs.declared.name.Name.TheVariants.{Two}
 use Rattle.pcl_base.specs.declared.kind.Kind.{Kind}
 use Rattle.pcl_base.specs.declared.kind.Kind.TheVariants.{Truncated, BadSequence, ValueRange, UnsupportedCommand}
 use Rattle.pcl_base.specs.declared.operation.Operation.{Operation}
 use Rattle.pcl_base.specs.declared.profile.Profile.{Profile}
 use Rattle.pcl_base.specs.declared.value.Value.{Value}
-use Rattle.pcl_base.specs.Operation.{operation_of, takes_data, has, is_name}
+use Rattle.pcl_base.specs.Operation.{named, operation_of, takes_data, has, is_name}
 use Rattle.pcl_base.specs.Value.{whole_of, is_minus, is_below_zero}
 use Rattle.pcl_escape.specs.Letter.{goes_on}
 use Rattle.pcl_escape.specs.Field.{in_range}
@@ -33,9 +32,13 @@ parameter_checks profile name letter value left =
 
 -- ---- the universal exit
 
--- %X
+-- its name
 abbrev pub exit_name : Name
-exit_name = Two 37 88
+exit_name = named (codes "%X")
+
+-- its parameter byte, X
+abbrev pub exit_letter : ℕ
+exit_letter = 88
 
 -- whether the command is a universal exit, after which lines of the job language are skipped
 abbrev pub is_exit : Name → Value → Bool

@@ -1,5 +1,5 @@
 -- What the first fault of a job is: a front that reads without fault, and what first fails after it.
-use Rattle.std.specs.Prelude.{◌≡◌, ℕ, ◌+◌, Bool, true, false, ◌==◌, ◌&&◌, ◌||◌, is_none, IsTrue, IsNone, List, [], ◌∷◌, ◌++◌, length, Option, Some, None, Ok, Err}
+use Rattle.std.specs.Prelude.{◌≡◌, ℕ, ◌+◌, Bool, true, false, ◌==◌, ◌&&◌, ◌||◌, is_none, IsTrue, IsNone, List, [], ◌∷◌, ◌++◌, length, Option, Some, None, Ok, Err, codes}
 use Rattle.std.specs.List.{flat_map, AllByRecursion}
 use Rattle.pcl_base.specs.declared.name.Name.TheVariants.{Empty, One}
 use Rattle.pcl_base.specs.declared.kind.Kind.{Kind}
@@ -15,7 +15,7 @@ use Rattle.pcl_base.specs.Value.{is_absent}
 use Rattle.pcl_escape.specs.Letter.{is_silent, is_control, is_two_character, is_parameterized, is_ungrouped, is_group, is_letter, prefix_name, parameter_name, prefix_bytes}
 use Rattle.pcl_escape.specs.Field.{Spelled, field_bytes, field_value}
 use Rattle.pcl_base.specs.Digits.{is_digit}
-use Rattle.pcl_escape.specs.Checks.{parameter_checks, exit_name, is_exit}
+use Rattle.pcl_escape.specs.Checks.{parameter_checks, exit_name, exit_letter, is_exit}
 use Rattle.pcl_escape.specs.Exit.{joined, IsLine, AreOtherLines, names_language, names_pcl}
 use Rattle.pcl_escape.specs.Pieces.{Parameter, Piece, IsField, IsPrefix, IsMiddle, ArePieces, parameter_bytes, spelling, first_place}
 
@@ -77,9 +77,10 @@ pub data Fails (profile : Profile) : ℕ → List ℕ → Refusal → Type 0 whe
       → FailsParameter profile prefix (place_behind at prefix middle) bytes fault
       → Fails profile at (27 ∷ (prefix_bytes prefix ++ (flat_map parameter_bytes middle ++ bytes))) fault
   in_line : {at : ℕ} {bytes : List ℕ} (field : Spelled) (lines : List (List ℕ)) (line : List ℕ)
-      → IsField field → IsTrue (is_exit exit_name (field_value field)) → parameter_checks profile exit_name 88 (field_value field) 0 ≡ Ok 0
+      → IsField field → IsTrue (is_exit exit_name (field_value field))
+      → parameter_checks profile exit_name exit_letter (field_value field) 0 ≡ Ok 0
       → AreOtherLines lines (line ++ bytes) → IsLine line bytes → IsTrue (names_language line) → names_pcl line ≡ false
-      → Fails profile at (27 ∷ 37 ∷ (field_bytes field ++ 88 ∷ (joined lines ++ (line ++ bytes))))
+      → Fails profile at (27 ∷ codes "%" ++ field_bytes field ++ exit_letter ∷ (joined lines ++ (line ++ bytes)))
       (refusal NotPcl (at + 3 + length (field_bytes field) + length (joined lines)) exit_name)
 
 -- the first fault of a job by a profile: after a prefix of whole pieces something fails

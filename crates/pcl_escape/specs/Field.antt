@@ -1,5 +1,5 @@
 -- Value fields: a sign, digits, and a point with digits; each may be missing.
-use Rattle.std.specs.Prelude.{ℕ, ◌+◌, ◌*◌, ◌-◌, Bool, nat_le, List, [], ◌∷◌, ◌++◌, slice_index, Option, Some, None}
+use Rattle.std.specs.Prelude.{ℕ, ◌+◌, ◌*◌, ◌-◌, Bool, nat_le, List, [], ◌++◌, slice_index, Option, Some, None, codes}
 use Rattle.std.specs.Borrow.{Bor}
 use Rattle.pcl_base.specs.Digits.{number_of}
 use Rattle.pcl_base.specs.declared.value.Sign.{Sign}
@@ -18,13 +18,13 @@ pub record Spelled : Type 0 where
 -- a sign, or nothing
 abbrev pub sign_bytes : Sign → List ℕ
 sign_bytes Absent = []
-sign_bytes Plus = 43 ∷ []
-sign_bytes Minus = 45 ∷ []
+sign_bytes Plus = codes "+"
+sign_bytes Minus = codes "-"
 
 -- a point with digits, or nothing
 abbrev pub fraction_bytes : Option (List ℕ) → List ℕ
 fraction_bytes None = []
-fraction_bytes (Some digits) = 46 ∷ digits
+fraction_bytes (Some digits) = codes "." ++ digits
 
 -- the three one after the other
 abbrev pub field_bytes : Spelled → List ℕ
@@ -51,9 +51,9 @@ field_value field = record { sign = field.sign; parts = number_of field.whole * 
 
 -- at most 65535, and with a minus sign at most 32767
 abbrev pub greatest_parts : Sign → ℕ
-greatest_parts Absent = 655350000
-greatest_parts Plus = 655350000
-greatest_parts Minus = 327670000
+greatest_parts Absent = 65535 * 10000
+greatest_parts Plus = 65535 * 10000
+greatest_parts Minus = 32767 * 10000
 
 -- the magnitude is at most that
 abbrev pub in_range : Value → Bool

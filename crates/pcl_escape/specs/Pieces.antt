@@ -1,16 +1,16 @@
 -- What a reading of a job is: the job is cut into whole pieces of the language, and each gives its commands.
-use Rattle.std.specs.Prelude.{◌≡◌, ℕ, ◌+◌, false, IsTrue, List, [], ◌∷◌, ◌++◌, length, Option, Some, None, IfSome, IsSome, Ok}
+use Rattle.std.specs.Prelude.{◌≡◌, ℕ, ◌+◌, false, IsTrue, List, [], ◌∷◌, ◌++◌, length, Option, Some, None, IfSome, IsSome, Ok, codes}
 use Rattle.std.specs.List.{flat_map, AllByRecursion}
 use Rattle.pcl_base.specs.declared.name.Name.{Name}
 use Rattle.pcl_base.specs.declared.name.Name.TheVariants.{One}
 use Rattle.pcl_base.specs.declared.profile.Profile.{Profile}
-use Rattle.pcl_base.specs.Operation.{operation_of}
+use Rattle.pcl_base.specs.Operation.{operation_of, text as text_name}
 use Rattle.pcl_base.specs.Value.{zero_value}
 use Rattle.pcl_escape.specs.declared.step.Prefix.{Prefix}
 use Rattle.pcl_escape.specs.Letter.{is_silent, is_control, is_text, is_two_character, is_parameterized, is_ungrouped, is_group, may_go_on, is_last, parameter_name, prefix_bytes}
 use Rattle.pcl_escape.specs.Field.{Spelled, field_bytes, field_value}
 use Rattle.pcl_base.specs.Digits.{AreDigits}
-use Rattle.pcl_escape.specs.Checks.{parameter_checks, exit_name, is_exit}
+use Rattle.pcl_escape.specs.Checks.{parameter_checks, exit_name, exit_letter, is_exit}
 use Rattle.pcl_escape.specs.Exit.{joined, AreLines}
 use Rattle.pcl_escape.specs.Said.{Said}
 
@@ -43,7 +43,7 @@ spelling (text bytes) = bytes
 spelling (two_character byte) = 27 ∷ byte ∷ []
 spelling (combined prefix middle end bytes) =
     27 ∷ (prefix_bytes prefix ++ (flat_map parameter_bytes middle ++ (parameter_bytes end ++ bytes)))
-spelling (exit field lines) = 27 ∷ 37 ∷ (field_bytes field ++ 88 ∷ joined lines)
+spelling (exit field lines) = 27 ∷ codes "%" ++ field_bytes field ++ exit_letter ∷ joined lines
 
 -- ---- what each piece must be
 
@@ -79,10 +79,6 @@ pub record IsEnd (profile : Profile) (prefix : Prefix) (parameter : Parameter) (
   pub checks : PassesChecks profile prefix parameter bytes
   pub stays : is_exit (parameter_name prefix parameter.letter) (field_value parameter.field) ≡ false
 
--- a command of this name is performed
-abbrev pub IsNamed : Name → Type 0
-IsNamed name = IsSome (operation_of name)
-
 -- no text goes on there
 abbrev pub IsNoText : List ℕ → Type 0
 IsNoText [] = Unit {0}
@@ -97,15 +93,15 @@ IsRun (byte ∷ bytes) behind = AllByRecursion (λ byte. IsTrue (is_text byte)) 
 pub record IsExit (profile : Profile) (field : Spelled) (lines : List (List ℕ)) (behind : List ℕ) : Type 0 where
   pub field_is : IsField field
   pub leaves : IsTrue (is_exit exit_name (field_value field))
-  pub checks : parameter_checks profile exit_name 88 (field_value field) 0 ≡ Ok 0
+  pub checks : parameter_checks profile exit_name exit_letter (field_value field) 0 ≡ Ok 0
   pub lines_are : AreLines lines behind
 
 -- a piece by a profile, before the bytes that stand after it
 abbrev pub IsPiece : Profile → Piece → List ℕ → Type 0
 IsPiece profile (silent byte) behind = IsTrue (is_silent byte)
-IsPiece profile (control code) behind = IsTrue (is_control code) × (is_silent code ≡ false) × IsNamed (One code)
+IsPiece profile (control code) behind = IsTrue (is_control code) × (is_silent code ≡ false) × IsSome (operation_of (One code))
 IsPiece profile (text bytes) behind = IsRun bytes behind
-IsPiece profile (two_character byte) behind = IsTrue (is_two_character byte) × IsNamed (One byte)
+IsPiece profile (two_character byte) behind = IsTrue (is_two_character byte) × IsSome (operation_of (One byte))
 IsPiece profile (combined prefix middle end bytes) behind =
     IsPrefix prefix × AllByRecursion (IsMiddle profile prefix) middle × IsEnd profile prefix end bytes
 IsPiece profile (exit field lines) behind = IsExit profile field lines behind
@@ -123,7 +119,7 @@ bare_command at code = record { at = at; name = One code; value = zero_value; by
 
 -- a run of text
 abbrev pub text_command : ℕ → List ℕ → Said
-text_command at bytes = record { at = at; name = One 32; value = zero_value; bytes = bytes }
+text_command at bytes = record { at = at; name = text_name; value = zero_value; bytes = bytes }
 
 -- a universal exit says its value, and its lines one after the other
 abbrev pub exit_command : ℕ → Spelled → List (List ℕ) → Said
