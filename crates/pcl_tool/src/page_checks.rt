@@ -8,11 +8,9 @@ ghost use Rattle.pcl_tool.specs.inner.PageChecks.{IsFound};
 
 use crate::JobVerdict;
 use pcl_cert::{PageProof, Verdict, check_page};
+use pcl_output::RESET;
 use pcl_page::{Page, PageSink};
 use std::alloc::{AllocError, Global};
-
-/// What stands before the page texts of a job, and after them: a reset.
-const FRAME: &[u8] = b"\x1bE";
 
 /// Checks page after page of a job, until one isn't proved.
 #[derive(Drop)]
@@ -120,7 +118,7 @@ fn framed(output: &[u8]) -> Option<&[u8]>
     ensures { MatchOption result ((texts : List ℕ) → output.now ≡ frame_bytes ++ texts ++ frame_bytes → ⊥)
         (λ texts. output.now ≡ frame_bytes ++ texts.now ++ frame_bytes) }
 {
-    output.strip_prefix(FRAME)?.strip_suffix(FRAME)
+    output.strip_prefix(RESET)?.strip_suffix(RESET)
 }
 
 /// Whether the texts are so long together.
