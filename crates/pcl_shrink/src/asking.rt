@@ -31,14 +31,12 @@ ghost use Rattle.pcl_shrink.specs.Asking.{
 
 use itoa::Buffer;
 use pcl_env::{Asked, append_offset};
+use pcl_output::RESET;
 use pcl_page::{AskedPage, Asks, Exit, PageStart};
 use std::alloc::AllocError;
 
 /// Ends a job in the printer's job language, and begins another ("Universal Exit Language").
 const UNIVERSAL_EXIT: &[u8] = b"\x1b%-12345X";
-
-/// Puts everything back to its default.
-const RESET: &[u8] = b"\x1bE";
 
 /// A line of the default spacing, six to the inch, in units of 1/7200 inch.
 const LINE: i64 = 1_200;
