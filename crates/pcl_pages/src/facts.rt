@@ -1,6 +1,6 @@
 //! What is known of the pages of a job.
 
-use pcl_base::{Dpi, Method, Size};
+use pcl_base::{Dpi, Method};
 use pcl_output::Step;
 use pcl_page::{AskedPage, Asks, Exit, Page};
 use pcl_plan::{Plan, plan};
@@ -120,7 +120,7 @@ impl PageFacts {
         write_page(page, &least, &mut text)?;
         Ok(PageFacts {
             page: number,
-            size: size_name(page.size),
+            size: page.size.name(),
             copies: page.copies,
             sides: None,
             source: None,
@@ -282,14 +282,4 @@ fn black_dots(page: &Page) -> u64 {
         black = black.saturating_add(u64::from(byte.count_ones()));
     }
     black
-}
-
-/// The name of a page size.
-fn size_name(size: Size) -> &'static str {
-    match size {
-        Size::Executive => "Executive",
-        Size::Letter => "Letter",
-        Size::Legal => "Legal",
-        Size::A4 => "A4",
-    }
 }
