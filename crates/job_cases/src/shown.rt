@@ -1,7 +1,7 @@
 //! What came of a job, as a table would have it.
 
 use case_tables::ESC;
-use pcl_base::{Dpi, Profile, Size};
+use pcl_base::{Dpi, Profile};
 use pcl_page::{Page, PageSink, perform_by};
 use std::alloc::{AllocError, Global};
 use std::marker::Model;
@@ -14,16 +14,6 @@ const MOST_BYTES: usize = 40;
 
 /// How many bytes of a job are shown.
 const MOST_JOB_BYTES: usize = 400;
-
-/// The name of a size.
-pub(crate) fn name_of(size: Size) -> &'static str {
-    match size {
-        Size::Executive => "Executive",
-        Size::Letter => "Letter",
-        Size::Legal => "Legal",
-        Size::A4 => "A4",
-    }
-}
 
 /// The pages that came.
 #[derive(Drop)]
@@ -73,7 +63,7 @@ pub(crate) fn show_pages(
 }
 
 fn show_page(text: &mut String, page: &Page) -> Result<(), AllocError> {
-    let name = name_of(page.size);
+    let name = page.size.name();
     match page.copies {
         1 => write!(text, "  page {name}\n")?,
         copies => write!(text, "  page {name}, {copies} copies\n")?,

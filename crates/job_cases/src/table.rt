@@ -21,7 +21,6 @@
 //! `written` stands at each page of a case or at none.
 
 use crate::case::{Case, Pages, RepeatedRows};
-use crate::shown::name_of;
 use case_tables::{TableFault, bracketed_bytes_of, bytes_of, number, resolution};
 use pcl_base::{Dpi, Size};
 use std::alloc::{AllocError, Global};
@@ -184,6 +183,6 @@ fn row_number(text: &str) -> Result<u32, TableFault> {
 fn size(name: &str) -> Result<Size, TableFault> {
     [Size::Executive, Size::Letter, Size::Legal, Size::A4]
         .into_iter()
-        .find(|size| name_of(*size) == name)
+        .find(|size| size.name() == name)
         .ok_or(TableFault::Number)
 }
