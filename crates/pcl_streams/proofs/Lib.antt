@@ -5,3 +5,4 @@ pub mod Counts
 pub mod Pixels
 pub mod Flags
 pub mod Showings
+pub mod Comparings

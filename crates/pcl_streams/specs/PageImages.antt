@@ -1,5 +1,5 @@
 -- What a preview of several pages writes, and what each fault says.
-use Rattle.std.specs.Prelude.{◌≡◌, ℕ, suc, ◌+◌, ◌<◌, ◌≤◌, nat_le, nat_lt, ◌==◌, ◌&&◌, ◌||◌, if◌then◌else◌, Bool, false, List, [], ◌∷◌, ◌++◌, length, slice_index_or, Option, Result, Ok, Err}
+use Rattle.std.specs.Prelude.{◌≡◌, ◌≢◌, ℕ, suc, ◌+◌, ◌<◌, ◌≤◌, nat_le, nat_lt, ◌==◌, ◌&&◌, ◌||◌, if◌then◌else◌, Bool, true, false, List, [], ◌∷◌, ◌++◌, length, slice_index_or, Option, Result, Ok, Err}
 use Rattle.std.specs.Global.{Vec}
 use Rattle.std.specs.Io.KnownBytes.{Appends, Keeps}
 use Rattle.pcl_base.specs.Limits.{page_limit}
@@ -17,6 +17,7 @@ use Rattle.pcl_streams.specs.declared.form.ImageForm.TheVariants.{Bitmap, Greyma
 use Rattle.pcl_streams.specs.declared.page_images.PageChoice.{PageChoice}
 use Rattle.pcl_streams.specs.declared.page_images.PageChoice.TheVariants.{All, Listed}
 use Rattle.pcl_streams.specs.declared.page_images.PageSet.{PageSet}
+use Rattle.pcl_streams.specs.JobFaults.{RefusedOrMemory}
 use Rattle.pcl_streams.specs.Transfer.{AppendsFront}
 use Rattle.pcl_streams.specs.Image.{image_of}
 use Rattle.pcl_streams.specs.Greymap.{greymap_of}
@@ -82,6 +83,16 @@ pub record AreImagesIn (form : ImageForm) (profile : Profile) (dpi : Dpi) (job :
 -- the same in the form of bitmaps
 abbrev pub AreImagesOf : Profile → Dpi → List ℕ → PageChoice → List ℕ → Type 0
 AreImagesOf profile dpi job choice bytes = AreImagesIn Bitmap profile dpi job choice bytes
+
+-- the images of all pages of an accepted job are others than these
+abbrev pub HasOtherImages : Profile → Dpi → (job images : List ℕ) → Type 0
+HasOtherImages profile dpi job images = (printed : List ℕ) × AreImagesOf profile dpi job All printed × (printed ≢ images)
+
+-- whether these are the images of all pages of a job
+abbrev pub SaysIfImages : Profile → Dpi → (job images : List ℕ) → Result Bool Fault → Type 0
+SaysIfImages profile dpi job images (Ok true) = AreImagesOf profile dpi job All images
+SaysIfImages profile dpi job images (Ok false) = HasOtherImages profile dpi job images
+SaysIfImages profile dpi job images (Err fault) = RefusedOrMemory (IsRefusalBy profile dpi job) fault
 
 -- a page that is asked for is missing in an accepted job
 abbrev pub LacksPage : Profile → Dpi → List ℕ → PageChoice → Type 0

@@ -58,7 +58,7 @@ fn append_image(bitmap: &Bitmap, images: &mut Vec<u8>) -> Result<(), AllocError>
 }
 
 /// The header of an image: the form, the width and the height in dots.
-fn header(alloc: Global, size: Size, dpi: Dpi) -> Result<Vec<u8>, AllocError>
+pub fn header(alloc: Global, size: Size, dpi: Dpi) -> Result<Vec<u8>, AllocError>
     ensures { IfOk result (λ header. header.items ≡ header_of size dpi) }
 {
     let mut digits = Buffer::new();

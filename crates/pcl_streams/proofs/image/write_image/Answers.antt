@@ -1,11 +1,6 @@
-use Rattle.std.proofs.Common.{◌≡◌, List, ℕ}
-use Rattle.pcl_streams.proofs.Names.{err_from_is_err_and, Dpi, Size, header_of}
-use Rattle.pcl_streams.proofs.Writes.{stopped_in_header, rows_written}
+use Rattle.pcl_streams.proofs.Names.{err_from_is_err_and}
+use Rattle.pcl_streams.proofs.Writes.{header_is, stopped_in_header, rows_written}
 use Rattle.pcl_streams.proofs.image.write_image.Goals as goal
-
-header_is : {text items : List ℕ} {size same_size : Size} {dpi same_dpi : Dpi} → text ≡ items → items ≡ header_of size dpi
-    → size ≡ same_size → dpi ≡ same_dpi → text ≡ header_of same_size same_dpi
-header_is t i s d = cc
 
 pub returns-in_err-write_bytes : goal.returns-in_err-write_bytes
 returns-in_err-write_bytes g c =
