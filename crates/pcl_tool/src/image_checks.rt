@@ -5,7 +5,7 @@ ghost use Rattle.pcl_tool.specs.ImageVerdicts.{IsCheckedByImages};
 use crate::CheckAnswer;
 use crate::checking::check_job_watched;
 use pcl_base::{Dpi, Profile};
-use pcl_streams::{Fault, PageChoice, Watcher, chosen_images};
+use pcl_streams::{Fault, Watcher, are_images_of};
 use std::alloc::Global;
 
 /// Checks by a certificate that an output prints the pages of PBM images and is a shortest such job text. The images stand one
@@ -22,8 +22,7 @@ pub fn check_images<P: Watcher>(
 ) -> Result<CheckAnswer, Fault>
     ensures { IsCheckedByImages dpi images.now output.now certificate.now result }
 {
-    let printed = chosen_images(alloc, output, PageChoice::All, Profile::Stated, dpi)?;
-    if printed.as_slice() != images {
+    if !are_images_of(alloc, images, output, Profile::Stated, dpi)? {
         return Ok(CheckAnswer::OtherImages);
     }
     let verdict = check_job_watched(alloc, output, output, certificate, dpi, watcher)?;
