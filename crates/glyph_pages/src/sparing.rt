@@ -2,7 +2,7 @@
 
 use glyph_patterns::ROW_BYTES;
 use glyph_shapes::{RowRules, Rule, are_equal, ink_dots, row_at, row_bytes};
-use pcl_bitmap::{Bitmap, Ink};
+use pcl_bitmap::{Bitmap, Ink, trimmed_len};
 use std::alloc::{AllocError, Global};
 use std::mem::swap;
 
@@ -18,7 +18,7 @@ pub fn may_be_shorter(bitmap: &Bitmap, limit: usize) -> bool {
     let mut above: &[u8] = &[];
     for y in 0..bitmap.size().height(bitmap.dpi()) {
         let row = row_at(bitmap, y);
-        bytes = bytes.saturating_add(bytes_of_row(above, row));
+        bytes = bytes.saturating_add(least_bytes_of_row(above, row));
         if bytes >= limit {
             return false;
         }
@@ -131,7 +131,16 @@ impl RasterBytes {
     }
 }
 
-/// About how many bytes a row takes at least: its data and those around them, or none where it is the row above once more.
+/// How many bytes a row takes at least: white bytes at its end, and at its start where the raster starts further right, may count as a
+/// stretch each and aren't sent. A row like the one above is a `w`, and a white one may be skipped.
+fn least_bytes_of_row(above: &[u8], row: &[u8]) -> usize {
+    match bytes_of_row(above, row) {
+        0 => usize::from(trimmed_len(row) != 0),
+        bytes => bytes.saturating_sub(2),
+    }
+}
+
+/// About how many bytes a row takes: its data and those around them, or none where it is the row above once more.
 fn bytes_of_row(above: &[u8], row: &[u8]) -> usize {
     match row_bytes(above, row) as usize {
         0 => 0,
