@@ -1,3 +1,2 @@
 pub mod Names
-pub mod Shown
-pub mod TextRuns
+pub mod Written

@@ -1,77 +1,67 @@
 //! A job that is written again with a certificate.
 
-ghost use Rattle.pcl_command.specs.Certifying.{HasCertified, HasCertifiedSeen, HasCertifiedTo};
+ghost use Rattle.pcl_command.specs.Certifying.{HasCertified, HasCertifiedRead, HasCertifiedTo, IsCertified};
 ghost use Rattle.pcl_command.specs.World.{world};
 
 use pcl_base::Profile;
 use pcl_cert::Format;
-use pcl_files::{Failure, JobFiles, outcome, settle_aside, settle_both};
-use pcl_page::first_accepted;
-use pcl_request::{Certificate, Resolution, Target};
+use pcl_files::{Failure, JobFiles, outcome, resolve, settle_aside, settle_both};
+use pcl_request::{Certificate, Resolution, Run, Target};
 use pcl_streams::{Fault, Watcher, read_all};
-use pcl_tool::{INPUT_LIMIT, filter_cert_watched};
+use pcl_tool::{INPUT_LIMIT, minimize_watched, write_output};
 use std::alloc::Global;
 use std::io::{Read, Write};
 
-/// Writes the job that a reader gives again, and its certificate to a file of its own, which is begun before anything is read. The
-/// fault of a file that can't be begun or placed comes too.
+/// Writes the job of a run again, which a reader gives, and its certificate to a file of its own, which is begun before anything is
+/// read. The fault of a file that can't be begun or placed comes too.
 pub fn certify<F: JobFiles, R: Read, W: Write, P: Watcher>(
     files: &mut F,
     alloc: Global,
     certificate: Certificate<'_>,
-    resolution: Resolution,
-    target: Target<'_>,
+    run: Run<'_>,
     reader: &mut R,
     out: &mut W,
     watcher: P,
 ) -> Result<(), Failure>
-    ensures { HasCertified F.acts certificate.entry resolution target.entry (world files.old (R.remaining reader.old) (W.contents out.old))
+    ensures { HasCertified F.acts certificate.entry run.entry.resolution run.entry.target
+        (world files.old (R.remaining reader.old) (W.contents out.old))
         (world files.new (R.remaining reader.new) (W.contents out.new)) result }
 {
     match files.begin_aside(certificate.file) {
-        Ok(file) => certify_to(
-            files,
-            alloc,
-            certificate,
-            file,
-            resolution,
-            target,
-            reader,
-            out,
-            watcher,
-        ),
+        Ok(file) => certify_to(files, alloc, certificate, file, run, reader, out, watcher),
         Err(why) => Err(Failure::of_file(alloc, why)),
     }
 }
 
-/// Writes the job to a target, and the certificate to a file that was begun. Both take their places at the end, or neither does.
+/// Writes the job to the target of a run, and the certificate to a file that was begun. Both take their places at the end, or neither
+/// does.
 fn certify_to<F: JobFiles, R: Read, W: Write, P: Watcher>(
     files: &mut F,
     alloc: Global,
     certificate: Certificate<'_>,
     aside: F::Writer,
-    resolution: Resolution,
-    target: Target<'_>,
+    run: Run<'_>,
     reader: &mut R,
     out: &mut W,
     watcher: P,
 ) -> Result<(), Failure>
-    ensures { HasCertifiedTo F.acts certificate.entry (F.Writer.contents aside) resolution target.entry
+    ensures { HasCertifiedTo F.acts certificate.entry (F.Writer.contents aside) run.entry.resolution run.entry.target
         (world files.old (R.remaining reader.old) (W.contents out.old))
         (world files.new (R.remaining reader.new) (W.contents out.new)) result }
 {
     let Certificate { file: name, format } = certificate;
+    let seen = run.resolution;
     let mut aside = aside;
-    match target {
+    match run.target {
         Target::StandardOutput => {
-            let done = certify_seen(alloc, format, resolution, reader, out, &mut aside, watcher);
+            let done = certify_read(alloc, format, seen, reader, out, &mut aside, watcher);
             let settled = settle_aside(files, name, aside, done);
             outcome(alloc, settled, 0)
         }
         Target::File(job) => match files.begin(job) {
             Ok(mut file) => {
-                let done = certify_seen(
-                    alloc, format, resolution, reader, &mut file, &mut aside, watcher,
+                let done = certify_read(
+                    alloc, format, seen, reader, &mut file, &mut aside, watcher,
                 );
                 let settled = settle_both(files, job, file, name, aside, done);
                 outcome(alloc, settled, 0)
@@ -84,8 +74,8 @@ fn certify_to<F: JobFiles, R: Read, W: Write, P: Watcher>(
     }
 }
 
-/// Writes the job that a reader gives again, and its certificate, at a resolution: where that depends on the job, it is read first.
-fn certify_seen<R: Read, W: Write, C: Write, P: Watcher>(
+/// Writes the job that a reader gives again, and its certificate, at the resolution at which it is seen: it is read here, once.
+fn certify_read<R: Read, W: Write, C: Write, P: Watcher>(
     alloc: Global,
     format: Format,
     resolution: Resolution,
@@ -94,18 +84,27 @@ fn certify_seen<R: Read, W: Write, C: Write, P: Watcher>(
     aside: &mut C,
     watcher: P,
 ) -> Result<(), Fault>
-    ensures { HasCertifiedSeen format resolution (R.remaining reader.old) (R.remaining reader.new) (W.contents out.old)
+    ensures { HasCertifiedRead format resolution (R.remaining reader.old) (R.remaining reader.new) (W.contents out.old)
         (W.contents out.new) (C.contents aside.old) (C.contents aside.new) result }
 {
-    match resolution {
-        Resolution::Given(dpi) => {
-            filter_cert_watched(alloc, reader, dpi, format, out, aside, watcher)
-        }
-        Resolution::FirstAccepted => {
-            let job = read_all(alloc, reader, INPUT_LIMIT)?;
-            let dpi = first_accepted(alloc, &job, Profile::Stated)?;
-            let mut bytes: &[u8] = &job;
-            filter_cert_watched(alloc, &mut bytes, dpi, format, out, aside, watcher)
-        }
-    }
+    let job = read_all(alloc, reader, INPUT_LIMIT)?;
+    certify_job(alloc, format, resolution, &job, out, aside, watcher)
+}
+
+/// Writes a job again, and its certificate, at the resolution at which it is seen. Nothing is written before both are there.
+fn certify_job<W: Write, C: Write, P: Watcher>(
+    alloc: Global,
+    format: Format,
+    resolution: Resolution,
+    job: &[u8],
+    out: &mut W,
+    aside: &mut C,
+    watcher: P,
+) -> Result<(), Fault>
+    ensures { IsCertified format resolution job.now (W.contents out.old) (W.contents out.new) (C.contents aside.old)
+        (C.contents aside.new) result }
+{
+    let dpi = resolve(alloc, resolution, Profile::Stated, job)?;
+    let output = minimize_watched(alloc, job, dpi, format, watcher)?;
+    write_output(&output, INPUT_LIMIT, out, aside)
 }

@@ -1,10 +1,12 @@
 //! A run: what is asked for is done, over any reader and writer.
 
 ghost use Rattle.std.specs.Prelude.{◌≡◌, if◌then◌else◌, None, Some, IfOk};
-ghost use Rattle.pcl_page.specs.Delivering.{IsRefusalBy};
+ghost use Rattle.pcl_page.specs.Delivering.{IsRefusal, IsRefusalBy};
+ghost use Rattle.pcl_tool.specs.Writing.{IsWrittenJob};
 ghost use Rattle.pcl_request.specs.Requests.{widest_of};
 ghost use Rattle.pcl_command.specs.Profiles.{IsWrittenUnder, IsWrittenEverywhereUnder, IsRefusedEverywhereUnder};
-ghost use Rattle.pcl_command.specs.Runs.{ExplainsIn, ExplainsKindIn, HasCarriedOut, HasDone, HasDoneAccepted, HasDoneFirst, HasDoneSeen, HasDoneTask, HasEnded, HasWritten, HasWrittenTo, IsKindExplained, IsPreviewRun, IsTextRun, NeverRefuses, TellsOfPages};
+ghost use Rattle.pcl_command.specs.Runs.{HasCarriedOut, HasDone, HasDoneRead, HasEnded, HasWritten, HasWrittenTo, IsJobRead};
+ghost use Rattle.pcl_command.specs.Tasks.{ExplainsIn, ExplainsKindIn, IsDone, IsDoneSeen, NeverRefuses, TellsOfPages, WritesOrRefuses};
 ghost use Rattle.pcl_command.specs.World.{world};
 
 use crate::certifying::certify;
@@ -19,8 +21,8 @@ use pcl_page::first_accepted;
 use pcl_pages::describe_pages;
 use pcl_request::{Layout, Profiles, Request, Resolution, Run, Source, Target, Task, Work};
 use pcl_shrink::Readers;
-use pcl_streams::{Fault, ImageForm, PageChoice, preview_pages, read_all, write_all};
-use pcl_tool::{INPUT_LIMIT, filter_watched};
+use pcl_streams::{Fault, preview_pages, read_all, write_all};
+use pcl_tool::{INPUT_LIMIT, least_job};
 use std::alloc::{AllocError, Global};
 use std::io::{Read, Write};
 
@@ -93,7 +95,7 @@ fn do_run<F: JobFiles, R: Read, W: Write, P: Reporter>(
     out: &mut W,
     watcher: P,
 ) -> Result<(), Failure>
-    ensures { HasDone F.acts run.entry (world files.old (R.remaining reader.old) (W.contents out.old))
+    ensures { HasDone F.acts run.entry run.entry.source (world files.old (R.remaining reader.old) (W.contents out.old))
         (world files.new (R.remaining reader.new) (W.contents out.new)) result }
 {
     match run.source {
@@ -114,53 +116,42 @@ fn write_result<F: JobFiles, R: Read, W: Write, P: Reporter>(
     out: &mut W,
     watcher: P,
 ) -> Result<(), Failure>
-    ensures { HasWritten F.acts run.entry (world files.old (R.remaining reader.old) (W.contents out.old))
+    ensures { HasWritten F.acts run.entry.work run.entry.resolution run.entry.target
+        (world files.old (R.remaining reader.old) (W.contents out.old))
         (world files.new (R.remaining reader.new) (W.contents out.new)) result }
 {
     match run.work {
-        Work::Task(task) => {
-            let seen = run.resolution;
-            write_to(files, alloc, task, seen, run.target, reader, out, watcher)
-        }
+        Work::Task(task) => write_to(files, alloc, task, run, reader, out, watcher),
         Work::Certify(certificate) => {
-            let seen = run.resolution;
-            certify(
-                files,
-                alloc,
-                certificate,
-                seen,
-                run.target,
-                reader,
-                out,
-                watcher,
-            )
+            certify(files, alloc, certificate, run, reader, out, watcher)
         }
     }
 }
 
-/// Does a task with the job that a reader gives, and writes to a target. The fault of a file that can't be begun or placed comes
-/// too.
+/// Does the task of a run with the job that a reader gives, and writes to the target. The fault of a file that can't be begun or placed
+/// comes too.
 fn write_to<F: JobFiles, R: Read, W: Write, P: Reporter>(
     files: &mut F,
     alloc: Global,
     task: Task,
-    resolution: Resolution,
-    target: Target<'_>,
+    run: Run<'_>,
     reader: &mut R,
     out: &mut W,
     watcher: P,
 ) -> Result<(), Failure>
-    ensures { HasWrittenTo F.acts task resolution target.entry (world files.old (R.remaining reader.old) (W.contents out.old))
+    ensures { HasWrittenTo F.acts task run.entry.resolution run.entry.target
+        (world files.old (R.remaining reader.old) (W.contents out.old))
         (world files.new (R.remaining reader.new) (W.contents out.new)) result }
 {
-    match target {
+    let seen = run.resolution;
+    match run.target {
         Target::StandardOutput => {
-            let done = do_seen(alloc, task, resolution, reader, out, watcher);
+            let done = do_read(alloc, task, seen, reader, out, watcher);
             outcome(alloc, done, task.page())
         }
         Target::File(name) => match files.begin(name) {
             Ok(mut file) => {
-                let done = do_seen(alloc, task, resolution, reader, &mut file, watcher);
+                let done = do_read(alloc, task, seen, reader, &mut file, watcher);
                 let settled = settle(files, name, file, done);
                 outcome(alloc, settled, task.page())
             }
@@ -169,8 +160,8 @@ fn write_to<F: JobFiles, R: Read, W: Write, P: Reporter>(
     }
 }
 
-/// Does a task with the job that a reader gives, at a resolution, or at those at which the job is accepted.
-fn do_seen<R: Read, W: Write, P: Reporter>(
+/// Does a task with the job that a reader gives: it is read here, once.
+fn do_read<R: Read, W: Write, P: Reporter>(
     alloc: Global,
     task: Task,
     resolution: Resolution,
@@ -178,121 +169,119 @@ fn do_seen<R: Read, W: Write, P: Reporter>(
     out: &mut W,
     watcher: P,
 ) -> Result<(), Fault>
-    ensures { HasDoneSeen task resolution (R.remaining reader.old) (R.remaining reader.new) (W.contents out.old)
+    ensures { HasDoneRead task resolution (R.remaining reader.old) (R.remaining reader.new) (W.contents out.old)
         (W.contents out.new) result }
 {
-    match resolution {
-        Resolution::Given(dpi) => do_task(alloc, task, dpi, reader, out, watcher),
-        Resolution::FirstAccepted => do_accepted(alloc, task, reader, out, watcher),
-    }
+    let job = read_job(alloc, task, reader)?;
+    do_seen(alloc, task, resolution, &job, out, watcher)
 }
 
-/// Does a task with the job that a reader gives, at the first resolution at which that is accepted. It is shrunk for each of them.
-fn do_accepted<R: Read, W: Write, P: Reporter>(
-    alloc: Global,
-    task: Task,
-    reader: &mut R,
-    out: &mut W,
-    watcher: P,
-) -> Result<(), Fault>
-    ensures { HasDoneAccepted task (R.remaining reader.old) (R.remaining reader.new) (W.contents out.old) (W.contents out.new) result }
+/// The job of a task, which a reader gives. Nothing is read where a kind is explained, which needs no job.
+fn read_job<R: Read>(alloc: Global, task: Task, reader: &mut R) -> Result<Vec<u8>, Fault>
+    ensures { IsJobRead task (R.remaining reader.old) (R.remaining reader.new) result }
 {
     match task {
-        Task::Shrink {
-            report,
-            profiles,
-            readers,
-        } => write_smallest(alloc, report, profiles, readers, reader, out, watcher),
+        Task::ExplainKind { .. } => Ok(Vec::new(alloc)),
         Task::Minimize
         | Task::Preview { .. }
         | Task::Explain { .. }
-        | Task::ExplainKind { .. }
-        | Task::DescribePages { .. } => do_first(alloc, task, reader, out, watcher),
+        | Task::DescribePages { .. }
+        | Task::Shrink { .. } => read_all(alloc, reader, INPUT_LIMIT),
     }
 }
 
-/// Does a task with the job that a reader gives, which is read first, at the first resolution at which that is accepted.
-fn do_first<R: Read, W: Write, P: Reporter>(
+/// Does a task with a job at a resolution that is given, or at the first at which the job is accepted. It is shrunk for each of these.
+fn do_seen<W: Write, P: Reporter>(
     alloc: Global,
     task: Task,
-    reader: &mut R,
+    resolution: Resolution,
+    job: &[u8],
     out: &mut W,
     watcher: P,
 ) -> Result<(), Fault>
-    ensures { HasDoneFirst task (R.remaining reader.old) (R.remaining reader.new) (W.contents out.old) (W.contents out.new) result }
+    ensures { IsDoneSeen task resolution job.now (W.contents out.old) (W.contents out.new) result }
 {
-    let job = read_all(alloc, reader, INPUT_LIMIT)?;
-    let dpi = first_accepted(alloc, &job, task.profile())?;
-    let mut bytes: &[u8] = &job;
-    do_task(alloc, task, dpi, &mut bytes, out, watcher)
+    match resolution {
+        Resolution::Given(dpi) => do_task(alloc, task, dpi, job, out, watcher),
+        Resolution::FirstAccepted => match task {
+            Task::Shrink {
+                report,
+                profiles,
+                readers,
+            } => write_smallest(alloc, report, profiles, readers, job, out, watcher),
+            Task::Minimize
+            | Task::Preview { .. }
+            | Task::Explain { .. }
+            | Task::ExplainKind { .. }
+            | Task::DescribePages { .. } => {
+                let dpi = first_accepted(alloc, job, task.profile())?;
+                do_task(alloc, task, dpi, job, out, watcher)
+            }
+        },
+    }
 }
 
-/// Does a task with the job that a reader gives, at a resolution.
-fn do_task<R: Read, W: Write, P: Reporter>(
+/// Does a task with a job at a resolution.
+fn do_task<W: Write, P: Reporter>(
     alloc: Global,
     task: Task,
     dpi: Dpi,
-    reader: &mut R,
+    job: &[u8],
     out: &mut W,
     watcher: P,
 ) -> Result<(), Fault>
-    ensures { HasDoneTask task dpi (R.remaining reader.old) (R.remaining reader.new) (W.contents out.old) (W.contents out.new) result }
+    ensures { IsDone task dpi job.now (W.contents out.old) (W.contents out.new) result }
 {
     match task {
-        Task::Minimize => filter_watched(alloc, reader, dpi, out, watcher),
+        Task::Minimize => write_least(alloc, dpi, job, out, watcher),
         Task::Preview {
             choice,
             form,
             profile,
-        } => show(alloc, choice, form, profile, dpi, reader, out),
+        } => preview_pages(alloc, job, choice, form, profile, dpi, out),
         Task::Explain { layout, profile } => {
-            explain(alloc, layout, profile, dpi, reader, out, watcher)
+            explain(alloc, layout, profile, dpi, job, out, watcher)
         }
         Task::ExplainKind { layout, kind } => explain_kind(alloc, layout, kind, out),
         Task::DescribePages { layout, profile } => {
-            describe(alloc, layout, profile, dpi, reader, out, watcher)
+            describe(alloc, layout, profile, dpi, job, out, watcher)
         }
         Task::Shrink {
             report,
             profiles,
             readers,
-        } => write_smaller(alloc, report, profiles, readers, dpi, reader, out, watcher),
+        } => write_smaller(alloc, report, profiles, readers, dpi, job, out, watcher),
     }
 }
 
-/// Writes the images, in a form, of the pages of the job that a reader gives that are asked for.
-fn show<R: Read, W: Write>(
+/// Writes the least raster job of the pages of a job.
+fn write_least<W: Write, P: Reporter>(
     alloc: Global,
-    choice: PageChoice,
-    form: ImageForm,
-    profile: Profile,
     dpi: Dpi,
-    reader: &mut R,
+    job: &[u8],
     out: &mut W,
+    watcher: P,
 ) -> Result<(), Fault>
-    ensures { IsPreviewRun form profile dpi choice (R.remaining reader.old) (R.remaining reader.new) (W.contents out.old)
-        (W.contents out.new) result }
+    ensures { WritesOrRefuses (IsWrittenJob dpi job.now) (IsRefusal dpi job.now) (W.contents out.old) (W.contents out.new) result }
 {
-    let job = read_all(alloc, reader, INPUT_LIMIT)?;
-    preview_pages(alloc, &job, choice, form, profile, dpi, out)
+    let least = least_job(alloc, job, dpi, watcher)?;
+    write_all(out, &least)
 }
 
-/// Writes what the rules refuse in the job that a reader gives, and what can be done. A job without pages is reported.
-fn explain<R: Read, W: Write, P: Reporter>(
+/// Writes what the rules refuse in a job, and what can be done. A job without pages is reported.
+fn explain<W: Write, P: Reporter>(
     alloc: Global,
     layout: Layout,
     profile: Profile,
     dpi: Dpi,
-    reader: &mut R,
+    job: &[u8],
     out: &mut W,
     reporter: P,
 ) -> Result<(), Fault>
-    ensures { IsTextRun (ExplainsIn layout profile dpi) NeverRefuses (R.remaining reader.old) (R.remaining reader.new)
-        (W.contents out.old) (W.contents out.new) result }
+    ensures { WritesOrRefuses (ExplainsIn layout profile dpi job.now) NeverRefuses (W.contents out.old) (W.contents out.new) result }
 {
-    let job = read_all(alloc, reader, INPUT_LIMIT)?;
-    let text = explained(alloc, layout, &job, profile, dpi)?;
-    report_no_page(alloc, &job, profile, dpi, reporter)?;
+    let text = explained(alloc, layout, job, profile, dpi)?;
+    report_no_page(alloc, job, profile, dpi, reporter)?;
     write_all(out, &text)
 }
 
@@ -319,7 +308,7 @@ fn explain_kind<W: Write>(
     kind: Kind,
     out: &mut W,
 ) -> Result<(), Fault>
-    ensures { IsKindExplained layout kind (W.contents out.old) (W.contents out.new) result }
+    ensures { WritesOrRefuses (ExplainsKindIn layout kind) NeverRefuses (W.contents out.old) (W.contents out.new) result }
 {
     let text = explained_kind(alloc, layout, kind)?;
     write_all(out, &text)
@@ -335,61 +324,58 @@ fn explained_kind(alloc: Global, layout: Layout, kind: Kind) -> Result<Vec<u8>, 
     }
 }
 
-/// Writes what the pages of the job are that a reader gives. A job without pages is reported.
-fn describe<R: Read, W: Write, P: Reporter>(
+/// Writes what the pages of a job are. A job without pages is reported.
+fn describe<W: Write, P: Reporter>(
     alloc: Global,
     layout: Layout,
     profile: Profile,
     dpi: Dpi,
-    reader: &mut R,
+    job: &[u8],
     out: &mut W,
     reporter: P,
 ) -> Result<(), Fault>
-    ensures { IsTextRun (TellsOfPages profile dpi) (IsRefusalBy profile dpi) (R.remaining reader.old) (R.remaining reader.new)
-        (W.contents out.old) (W.contents out.new) result }
+    ensures { WritesOrRefuses (TellsOfPages profile dpi job.now) (IsRefusalBy profile dpi job.now) (W.contents out.old)
+        (W.contents out.new) result }
 {
-    let job = read_all(alloc, reader, INPUT_LIMIT)?;
-    let text = describe_pages(alloc, &job, profile, dpi, layout)?;
-    report_no_page(alloc, &job, profile, dpi, reporter)?;
+    let text = describe_pages(alloc, job, profile, dpi, layout)?;
+    report_no_page(alloc, job, profile, dpi, reporter)?;
     write_all(out, &text)
 }
 
-/// Writes the smallest job that is found with the pages of the job that a reader gives, which asks for the same, for these readers. That
-/// job is read by these profiles. A job without pages is reported, and what shrinking it did if that is asked for.
-fn write_smaller<R: Read, W: Write, P: Reporter>(
+/// Writes the smallest job that is found with the pages of a job, which asks for the same, for these readers. That job is read by these
+/// profiles. A job without pages is reported, and what shrinking it did if that is asked for.
+fn write_smaller<W: Write, P: Reporter>(
     alloc: Global,
     report: Option<Layout>,
     profiles: Profiles,
     readers: Readers,
     dpi: Dpi,
-    reader: &mut R,
+    job: &[u8],
     out: &mut W,
     reporter: P,
 ) -> Result<(), Fault>
-    ensures { IsTextRun (IsWrittenUnder readers profiles dpi) (IsRefusalBy (widest_of profiles) dpi) (R.remaining reader.old)
-        (R.remaining reader.new) (W.contents out.old) (W.contents out.new) result }
+    ensures { WritesOrRefuses (IsWrittenUnder readers profiles dpi job.now) (IsRefusalBy (widest_of profiles) dpi job.now)
+        (W.contents out.old) (W.contents out.new) result }
 {
-    let job = read_all(alloc, reader, INPUT_LIMIT)?;
-    let shrunk = shrink_reported(alloc, &job, profiles, dpi, readers, reporter)?;
+    let shrunk = shrink_reported(alloc, job, profiles, dpi, readers, reporter)?;
     report_shrunk(alloc, job.len(), &shrunk, report, reporter)?;
     write_all(out, &shrunk.job)
 }
 
 /// The same at each resolution at which the job is accepted.
-fn write_smallest<R: Read, W: Write, P: Reporter>(
+fn write_smallest<W: Write, P: Reporter>(
     alloc: Global,
     report: Option<Layout>,
     profiles: Profiles,
     readers: Readers,
-    reader: &mut R,
+    job: &[u8],
     out: &mut W,
     reporter: P,
 ) -> Result<(), Fault>
-    ensures { IsTextRun (IsWrittenEverywhereUnder readers profiles) (IsRefusedEverywhereUnder profiles) (R.remaining reader.old)
-        (R.remaining reader.new) (W.contents out.old) (W.contents out.new) result }
+    ensures { WritesOrRefuses (IsWrittenEverywhereUnder readers profiles job.now) (IsRefusedEverywhereUnder profiles job.now)
+        (W.contents out.old) (W.contents out.new) result }
 {
-    let job = read_all(alloc, reader, INPUT_LIMIT)?;
-    let shrunk = shrink_everywhere_reported(alloc, &job, profiles, readers, reporter)?;
+    let shrunk = shrink_everywhere_reported(alloc, job, profiles, readers, reporter)?;
     report_shrunk(alloc, job.len(), &shrunk, report, reporter)?;
     write_all(out, &shrunk.job)
 }

@@ -6,7 +6,7 @@ use Rattle.pcl_streams.specs.declared.fault.Fault.TheVariants as run
 use Rattle.pcl_request.specs.declared.batch.Rewriting.TheVariants.{Shrink, ShrinkEverywhere}
 use Rattle.pcl_files.specs.declared.failures.Failure.{Failure}
 use Rattle.pcl_command.proofs.Names.{Dpi, JobFault, IsShrunkUnder, IsShrunkEverywhereUnder, IsWrittenUnder, IsWrittenEverywhereUnder, Readers, Profiles, Shrunk}
-use Rattle.pcl_command.proofs.TextRuns.{unshrunk, unshrunk_everywhere, written_under, written_everywhere_under}
+use Rattle.pcl_command.proofs.Written.{unshrunk, unshrunk_everywhere, written_under, written_everywhere_under}
 use Rattle.pcl_command.specs.declared.rewriting.Again.{Again}
 use Rattle.pcl_command.specs.Rewriting.{IsRewritten, IsRewrittenTo, IsShrunkAgain}
 use Rattle.pcl_command.proofs.rewriting.rewrite.Goals as goal
