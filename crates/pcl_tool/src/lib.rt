@@ -16,8 +16,7 @@ pub use laws::{
     certified_jobs_are_proved, proved_jobs_are_least, the_headline, written_jobs_are_least,
 };
 pub use minimizing::{
-    Output, filter, filter_cert, filter_cert_watched, filter_watched, least_job, minimize,
-    minimize_watched, write_output,
+    Output, filter, filter_cert, least_job, minimize, minimize_watched, write_output,
 };
 pub use pcl_base::INPUT_LIMIT;
 pub use pcl_meaning::{page_texts_mean_their_pages, written_jobs_say_copies_and_sizes};

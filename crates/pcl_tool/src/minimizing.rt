@@ -106,21 +106,8 @@ pub fn filter<R: Read, W: Write>(
 ) -> Result<(), Fault>
     ensures { IsFiltered dpi (R.remaining reader.old) (R.remaining reader.new) (W.contents out.old) (W.contents out.new) result }
 {
-    filter_watched(alloc, reader, dpi, out, Unwatched)
-}
-
-/// The same, and the watcher is called for each page that is done.
-pub fn filter_watched<R: Read, W: Write, P: Watcher>(
-    alloc: Global,
-    reader: &mut R,
-    dpi: Dpi,
-    out: &mut W,
-    watcher: P,
-) -> Result<(), Fault>
-    ensures { IsFiltered dpi (R.remaining reader.old) (R.remaining reader.new) (W.contents out.old) (W.contents out.new) result }
-{
     let job = read_all(alloc, reader, INPUT_LIMIT)?;
-    let output = least_job(alloc, &job, dpi, watcher)?;
+    let output = least_job(alloc, &job, dpi, Unwatched)?;
     write_all(out, &output)
 }
 
@@ -138,24 +125,8 @@ pub fn filter_cert<R: Read, W: Write, C: Write>(
     ensures { IsFilteredCert dpi format (R.remaining reader.old) (R.remaining reader.new) (W.contents out.old) (W.contents out.new)
         (C.contents cert.old) (C.contents cert.new) result }
 {
-    filter_cert_watched(alloc, reader, dpi, format, out, cert, Unwatched)
-}
-
-/// The same, and the watcher is called for each page that is done.
-pub fn filter_cert_watched<R: Read, W: Write, C: Write, P: Watcher>(
-    alloc: Global,
-    reader: &mut R,
-    dpi: Dpi,
-    format: Format,
-    out: &mut W,
-    cert: &mut C,
-    watcher: P,
-) -> Result<(), Fault>
-    ensures { IsFilteredCert dpi format (R.remaining reader.old) (R.remaining reader.new) (W.contents out.old) (W.contents out.new)
-        (C.contents cert.old) (C.contents cert.new) result }
-{
     let job = read_all(alloc, reader, INPUT_LIMIT)?;
-    let output = minimize_watched(alloc, &job, dpi, format, watcher)?;
+    let output = minimize(alloc, &job, dpi, format)?;
     write_output(&output, INPUT_LIMIT, out, cert)
 }
 

@@ -1,5 +1,5 @@
 use Rattle.pcl_tool.proofs.Filtered.{filtered_cert}
-use Rattle.pcl_tool.proofs.minimizing.filter_cert_watched.Goals as goal
+use Rattle.pcl_tool.proofs.minimizing.filter_cert.Goals as goal
 
 pub returns : goal.returns
 returns g c =

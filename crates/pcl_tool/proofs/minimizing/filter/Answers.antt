@@ -1,6 +1,6 @@
 use Rattle.pcl_tool.proofs.Names.{err_from_is_err_and}
 use Rattle.pcl_tool.proofs.Filtered.{filtered, not_read, not_performed}
-use Rattle.pcl_tool.proofs.minimizing.filter_watched.Goals as goal
+use Rattle.pcl_tool.proofs.minimizing.filter.Goals as goal
 
 pub returns-in_err-job : goal.returns-in_err-job
 returns-in_err-job g c =
