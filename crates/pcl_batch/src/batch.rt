@@ -1,7 +1,7 @@
 //! A batch: its jobs, one after the other, the report, and how it ends.
 
-ghost use Rattle.std.specs.Prelude.{◌≡◌, IfOk, IfErr};
-ghost use Rattle.pcl_batch.specs.inner.Reports.{IsHonest};
+ghost use Rattle.std.specs.Prelude.{◌≡◌, ◌+◌, ◌^◌, ◌<◌, length, IfOk, IfErr};
+ghost use Rattle.pcl_batch.specs.inner.Reports.{AreAllDone, IsHonest};
 ghost use Rattle.pcl_batch.specs.Failing.{HasFailingStatus};
 ghost use Rattle.pcl_batch.specs.inner.Jobs.{IsHonestTally};
 
@@ -35,7 +35,8 @@ impl Tally {
 
     /// With one job more.
     fn with(self, entry: &ReportEntry<'_>) -> Tally
-        ensures { IsHonestTally self → IsHonest entry.now → IsHonestTally result }
+        ensures honest { IsHonestTally self → IsHonest entry.now → IsHonestTally result }
+        ensures counted { self.totals.jobs + 1 < 2 ^ 64 → result.totals.jobs ≡ self.totals.jobs + 1 }
     {
         Tally {
             totals: self.totals.with(entry),
@@ -44,8 +45,8 @@ impl Tally {
     }
 }
 
-/// Writes jobs again, one after the other, and a report of them. A job that fails stops none of those after it, and what
-/// an earlier batch did isn't done again. A failure has the worst of their statuses.
+/// Writes jobs again, one after the other, and a report of them, and gives its totals: all jobs were done, and none failed. A job
+/// that fails stops none of those after it, and what an earlier batch did isn't done again. A failure has the worst of their statuses.
 pub(crate) fn run_batch<F: JobFiles, W: Write, R: Rewriter, P: Reporter>(
     files: &mut F,
     alloc: Global,
@@ -54,16 +55,14 @@ pub(crate) fn run_batch<F: JobFiles, W: Write, R: Rewriter, P: Reporter>(
     out: &mut W,
     rewriter: R,
     reporter: P,
-) -> Result<(), Failure>
-    ensures { IfErr result HasFailingStatus }
+) -> Result<Totals, Failure>
+    ensures done { IfOk result (AreAllDone (length jobs.now)) }
+    ensures failed { IfErr result HasFailingStatus }
 {
-    if let Err(why) = make_folder_of(files, batch.place) {
-        return Err(Failure::of_file(alloc, why));
-    }
-    match write_jobs(files, alloc, batch, jobs, out, rewriter, reporter) {
-        Ok(tally) => ended(alloc, tally),
-        Err(fault) => Err(Failure::of(alloc, &fault, 0)),
-    }
+    make_folder_of(files, batch.place).map_err(|why| Failure::of_file(alloc, why))?;
+    let written = write_jobs(files, alloc, batch, jobs, out, rewriter, reporter);
+    let tally = written.map_err(|fault| Failure::of(alloc, &fault, 0))?;
+    ended(alloc, tally)
 }
 
 /// Makes the folder that jobs are written into.
@@ -84,7 +83,8 @@ fn write_jobs<F: JobFiles, W: Write, R: Rewriter, P: Reporter>(
     rewriter: R,
     reporter: P,
 ) -> Result<Tally, Fault>
-    ensures { IfOk result IsHonestTally }
+    ensures honest { IfOk result IsHonestTally }
+    ensures counted { IfOk result (λ tally. tally.totals.jobs ≡ length jobs.now) }
 {
     let mut names = IndexSet::new(alloc);
     let mut tally = Tally::NOTHING;
@@ -170,14 +170,15 @@ fn take_name(
     }
 }
 
-/// The end of a batch.
-fn ended(alloc: Global, tally: Tally) -> Result<(), Failure>
+/// The end of a batch: its totals, where no job failed.
+fn ended(alloc: Global, tally: Tally) -> Result<Totals, Failure>
+    ensures totals { IfOk result (λ totals. totals ≡ tally.totals) }
     ensures done { IfOk result (λ _. tally.status ≡ 0) }
     ensures failed { IfErr result HasFailingStatus }
 {
     let Tally { totals, status } = tally;
     if status == 0 {
-        return Ok(());
+        return Ok(totals);
     }
     match failed_line(alloc, totals) {
         Ok(line) => Err(Failure::Said { line, status }),

@@ -1,8 +1,9 @@
 //! One job of a batch: what it is, what lies in its place, and what is to be done.
 
-ghost use Rattle.std.specs.Prelude.{◌≢◌, IfOk};
+ghost use Rattle.std.specs.Prelude.{◌≡◌, ◌≢◌, IfOk};
+ghost use Rattle.std.specs.Result.{result_ok};
 ghost use Rattle.pcl_batch.specs.inner.Reports.{IsHonest};
-ghost use Rattle.pcl_batch.specs.inner.Jobs.{FailsByReason, IsFailing};
+ghost use Rattle.pcl_batch.specs.inner.Jobs.{FailsByReason, FollowsCount, IsFailing, ReportsOutcome};
 
 use crate::paths::{Paths, file_name};
 use crate::reasons::{Obstacle, Reason};
@@ -82,17 +83,35 @@ fn write_bytes<'w, F: JobFiles, R: Rewriter>(
     let profile = batch.rewriting.profile();
     let dpi = resolve(alloc, batch.resolution, profile, bytes)?;
     let input = FileSum::of(alloc, bytes)?;
-    let pages = match page_count(alloc, bytes, profile, dpi) {
-        Ok(pages) => Some(pages),
-        // that is what is said of it when it is written again
-        Err(JobFault::Refused(_)) => None,
-        Err(JobFault::Memory) => {
-            let came = Came::Failed(Reason::of_fault(alloc, &Fault::Memory)?);
-            return Ok(came.entry(file, Some(dpi.dots()), None, input));
+    let counted = page_count(alloc, bytes, profile, dpi);
+    let came = write_counted(
+        files, alloc, batch, paths, bytes, dpi, &input, counted, rewriter,
+    )?;
+    Ok(came.entry(file, dpi, counted, input))
+}
+
+/// The same by what counting its pages gave: where memory ran out for that, the job fails for it and nothing is written.
+fn write_counted<F: JobFiles, R: Rewriter>(
+    files: &mut F,
+    alloc: Global,
+    batch: Batch<'_>,
+    paths: &Paths,
+    bytes: &[u8],
+    dpi: Dpi,
+    input: &FileSum,
+    counted: Result<usize, JobFault>,
+    rewriter: R,
+) -> Result<Came, AllocError>
+    ensures reason { IfOk result FailsByReason }
+    ensures count { IfOk result (FollowsCount counted) }
+{
+    match counted {
+        // that a job is refused is said of it when it is written again
+        Ok(_) | Err(JobFault::Refused(_)) => {
+            write_digested(files, alloc, batch, paths, bytes, dpi, input, rewriter)
         }
-    };
-    let came = write_digested(files, alloc, batch, paths, bytes, dpi, &input, rewriter)?;
-    Ok(came.entry(file, Some(dpi.dots()), pages, input))
+        Err(JobFault::Memory) => Ok(Came::Failed(Reason::of_fault(alloc, &Fault::Memory)?)),
+    }
 }
 
 /// The same with the digest of these bytes.
@@ -153,15 +172,17 @@ pub(crate) enum Came {
 }
 
 impl Came {
-    /// What is reported of it.
+    /// What is reported of it, and of what it was before: no number of pages where they couldn't be counted.
     fn entry<'w>(
         self,
         file: &'w str,
-        dpi: Option<u32>,
-        pages: Option<usize>,
+        dpi: Dpi,
+        counted: Result<usize, JobFault>,
         input: FileSum,
     ) -> ReportEntry<'w>
-        ensures { FailsByReason self → IsHonest result }
+        ensures honest { FailsByReason self → IsHonest result }
+        ensures came { ReportsOutcome self result }
+        ensures pages { result.pages ≡ result_ok counted }
     {
         let (outcome, status, output, said) = match self {
             Came::Done { outcome, output } => (outcome, 0, Some(output), None),
@@ -171,8 +192,8 @@ impl Came {
             file: Some(file),
             outcome,
             status,
-            dpi,
-            pages,
+            dpi: Some(dpi.dots()),
+            pages: counted.ok(),
             input: Some(input),
             output,
             said,

@@ -1,9 +1,11 @@
 //! The names of the jobs of a batch.
 
-ghost use Rattle.std.specs.Prelude.{IfErr};
+ghost use Rattle.std.specs.Prelude.{vec_len, IfOk, IfErr, IsOkAnd};
 ghost use Rattle.pcl_batch.specs.Failing.{HasFailingStatus};
+ghost use Rattle.pcl_batch.specs.inner.Reports.{AreAllDone};
 
 use crate::batch::run_batch;
+use crate::report::Totals;
 use crate::rewriter::Rewriter;
 use bstr::ByteSlice;
 use pcl_base::INPUT_LIMIT;
@@ -37,18 +39,16 @@ pub fn run_named<F: JobFiles, I: Read, W: Write, R: Rewriter, P: Reporter>(
 {
     if !paths.is_empty() {
         let names = given(alloc, paths);
-        return run_names(files, alloc, batch, names, out, rewriter, reporter);
+        run_names(files, alloc, batch, names, out, rewriter, reporter)?;
+        return Ok(());
     }
-    match read_all(alloc, reader, INPUT_LIMIT) {
-        Ok(list) => {
-            let names = listed(alloc, &list);
-            run_names(files, alloc, batch, names, out, rewriter, reporter)
-        }
-        Err(fault) => Err(Failure::of(alloc, &fault, 0)),
-    }
+    let list = read_all(alloc, reader, INPUT_LIMIT).map_err(|fault| Failure::of(alloc, &fault, 0))?;
+    let names = listed(alloc, &list);
+    run_names(files, alloc, batch, names, out, rewriter, reporter)?;
+    Ok(())
 }
 
-/// Runs a batch with jobs of these names, unless there was no memory for them.
+/// Runs a batch with jobs of these names, unless there was no memory for them, and gives its totals: all jobs were done, and none failed.
 fn run_names<F: JobFiles, W: Write, R: Rewriter, P: Reporter>(
     files: &mut F,
     alloc: Global,
@@ -57,13 +57,12 @@ fn run_names<F: JobFiles, W: Write, R: Rewriter, P: Reporter>(
     out: &mut W,
     rewriter: R,
     reporter: P,
-) -> Result<(), Failure>
-    ensures { IfErr result HasFailingStatus }
+) -> Result<Totals, Failure>
+    ensures done { IfOk result (λ totals. IsOkAnd names.entry (λ names. AreAllDone (vec_len names) totals)) }
+    ensures failed { IfErr result HasFailingStatus }
 {
-    match names {
-        Ok(names) => run_batch(files, alloc, batch, &names, out, rewriter, reporter),
-        Err(_) => Err(Failure::NoMemory),
-    }
+    let names = names.map_err(|_| Failure::NoMemory)?;
+    run_batch(files, alloc, batch, &names, out, rewriter, reporter)
 }
 
 /// The names of these files.

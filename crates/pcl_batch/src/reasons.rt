@@ -1,6 +1,7 @@
 //! What is said of a job that isn't written.
 
 ghost use Rattle.std.specs.Prelude.{◌≡◌, ◌≢◌, IfOk};
+ghost use Rattle.pcl_files.specs.Messages.{status_for};
 ghost use Rattle.pcl_batch.specs.Failing.{HasFailingStatus};
 ghost use Rattle.pcl_batch.specs.inner.Jobs.{IsFailing};
 
@@ -82,7 +83,8 @@ impl Reason {
 
     /// Of a fault of reading or writing.
     pub(crate) fn of_fault(alloc: Global, fault: &Fault) -> Result<Reason, AllocError>
-        ensures { IfOk result IsFailing }
+        ensures failing { IfOk result IsFailing }
+        ensures status { IfOk result (λ reason. reason.status ≡ status_for fault.now) }
     {
         let line = fault_line(alloc, fault, 0)?;
         Ok(Reason {

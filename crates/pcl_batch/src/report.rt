@@ -1,6 +1,6 @@
 //! What a batch says of each job.
 
-ghost use Rattle.std.specs.Prelude.{◌≡◌, ◌≢◌, ◌↔◌};
+ghost use Rattle.std.specs.Prelude.{◌≡◌, ◌≢◌, ◌+◌, ◌^◌, ◌<◌, ◌↔◌};
 ghost use Rattle.pcl_batch.specs.inner.Reports.{HasNoFailure};
 ghost use Rattle.pcl_batch.specs.declared.report.Outcome.TheVariants.{Failed};
 
@@ -167,7 +167,8 @@ impl Totals {
 
     /// With one job more.
     pub(crate) fn with(self, entry: &ReportEntry<'_>) -> Totals
-        ensures { HasNoFailure result ↔ (HasNoFailure self × (entry.now.outcome ≢ Failed)) }
+        ensures failed { HasNoFailure result ↔ (HasNoFailure self × (entry.now.outcome ≢ Failed)) }
+        ensures counted { self.jobs + 1 < 2 ^ 64 → result.jobs ≡ self.jobs + 1 }
     {
         let (written, kept, failed) = match entry.outcome {
             Outcome::Written => (1, 0, 0),
