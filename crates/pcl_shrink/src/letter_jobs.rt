@@ -108,7 +108,7 @@ impl<'a, 'b, P: ShrinkWatcher> LetterWriter<'a, 'b, P> {
         }
     }
 
-    /// With how many bytes more what is written is too long: none where the stretch is not, as long as it goes without letters.
+    /// With how many bytes more what is written is too long: none as long as the stretch is not without letters.
     fn room(&self) -> Option<usize> {
         let limit = self.limit.saturating_add(REPEATED_BYTES);
         if self.place.saturating_add(self.whole) < limit {
@@ -118,12 +118,10 @@ impl<'a, 'b, P: ShrinkWatcher> LetterWriter<'a, 'b, P> {
         }
     }
 
-    /// Gives up where the stretch, with letters and without, makes what is written too long.
-    fn give_up_if_too_long(&mut self) {
-        if self.room() == Some(0) {
-            self.out = Vec::new(*self.out.allocator());
-            self.is_too_long = true;
-        }
+    /// Gives up, since what is written would be too long: nothing is left of it.
+    fn give_up(&mut self) {
+        self.out = Vec::new(*self.out.allocator());
+        self.is_too_long = true;
     }
 
     /// Appends what stands before the next page.
@@ -269,12 +267,15 @@ impl<'a, 'b, P: ShrinkWatcher> LetterWriter<'a, 'b, P> {
             room: self.room(),
         };
         self.writer.append_page(whole, &mut written)?;
+        if self.room().is_some_and(|room| room <= written.len()) {
+            self.give_up();
+            return Ok(());
+        }
         let place = self.out.len();
         self.append_written(&written, text)?;
         self.repeats.add_page(&self.out, place)?;
         self.pages = self.pages.saturating_add(1);
         self.watcher.pages_passed(Pass::Write, self.pages);
-        self.give_up_if_too_long();
         Ok(())
     }
 }
