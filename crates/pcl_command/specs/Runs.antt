@@ -1,5 +1,5 @@
 -- What a run of the program reads and writes, and how what is asked for ends.
-use Rattle.std.specs.Prelude.{◌≡◌, ℕ, List, ◌⊎◌, true, false, Option, Some, Result, Ok, Err}
+use Rattle.std.specs.Prelude.{◌≡◌, ℕ, List, ◌⊎◌, true, false, Option, Result, Ok, Err}
 use Rattle.std.specs.Global.{Vec}
 use Rattle.pcl_base.specs.Limits.{input_limit}
 use Rattle.pcl_streams.specs.declared.fault.Fault.{Fault}
