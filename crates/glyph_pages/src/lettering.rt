@@ -2,15 +2,16 @@
 
 use crate::character_writing::CharacterWriter;
 use crate::macro_writing::{MacroWriter, free_id};
-use crate::remains::WholePage;
+use crate::remains::{RestWriter, Taken, WholePage};
 use crate::repeats::Repeats;
-use crate::rule_writing::{FIRST_ID, RulePen};
+use crate::rule_writing::FIRST_ID;
 use crate::series::SERIES_MACROS;
 use glyph_fonts::{FontLayout, append_fonts, append_unit, lay_out};
 use glyph_letters::find_letters;
 use glyph_macros::{MacroLayout, append_definitions, append_settings, lay_out_macros};
-use glyph_patterns::{Form, Letters};
-use glyph_shapes::{Collection, Rules};
+use glyph_patterns::{Form, Letter, Letters};
+use glyph_shapes::{Collection, Rule, Rules};
+use pcl_bitmap::Page;
 use std::alloc::{AllocError, Global};
 
 /// The letters of a job, and its rules.
@@ -142,15 +143,7 @@ pub struct PageWriter<'a> {
     /// How many pages came.
     page: u32,
     letters: FormWriter<'a>,
-    /// The size of rectangles that the printer holds.
-    pen: RulePen,
-}
-
-/// Writes the letters of pages in their form.
-#[derive(Drop)]
-enum FormWriter<'a> {
-    Characters(CharacterWriter<'a>),
-    Macros(MacroWriter<'a>),
+    rest: RestWriter,
 }
 
 impl<'a> PageWriter<'a> {
@@ -159,23 +152,15 @@ impl<'a> PageWriter<'a> {
         PageWriter {
             rules: &lettering.rules,
             page: 0,
-            letters: match &lettering.letters {
-                Lettered::Characters(layout) => {
-                    FormWriter::Characters(CharacterWriter::new(layout, keeps_spacing))
-                }
-                Lettered::Macros(layout) => FormWriter::Macros(MacroWriter::new(layout)),
-            },
-            pen: RulePen::new(),
+            letters: FormWriter::new(&lettering.letters, keeps_spacing),
+            rest: RestWriter::new(),
         }
     }
 
     /// Goes on after a reset.
     pub fn restart(&mut self) {
-        self.pen = RulePen::new();
-        match &mut self.letters {
-            FormWriter::Characters(writer) => writer.restart(),
-            FormWriter::Macros(writer) => writer.restart(),
-        }
+        self.rest.restart();
+        self.letters.restart();
     }
 
     /// Appends the next page: its text without letters, or one with letters where it takes fewer bytes, and with its rules as rectangles
@@ -185,12 +170,82 @@ impl<'a> PageWriter<'a> {
         whole: WholePage<'_>,
         out: &mut Vec<u8>,
     ) -> Result<(), AllocError> {
-        let rules = self.rules.of_page(self.page);
+        let taken = self.letters.next_page(self.rules.of_page(self.page));
         self.page = self.page.saturating_add(1);
-        self.pen = match &mut self.letters {
-            FormWriter::Characters(writer) => writer.append_page(whole, rules, self.pen, out)?,
-            FormWriter::Macros(writer) => writer.append_page(whole, rules, self.pen, out)?,
-        };
+        self.letters.append_start(out)?;
+        if taken.is_empty() {
+            return out.extend_from_slice(whole.plain);
+        }
+        let mut printed = Vec::new(*out.allocator());
+        self.letters
+            .append_letters(taken.letters, whole.page, &mut printed)?;
+        if self.rest.append_shorter(taken, whole, &printed, out)? {
+            self.letters.keep_letters();
+        }
         Ok(())
+    }
+}
+
+/// Writes the letters of pages in their form.
+#[derive(Drop)]
+enum FormWriter<'a> {
+    Characters(CharacterWriter<'a>),
+    Macros(MacroWriter<'a>),
+}
+
+impl<'a> FormWriter<'a> {
+    /// Before the first page.
+    fn new(letters: &'a Lettered, keeps_spacing: bool) -> FormWriter<'a> {
+        match letters {
+            Lettered::Characters(layout) => {
+                FormWriter::Characters(CharacterWriter::new(layout, keeps_spacing))
+            }
+            Lettered::Macros(layout) => FormWriter::Macros(MacroWriter::new(layout)),
+        }
+    }
+
+    /// Goes on after a reset.
+    fn restart(&mut self) {
+        match self {
+            FormWriter::Characters(writer) => writer.restart(),
+            FormWriter::Macros(writer) => writer.restart(),
+        }
+    }
+
+    /// The letters of the next page, and these rules of it.
+    fn next_page(&mut self, rules: &'a [Rule]) -> Taken<'a> {
+        match self {
+            FormWriter::Characters(writer) => writer.next_page(rules),
+            FormWriter::Macros(writer) => writer.next_page(rules),
+        }
+    }
+
+    /// Appends what stands before the page, however it is sent.
+    fn append_start(&mut self, out: &mut Vec<u8>) -> Result<(), AllocError> {
+        match self {
+            FormWriter::Characters(_) => Ok(()),
+            FormWriter::Macros(writer) => writer.append_start(out),
+        }
+    }
+
+    /// Appends what prints these letters of the page, and the end of the page.
+    fn append_letters(
+        &mut self,
+        letters: &[Letter],
+        page: &Page,
+        out: &mut Vec<u8>,
+    ) -> Result<(), AllocError> {
+        match self {
+            FormWriter::Characters(writer) => writer.append_letters(letters, page, out),
+            FormWriter::Macros(writer) => writer.append_letters(out),
+        }
+    }
+
+    /// Goes on after a page that is sent with the letters that were appended last.
+    fn keep_letters(&mut self) {
+        match self {
+            FormWriter::Characters(writer) => writer.keep_letters(),
+            FormWriter::Macros(writer) => writer.keep_letters(),
+        }
     }
 }

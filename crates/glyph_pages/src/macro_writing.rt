@@ -1,15 +1,15 @@
-//! Pages written as rasters and macros that are run.
+//! The letters of pages written as macros that are run.
 
-use crate::remains::{FORM_FEED, Taken, WholePage, append_shorter};
-use crate::rule_writing::{FIRST_ID, RulePen};
-use glyph_macros::{MacroLayout, append_lines};
+use crate::remains::{FORM_FEED, Taken};
+use crate::rule_writing::FIRST_ID;
+use glyph_macros::{Line, MacroLayout, append_lines};
 use glyph_shapes::Rule;
 use std::alloc::AllocError;
 
 /// Puts back method 0, by which the rows of a page text begin.
 pub const END_RASTER: &[u8] = b"\x1b*rC";
 
-/// Writes pages with letters as macros, one after the other.
+/// Writes the letters of pages as macros, one page after the other.
 #[derive(Drop)]
 pub struct MacroWriter<'a> {
     layout: &'a MacroLayout,
@@ -19,12 +19,14 @@ pub struct MacroWriter<'a> {
     letters: usize,
     lines: usize,
     marks: usize,
+    /// The lines of the page.
+    on_page: &'a [Line],
     /// Whether the page before has macros, after which the method is that of their rows.
     leaves_method: bool,
 }
 
 impl<'a> MacroWriter<'a> {
-    /// At the first page.
+    /// Before the first page.
     pub fn new(layout: &'a MacroLayout) -> MacroWriter<'a> {
         MacroWriter {
             layout,
@@ -32,6 +34,7 @@ impl<'a> MacroWriter<'a> {
             letters: 0,
             lines: 0,
             marks: 0,
+            on_page: &[],
             leaves_method: false,
         }
     }
@@ -41,44 +44,42 @@ impl<'a> MacroWriter<'a> {
         self.leaves_method = false;
     }
 
-    /// Appends the next page, which has these rules: its text without letters, or one with letters and rules where it takes fewer bytes.
-    /// The printer holds this size of rectangles; gives the one that it holds then.
-    pub fn append_page(
-        &mut self,
-        whole: WholePage<'_>,
-        rules: &[Rule],
-        pen: RulePen,
-        out: &mut Vec<u8>,
-    ) -> Result<RulePen, AllocError> {
+    /// The letters of the next page, and these rules of it.
+    pub fn next_page(&mut self, rules: &'a [Rule]) -> Taken<'a> {
         let layout = self.layout;
         let letters = layout.letters.of_page(self.page, self.letters);
-        let lines = layout.plan.text.script.of_page(self.page, self.lines);
+        self.on_page = layout.plan.text.script.of_page(self.page, self.lines);
         self.page = self.page.saturating_add(1);
         self.letters = self.letters.saturating_add(letters.len());
-        self.lines = self.lines.saturating_add(lines.len());
-        if self.leaves_method {
-            out.extend_from_slice(END_RASTER)?;
-        }
-        self.leaves_method = false;
-        let taken = Taken {
+        self.lines = self.lines.saturating_add(self.on_page.len());
+        Taken {
             patterns: &layout.patterns,
             found: &layout.letters,
             letters,
             rules,
             free_id: free_id(layout),
-        };
-        if taken.is_empty() {
-            out.extend_from_slice(whole.plain)?;
-            return Ok(pen);
         }
-        let mut printed = Vec::new(*out.allocator());
-        self.marks = append_lines(layout, lines, self.marks, &mut printed)?;
-        printed.push(FORM_FEED)?;
-        let Some(rule_pen) = append_shorter(taken, whole, pen, &printed, out)? else {
-            return Ok(pen);
-        };
-        self.leaves_method = !lines.is_empty();
-        Ok(rule_pen)
+    }
+
+    /// Appends what stands before a page, however it is sent.
+    pub fn append_start(&mut self, out: &mut Vec<u8>) -> Result<(), AllocError> {
+        if self.leaves_method {
+            out.extend_from_slice(END_RASTER)?;
+        }
+        self.leaves_method = false;
+        Ok(())
+    }
+
+    /// Appends what prints the letters of the page, and the end of the page.
+    pub fn append_letters(&mut self, out: &mut Vec<u8>) -> Result<(), AllocError> {
+        self.marks = append_lines(self.layout, self.on_page, self.marks, out)?;
+        out.push(FORM_FEED)?;
+        Ok(())
+    }
+
+    /// Goes on after a page that is sent with the letters that were appended last.
+    pub fn keep_letters(&mut self) {
+        self.leaves_method = !self.on_page.is_empty();
     }
 }
 

@@ -1,6 +1,6 @@
 //! Rasters of what of a page isn't printed as text.
 
-ghost use Rattle.std.specs.Prelude.{◌≡◌};
+ghost use Rattle.std.specs.Prelude.{◌≡◌, IfOk};
 ghost use Rattle.pcl_bitmap.specs.Bitmap.{IsPicture};
 
 use crate::corners::{bits_of, corner_of, move_to_corner};
@@ -59,69 +59,151 @@ struct Rest {
     pen: RulePen,
 }
 
-/// Appends the shortest rest of a page and what prints its letters, or its text without any where that has no more bytes. The printer
-/// holds this size of rectangles; gives the one that it holds then, where it has the letters.
-pub fn append_shorter(
-    taken: Taken<'_>,
-    whole: WholePage<'_>,
+/// Writes what is left of pages without their letters, one page after the other.
+#[derive(Drop)]
+pub struct RestWriter {
+    /// The size of rectangles that the printer holds.
     pen: RulePen,
-    printed: &[u8],
-    out: &mut Vec<u8>,
-) -> Result<Option<RulePen>, AllocError> {
-    let room = whole.room.map(|room| room.saturating_sub(printed.len()));
-    match shortest_rest(*out.allocator(), taken, whole.page, pen, room)? {
-        Some(Rest { text, pen }) if text.len().saturating_add(printed.len()) < whole.plain.len() =>
-            {
-                out.extend_from_slice(&text)?;
-                out.extend_from_slice(printed)?;
-                Ok(Some(pen))
-            }
-        _ => {
-            out.extend_from_slice(whole.plain)?;
-            Ok(None)
+    /// Dots that nobody needs any more: the next page is painted over them.
+    sheet: Option<Bitmap>,
+}
+
+impl RestWriter {
+    /// At the first page.
+    pub fn new() -> RestWriter {
+        RestWriter {
+            pen: RulePen::new(),
+            sheet: None,
         }
     }
+
+    /// Goes on after a reset.
+    pub fn restart(&mut self) {
+        self.pen = RulePen::new();
+    }
+
+    /// Appends the shortest rest of a page and what prints its letters, or its text without any where that has no more bytes. Says whether
+    /// it has the letters.
+    pub fn append_shorter(
+        &mut self,
+        taken: Taken<'_>,
+        whole: WholePage<'_>,
+        printed: &[u8],
+        out: &mut Vec<u8>,
+    ) -> Result<bool, AllocError> {
+        let room = whole.room.map(|room| room.saturating_sub(printed.len()));
+        if let Some(rest) = self.shortest_rest(*out.allocator(), taken, whole.page, room)? {
+            if rest.text.len().saturating_add(printed.len()) < whole.plain.len() {
+                self.pen = rest.pen;
+                out.extend_from_slice(&rest.text)?;
+                out.extend_from_slice(printed)?;
+                return Ok(true);
+            }
+        }
+        out.extend_from_slice(whole.plain)?;
+        Ok(false)
+    }
+
+    /// The shortest rest of a page that was found. Where a room is given, none is made that surely takes as many bytes.
+    fn shortest_rest(
+        &mut self,
+        alloc: Global,
+        taken: Taken<'_>,
+        page: &Page,
+        room: Option<usize>,
+    ) -> Result<Option<Rest>, AllocError> {
+        let mut rests = Rests {
+            alloc,
+            taken,
+            page,
+            pen: self.pen,
+            room,
+            sheet: self.sheet.take(),
+            shortest: None,
+            is_sure: false,
+        };
+        rests.add_all()?;
+        let Rests {
+            sheet,
+            shortest,
+            ..
+        } = rests;
+        self.sheet = sheet;
+        Ok(shortest)
+    }
 }
 
-/// The shortest rest of a page that was found: with all rules as rectangles, with those alone that share their rows with few, or with
-/// none. The printer holds this size of rectangles before it. Where a room is given, none is made that surely takes as many bytes.
-fn shortest_rest(
-    alloc: Global,
-    taken: Taken<'_>,
-    page: &Page,
-    pen: RulePen,
-    room: Option<usize>,
-) -> Result<Option<Rest>, AllocError> {
-    let mut rests = Rests::new(room);
-    rests.add_ruled(alloc, taken, taken.rules, page, pen)?;
-    let sparse = sparse_rules(alloc, taken.rules)?;
-    if sparse.len() < taken.rules.len() {
-        rests.add_ruled(alloc, taken, &sparse, page, pen)?;
-    }
-    if !rests.is_sure {
-        rests.add_unruled(alloc, taken, page, pen)?;
-    }
-    Ok(rests.shortest)
-}
-
-/// The shortest rest of a page so far.
+/// The rests of a page, of which the shortest is kept.
 #[derive(Drop)]
-struct Rests {
+struct Rests<'a> {
+    alloc: Global,
+    taken: Taken<'a>,
+    page: &'a Page,
+    /// The size of rectangles that the printer holds before them.
+    pen: RulePen,
     /// A rest may have fewer bytes than this, if that counts.
     room: Option<usize>,
+    /// Dots that nobody needs any more.
+    sheet: Option<Bitmap>,
+    /// The shortest so far.
     shortest: Option<Rest>,
     /// Whether a raster with all rules is surely longer.
     is_sure: bool,
 }
 
-impl Rests {
-    /// None yet.
-    fn new(room: Option<usize>) -> Rests {
-        Rests {
-            room,
-            shortest: None,
-            is_sure: false,
+impl<'a> Rests<'a> {
+    /// Adds those with all rules as rectangles, with those alone that share their rows with few, and with none.
+    fn add_all(&mut self) -> Result<(), AllocError> {
+        let rules = self.taken.rules;
+        self.add_ruled(rules)?;
+        let sparse = sparse_rules(self.alloc, rules)?;
+        if sparse.len() < rules.len() {
+            self.add_ruled(&sparse)?;
         }
+        if !self.is_sure {
+            self.add_unruled()?;
+        }
+        Ok(())
+    }
+
+    /// Adds the rest with all rules in the raster, if it has room.
+    fn add_unruled(&mut self) -> Result<(), AllocError> {
+        let mut others = self.page_without_letters()?;
+        if self.has_room(0, &others.bitmap) {
+            let text = raster_text(self.alloc, &mut others)?;
+            let pen = self.pen;
+            self.keep(Rest { text, pen }, false);
+        }
+        self.sheet = Some(others.bitmap);
+        Ok(())
+    }
+
+    /// Adds the rest with these rules as rectangles, if there are any, and if it has room, unless they surely take more bytes than in the
+    /// raster.
+    fn add_ruled(&mut self, rules: &[Rule]) -> Result<(), AllocError> {
+        if rules.is_empty() {
+            return Ok(());
+        }
+        let mut rectangles = Vec::new(self.alloc);
+        let pen = append_rules(
+            self.alloc,
+            rules,
+            self.pen,
+            self.taken.free_id,
+            &mut rectangles,
+        )?;
+        let mut others = self.page_without_letters()?;
+        ink_rules(rules, Ink::White, &mut others.bitmap);
+        if self.has_room(rectangles.len(), &others.bitmap) {
+            let saving = saving_of_rules(self.alloc, &others.bitmap, rules, rectangles.len())?;
+            if saving != Saving::SurelyLonger {
+                let mut text = raster_text(self.alloc, &mut others)?;
+                text.extend_from_slice(&rectangles)?;
+                self.keep(Rest { text, pen }, saving == Saving::SurelyShorter);
+            }
+        }
+        self.sheet = Some(others.bitmap);
+        Ok(())
     }
 
     /// Whether there may be room for a page as a raster, beside rectangles of this many bytes.
@@ -130,50 +212,6 @@ impl Rests {
             Some(room) => may_be_shorter(bitmap, room.saturating_sub(rectangles)),
             None => true,
         }
-    }
-
-    /// Adds the rest with all rules in the raster, if it has room.
-    fn add_unruled(
-        &mut self,
-        alloc: Global,
-        taken: Taken<'_>,
-        page: &Page,
-        pen: RulePen,
-    ) -> Result<(), AllocError> {
-        let others = page_without(alloc, taken, page)?;
-        if self.has_room(0, &others.bitmap) {
-            let text = raster_text(alloc, others)?;
-            self.keep(Rest { text, pen }, false);
-        }
-        Ok(())
-    }
-
-    /// Adds the rest with these rules as rectangles, if it has room, unless they surely take more bytes than in the raster.
-    fn add_ruled(
-        &mut self,
-        alloc: Global,
-        taken: Taken<'_>,
-        rules: &[Rule],
-        page: &Page,
-        pen: RulePen,
-    ) -> Result<(), AllocError> {
-        if rules.is_empty() {
-            return Ok(());
-        }
-        let mut others = page_without(alloc, taken, page)?;
-        ink_rules(rules, Ink::White, &mut others.bitmap);
-        let mut rectangles = Vec::new(alloc);
-        let pen = append_rules(alloc, rules, pen, taken.free_id, &mut rectangles)?;
-        if !self.has_room(rectangles.len(), &others.bitmap) {
-            return Ok(());
-        }
-        let saving = saving_of_rules(alloc, &others.bitmap, rules, rectangles.len())?;
-        if saving != Saving::SurelyLonger {
-            let mut text = raster_text(alloc, others)?;
-            text.extend_from_slice(&rectangles)?;
-            self.keep(Rest { text, pen }, saving == Saving::SurelyShorter);
-        }
-        Ok(())
     }
 
     /// Keeps a rest if it is the shortest so far.
@@ -187,6 +225,35 @@ impl Rests {
             self.is_sure = is_sure;
         }
     }
+
+    /// The page without the dots of its letters.
+    fn page_without_letters(&mut self) -> Result<Page, AllocError> {
+        let page = self.page;
+        let mut bitmap = white_bitmap(self.alloc, page, self.sheet.take())?;
+        paint_without(self.alloc, self.taken, &page.bitmap, &mut bitmap)?;
+        Ok(Page {
+            size: page.size,
+            copies: page.copies,
+            dpi: page.dpi,
+            bitmap,
+        })
+    }
+}
+
+/// The white dots of a page like this one, in place of others where these are as many.
+fn white_bitmap(alloc: Global, page: &Page, sheet: Option<Bitmap>) -> Result<Bitmap, AllocError>
+    ensures size { IfOk result (λ bitmap. bitmap.size ≡ page.now.size) }
+    ensures dpi { IfOk result (λ bitmap. bitmap.dpi ≡ page.now.dpi) }
+    ensures picture { IfOk result (λ bitmap. IsPicture bitmap) }
+{
+    if let Some(sheet) = sheet {
+        if sheet.size() == page.size && sheet.dpi() == page.dpi {
+            let mut bitmap = sheet;
+            bitmap.clear();
+            return Ok(bitmap);
+        }
+    }
+    Bitmap::new(alloc, page.size, page.dpi)
 }
 
 /// How rectangles of this many bytes compare with the dots of their rules in the raster of a page, which has no dots of these here.
@@ -219,14 +286,13 @@ fn white_rows(bitmap: &Bitmap, rules: &[Rule]) -> usize {
 
 /// The page text of a page as it is sent beside letters and rectangles, without its form feed. Its dots are moved where the raster starts
 /// further right: so no more than two pages are held at once.
-fn raster_text(alloc: Global, page: Page) -> Result<Vec<u8>, AllocError> {
-    let mut page = page;
+fn raster_text(alloc: Global, page: &mut Page) -> Result<Vec<u8>, AllocError> {
     let corner = corner_of(&page.bitmap);
     if !corner.is_of_page() {
         move_to_corner(alloc, corner, &mut page.bitmap)?;
     }
-    let text = least_text(alloc, &page)?;
-    shortened(alloc, &text, &page, corner)
+    let text = least_text(alloc, page)?;
+    shortened(alloc, &text, page, corner)
 }
 
 /// The least page text of a page, without its form feed.
@@ -236,18 +302,6 @@ fn least_text(alloc: Global, page: &Page) -> Result<Vec<u8>, AllocError> {
     write_page(page, &least, &mut text)?;
     text.pop();
     Ok(text)
-}
-
-/// A page without the dots of its letters.
-fn page_without(alloc: Global, taken: Taken<'_>, page: &Page) -> Result<Page, AllocError> {
-    let mut bitmap = Bitmap::new(alloc, page.size, page.dpi)?;
-    paint_without(alloc, taken, &page.bitmap, &mut bitmap)?;
-    Ok(Page {
-        size: page.size,
-        copies: page.copies,
-        dpi: page.dpi,
-        bitmap,
-    })
 }
 
 /// Paints a page without the dots of some letters, a band of rows at a time.
