@@ -25,14 +25,41 @@ pub fn letter_job<'b, P: ShrinkWatcher>(
     watcher: P,
 ) -> Result<Option<Vec<u8>>, AllocError> {
     let mut writer = LetterWriter::new(source, shifts, asks, texts, lettering, watcher);
+    match perform_texts(source, texts, &mut writer) {
+        Ok(()) => writer.finish(),
+        Err(JobFault::Refused(_)) => Ok(None),
+        Err(JobFault::Memory) => Err(AllocError),
+    }
+}
+
+/// Texts of pages are performed together up to this many bytes: each performing has a page of its own.
+const TOGETHER_BYTES: usize = 65_536;
+
+/// Performs texts of pages, one after the other.
+fn perform_texts<S: PageSink>(
+    source: ReadJob<'_>,
+    texts: &[Vec<u8>],
+    sink: &mut S,
+) -> Result<(), JobFault> {
+    let ReadJob {
+        alloc,
+        profile,
+        dpi,
+        ..
+    } = source;
+    let mut together = Vec::new(alloc);
     for text in texts {
-        match perform_by(source.alloc, text, source.profile, source.dpi, &mut writer) {
-            Ok(()) => {}
-            Err(JobFault::Refused(_)) => return Ok(None),
-            Err(JobFault::Memory) => return Err(AllocError),
+        if together.len().saturating_add(text.len()) > TOGETHER_BYTES {
+            perform_by(alloc, &together, profile, dpi, sink)?;
+            together.clear();
+        }
+        if text.len() > TOGETHER_BYTES {
+            perform_by(alloc, text, profile, dpi, sink)?;
+        } else {
+            together.extend_from_slice(text)?;
         }
     }
-    writer.finish()
+    perform_by(alloc, &together, profile, dpi, sink)
 }
 
 /// Writes the pages that come. A universal exit may delete fonts and macros: so the pages up to the next one are a stretch, which is
