@@ -83,50 +83,6 @@ fn write_bytes<'w, F: JobFiles, R: Rewriter>(
     let profile = batch.rewriting.profile();
     let dpi = resolve(alloc, batch.resolution, profile, bytes)?;
     let input = FileSum::of(alloc, bytes)?;
-    let counted = page_count(alloc, bytes, profile, dpi);
-    let came = write_counted(
-        files, alloc, batch, paths, bytes, dpi, &input, counted, rewriter,
-    )?;
-    Ok(came.entry(file, dpi, counted, input))
-}
-
-/// The same by what counting its pages gave: where memory ran out for that, the job fails for it and nothing is written.
-fn write_counted<F: JobFiles, R: Rewriter>(
-    files: &mut F,
-    alloc: Global,
-    batch: Batch<'_>,
-    paths: &Paths,
-    bytes: &[u8],
-    dpi: Dpi,
-    input: &FileSum,
-    counted: Result<usize, JobFault>,
-    rewriter: R,
-) -> Result<Came, AllocError>
-    ensures reason { IfOk result FailsByReason }
-    ensures count { IfOk result (FollowsCount counted) }
-{
-    match counted {
-        // that a job is refused is said of it when it is written again
-        Ok(_) | Err(JobFault::Refused(_)) => {
-            write_digested(files, alloc, batch, paths, bytes, dpi, input, rewriter)
-        }
-        Err(JobFault::Memory) => Ok(Came::Failed(Reason::of_fault(alloc, &Fault::Memory)?)),
-    }
-}
-
-/// The same with the digest of these bytes.
-fn write_digested<F: JobFiles, R: Rewriter>(
-    files: &mut F,
-    alloc: Global,
-    batch: Batch<'_>,
-    paths: &Paths,
-    bytes: &[u8],
-    dpi: Dpi,
-    input: &FileSum,
-    rewriter: R,
-) -> Result<Came, AllocError>
-    ensures { IfOk result FailsByReason }
-{
     let how = how_of(alloc, batch, dpi)?;
     let job = Job {
         is_itself: matches!(batch.place, Destination::Itself),
@@ -137,7 +93,27 @@ fn write_digested<F: JobFiles, R: Rewriter>(
         how: how.as_str(),
         input: input.sha256.as_str(),
     };
-    write_seen(files, alloc, job, rewriter)
+    let counted = page_count(alloc, bytes, profile, dpi);
+    let came = write_counted(files, alloc, job, counted, rewriter)?;
+    Ok(came.entry(file, dpi, counted, input))
+}
+
+/// Writes a job that was read, by what counting its pages gave: where memory ran out for that, it fails for it and nothing is written.
+fn write_counted<F: JobFiles, R: Rewriter>(
+    files: &mut F,
+    alloc: Global,
+    job: Job<'_>,
+    counted: Result<usize, JobFault>,
+    rewriter: R,
+) -> Result<Came, AllocError>
+    ensures reason { IfOk result FailsByReason }
+    ensures count { IfOk result (FollowsCount counted) }
+{
+    match counted {
+        // that a job is refused is said of it when it is written again
+        Ok(_) | Err(JobFault::Refused(_)) => write_seen(files, alloc, job, rewriter),
+        Err(JobFault::Memory) => Ok(Came::Failed(Reason::of_fault(alloc, &Fault::Memory)?)),
+    }
 }
 
 /// A job that was read.
