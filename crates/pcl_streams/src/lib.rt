@@ -17,7 +17,7 @@ pub use fault::Fault;
 pub use form::{ImageForm, Scale};
 pub use image::write_image;
 pub use page_comparison::are_images_of;
-pub use page_images::{PageChoice, PageSet, chosen_images, preview_pages};
+pub use page_images::{PageChoice, PageSet, preview_pages};
 pub use page_preview::{page_dots, preview};
 pub use reading::read_all;
 pub use watching::{Unwatched, Watcher, perform_watched};

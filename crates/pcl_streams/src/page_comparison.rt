@@ -11,7 +11,7 @@ use pcl_page::{Page, PageSink, perform_by};
 use std::alloc::{AllocError, Global};
 use std::marker::Model;
 
-/// Whether bytes are the PBM images of all pages of a job, by a profile: those that [`chosen_images`](crate::chosen_images) gives.
+/// Whether bytes are the PBM images of all pages of a job, by a profile: those that [`preview_pages`](crate::preview_pages) writes of them.
 /// Each image is compared as its page is made, so none of them is held. A refusal is the job's.
 pub fn are_images_of(
     alloc: Global,

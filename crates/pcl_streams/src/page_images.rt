@@ -2,7 +2,6 @@
 
 ghost use Rattle.std.specs.Prelude.{◌≡◌, ℕ, false};
 ghost use Rattle.pcl_streams.specs.PageImages.{is_listed, last_listed, last_page, HasWith, ArePageImages, IsPagesPreview};
-ghost use Rattle.pcl_streams.specs.declared.form.ImageForm.TheVariants.{Bitmap};
 ghost use Rattle.pcl_streams.specs.inner.Showing.{asks_next, flags_of, later, left_of, IsMetBy};
 
 use crate::Fault;
@@ -142,25 +141,12 @@ pub fn preview_pages<W: Write>(
 ) -> Result<(), Fault>
     ensures { IsPagesPreview form profile dpi job.now choice (W.contents out.old) (W.contents out.new) result }
 {
-    let images = chosen_images_in(alloc, job, choice, form, profile, dpi)?;
+    let images = chosen_images(alloc, job, choice, form, profile, dpi)?;
     write_all(out, &images)
 }
 
-/// The PBM images of the pages of a job that are asked for, by a profile.
-pub fn chosen_images(
-    alloc: Global,
-    job: &[u8],
-    choice: PageChoice,
-    profile: Profile,
-    dpi: Dpi,
-) -> Result<Vec<u8>, Fault>
-    ensures { ArePageImages Bitmap profile dpi job.now choice result }
-{
-    chosen_images_in(alloc, job, choice, ImageForm::Bitmap, profile, dpi)
-}
-
 /// The images in a form of the pages of a job that are asked for.
-fn chosen_images_in(
+fn chosen_images(
     alloc: Global,
     job: &[u8],
     choice: PageChoice,

@@ -1,6 +1,6 @@
 use Rattle.pcl_streams.proofs.Names.{refl, sym, ap, has_pages, Showing}
 use Rattle.pcl_streams.proofs.Showings.{all_made, met_by, one_lacks, unmet_by}
-use Rattle.pcl_streams.proofs.page_images.chosen_images_in.Goals as goal
+use Rattle.pcl_streams.proofs.page_images.chosen_images.Goals as goal
 
 pub returns-then-is_met : goal.returns-then-is_met
 returns-then-is_met c =
