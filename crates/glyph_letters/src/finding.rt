@@ -3,6 +3,7 @@
 use crate::frequency::{Frequency, find_frequency};
 use crate::joining::join_shapes;
 use crate::standing::{LineCount, Standing};
+use crate::touching::divide_shapes;
 use glyph_patterns::{Letter, LetterGlyph, Letters, number_of_place};
 use glyph_shapes::{Collection, PlacedShape};
 use std::alloc::{AllocError, Global};
@@ -26,6 +27,7 @@ pub fn find_letters(
     if frequency.letter_count(alloc, collection)? > collection.letter_room {
         return Ok(Letters::new(alloc));
     }
+    let frequency = divide_shapes(alloc, collection, frequency)?;
     let frequency = join_shapes(alloc, collection, frequency)?;
     let standing = Standing::new(alloc, collection, &frequency)?;
     let mut found = Letters::new(alloc);

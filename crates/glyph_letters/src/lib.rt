@@ -6,5 +6,6 @@ mod finding;
 mod frequency;
 mod joining;
 mod standing;
+mod touching;
 
 pub use finding::find_letters;

@@ -1,0 +1,409 @@
+//! Letters that touch, as an r and the t after it may: their dots are one shape, which is divided into the two where that takes fewer bytes.
+
+use crate::frequency::{Frequency, count_uses, find_frequency};
+use glyph_patterns::{Drawing, Pattern, Patterns, number_of_place, short_number};
+use glyph_shapes::{Collection, PlacedShape};
+use indexmap::IndexMap;
+use std::alloc::{AllocError, Global};
+
+/// How often shapes are divided in two: one of the first round has up to eight letters.
+const ROUNDS: u32 = 3;
+
+/// No more letters than these are tried for each side of a shape, the most frequent ones of those with its edge.
+const TRIED: usize = 32;
+
+/// A byte of letters is looked at for this many of the pages, at most: else hostile jobs take long.
+const BYTES_FOR_A_BYTE: usize = 8;
+
+/// Where a column of a pattern has dots. Their order is that of how they are looked for.
+#[derive(Clone, Copy, PartialEq, Eq, PartialOrd, Ord)]
+struct Edge {
+    /// How many rows there are from its topmost dot to its lowest.
+    rows: u32,
+    /// How many of them have a dot.
+    dots: u32,
+}
+
+/// The column at one side of a pattern.
+#[derive(Clone, Copy)]
+struct Column {
+    edge: Edge,
+    /// The row of its topmost dot.
+    top: u32,
+}
+
+/// A letter by the column at one of its sides. Their order is by edges, and then by how frequent they are.
+#[derive(Clone, Copy, PartialEq, Eq, PartialOrd, Ord)]
+struct EdgeLetter {
+    edge: Edge,
+    /// The fewer shapes its pattern has the more this is.
+    rareness: usize,
+    pattern: u32,
+    /// The row of the topmost dot of the column.
+    top: u32,
+}
+
+/// A side of a shape.
+#[derive(Clone, Copy, PartialEq, Eq)]
+enum Side {
+    Left,
+    Right,
+}
+
+/// The letters of a job by their edges, in order.
+#[derive(Drop)]
+struct LetterEdges {
+    left: Vec<EdgeLetter>,
+    right: Vec<EdgeLetter>,
+}
+
+/// A letter within a shape.
+#[derive(Clone, Copy)]
+struct Part {
+    pattern: u32,
+    width: u32,
+    /// How far right and down in the shape its left upper dot is.
+    right: u32,
+    down: u32,
+}
+
+/// The two letters that a shape is of.
+#[derive(Clone, Copy)]
+struct Division {
+    left: Part,
+    right: Part,
+}
+
+/// How many bytes of letters may still be looked at.
+#[derive(Clone, Copy)]
+struct Room {
+    bytes: usize,
+}
+
+impl Room {
+    /// Before the first letter, for the pages of a job.
+    fn for_pages(collection: &Collection) -> Room {
+        let mut bytes: usize = 0;
+        for (width, height) in collection.widths.iter().zip(collection.heights.iter()) {
+            let row_bytes = width.div_ceil(8) as usize;
+            bytes = bytes.saturating_add(row_bytes.saturating_mul(*height as usize));
+        }
+        Room {
+            bytes: bytes / BYTES_FOR_A_BYTE,
+        }
+    }
+
+    /// Takes room for this many bytes, and says whether there was as much.
+    fn take(&mut self, bytes: usize) -> bool {
+        let has_room = bytes <= self.bytes;
+        self.bytes = self.bytes.saturating_sub(bytes);
+        has_room
+    }
+}
+
+/// Divides shapes of two letters that touch, where that takes fewer bytes. `frequency` is what the shapes of each pattern take; gives what
+/// they take then.
+pub fn divide_shapes(
+    alloc: Global,
+    collection: &mut Collection,
+    frequency: Frequency,
+) -> Result<Frequency, AllocError> {
+    let divisions = find_divisions(alloc, collection, &frequency)?;
+    if divisions.is_empty() {
+        return Ok(frequency);
+    }
+    for _ in 0..ROUNDS {
+        divide_once(collection, &divisions)?;
+    }
+    collection.placed.sort_unstable();
+    find_frequency(alloc, collection)
+}
+
+/// Divides the shapes of these patterns. The right parts come behind all others.
+fn divide_once(
+    collection: &mut Collection,
+    divisions: &IndexMap<u32, Division>,
+) -> Result<(), AllocError> {
+    let count = collection.placed.len();
+    let divided = collection
+        .placed
+        .iter()
+        .filter(|shape| divisions.contains_key(&shape.pattern))
+        .count();
+    collection.placed.reserve_exact(divided)?;
+    for place in 0..count {
+        if let Some(shape) = collection.placed.get(place).copied() {
+            if let Some(division) = divisions.get(&shape.pattern) {
+                let right = division.right.within(shape);
+                if let Some(here) = collection.placed.get_mut(place) {
+                    *here = division.left.within(shape);
+                }
+                collection.placed.push(right)?;
+            }
+        }
+    }
+    Ok(())
+}
+
+/// The patterns that take fewer bytes as two letters, and these.
+fn find_divisions(
+    alloc: Global,
+    collection: &Collection,
+    frequency: &Frequency,
+) -> Result<IndexMap<u32, Division>, AllocError> {
+    let uses = count_uses(alloc, collection)?;
+    let letters = LetterEdges::new(alloc, &collection.patterns, frequency, &uses)?;
+    let mut room = Room::for_pages(collection);
+    let mut divisions = IndexMap::new(alloc);
+    for (place, count) in uses.iter().enumerate() {
+        let pattern = number_of_place(place);
+        if *count > 0 && is_longer(collection, frequency, pattern, *count) {
+            if let Some(division) = letters.division_of(alloc, collection, pattern, &mut room)? {
+                divisions.insert(pattern, division)?;
+            }
+        }
+    }
+    Ok(divisions)
+}
+
+/// Whether a pattern that has as many shapes takes more bytes than they do as two letters each.
+fn is_longer(collection: &Collection, frequency: &Frequency, pattern: u32, count: usize) -> bool {
+    if frequency.is_letter(pattern) {
+        let more = collection.form.bytes_of_letters(0, count);
+        collection.patterns.definition_bytes(pattern) > more
+    } else {
+        let both = collection
+            .form
+            .bytes_of_letters(0, count.saturating_mul(2));
+        frequency.raster_bytes(pattern, count, count) > both
+    }
+}
+
+impl Part {
+    /// This part of a shape.
+    fn within(self, shape: PlacedShape) -> PlacedShape {
+        PlacedShape {
+            page: shape.page,
+            baseline: shape.baseline,
+            x: shape.x.saturating_add(short_number(self.right)),
+            top: shape.top.saturating_add(short_number(self.down)),
+            pattern: self.pattern,
+        }
+    }
+}
+
+impl LetterEdges {
+    /// Those of the letters among these patterns, which have as many shapes.
+    fn new(
+        alloc: Global,
+        patterns: &Patterns,
+        frequency: &Frequency,
+        uses: &[usize],
+    ) -> Result<LetterEdges, AllocError> {
+        let mut left = Vec::new(alloc);
+        let mut right = Vec::new(alloc);
+        for (place, count) in uses.iter().enumerate() {
+            let number = number_of_place(place);
+            if *count > 1 && frequency.is_letter(number) {
+                if let Some(pattern) = patterns.get(number) {
+                    let rareness = usize::MAX - *count;
+                    left.push(EdgeLetter::new(number, rareness, Side::Left.column_of(pattern)))?;
+                    right.push(EdgeLetter::new(number, rareness, Side::Right.column_of(pattern)))?;
+                }
+            }
+        }
+        left.sort_unstable();
+        right.sort_unstable();
+        Ok(LetterEdges { left, right })
+    }
+
+    /// The two letters that a pattern is of, if such are found.
+    fn division_of(
+        &self,
+        alloc: Global,
+        collection: &Collection,
+        pattern: u32,
+        room: &mut Room,
+    ) -> Result<Option<Division>, AllocError> {
+        let patterns = &collection.patterns;
+        let Some(whole) = patterns.get(pattern) else {
+            return Ok(None);
+        };
+        let lefts = self.parts_of(alloc, patterns, whole, Side::Left, room)?;
+        if lefts.is_empty() {
+            return Ok(None);
+        }
+        let rights = self.parts_of(alloc, patterns, whole, Side::Right, room)?;
+        for left in lefts.iter() {
+            for right in rights.iter() {
+                let division = Division {
+                    left: *left,
+                    right: *right,
+                };
+                if room.take(whole.rows.len()) && division.is_of(alloc, collection, whole)? {
+                    return Ok(Some(division));
+                }
+            }
+        }
+        Ok(None)
+    }
+
+    /// The letters whose dots a pattern has at one of its sides, where it has no others in its outermost column.
+    fn parts_of(
+        &self,
+        alloc: Global,
+        patterns: &Patterns,
+        whole: Pattern<'_>,
+        side: Side,
+        room: &mut Room,
+    ) -> Result<Vec<Part>, AllocError> {
+        let mut parts = Vec::new(alloc);
+        if !room.take(whole.height as usize) {
+            return Ok(parts);
+        }
+        let column = side.column_of(whole);
+        for letter in self.with_edge(side, column.edge).iter().take(TRIED) {
+            if let Some(part) = letter.part_of(patterns, whole, column, side, room) {
+                parts.push(part)?;
+            }
+        }
+        Ok(parts)
+    }
+
+    /// The letters that have this edge at a side.
+    fn with_edge(&self, side: Side, edge: Edge) -> &[EdgeLetter] {
+        let letters: &[EdgeLetter] = match side {
+            Side::Left => &self.left,
+            Side::Right => &self.right,
+        };
+        let start = letters.partition_point(|letter| letter.edge < edge);
+        let letters = letters.get(start..).unwrap_or(&[]);
+        let count = letters.partition_point(|letter| letter.edge <= edge);
+        letters.get(..count).unwrap_or(&[])
+    }
+}
+
+impl EdgeLetter {
+    /// A letter with this column at a side.
+    fn new(pattern: u32, rareness: usize, column: Column) -> EdgeLetter {
+        EdgeLetter {
+            edge: column.edge,
+            rareness,
+            pattern,
+            top: column.top,
+        }
+    }
+
+    /// This letter within a pattern, which has this column at a side, if all its dots are there.
+    fn part_of(
+        self,
+        patterns: &Patterns,
+        whole: Pattern<'_>,
+        column: Column,
+        side: Side,
+        room: &mut Room,
+    ) -> Option<Part> {
+        let letter = patterns.get(self.pattern)?;
+        let down = column.top.checked_sub(self.top)?;
+        if letter.width >= whole.width || down.saturating_add(letter.height) > whole.height {
+            return None;
+        }
+        let part = Part {
+            pattern: self.pattern,
+            width: letter.width,
+            right: match side {
+                Side::Left => 0,
+                Side::Right => whole.width.saturating_sub(letter.width),
+            },
+            down,
+        };
+        is_within(letter, whole, part, room).then_some(part)
+    }
+}
+
+impl Division {
+    /// Whether the dots of its letters are all that a pattern has.
+    fn is_of(
+        self,
+        alloc: Global,
+        collection: &Collection,
+        whole: Pattern<'_>,
+    ) -> Result<bool, AllocError> {
+        if self.left.width < self.right.right {
+            return Ok(false);
+        }
+        let patterns = &collection.patterns;
+        let scale = collection.form.scale();
+        let Some(mut both) = Drawing::white(alloc, whole.width, whole.height, scale)? else {
+            return Ok(false);
+        };
+        for part in [self.left, self.right] {
+            if let Some(letter) = patterns.get(part.pattern) {
+                both.blacken_with(letter, part.right, part.down);
+            }
+        }
+        Ok(both.pattern().rows == whole.rows)
+    }
+}
+
+impl Side {
+    /// The outermost column of a pattern at this side.
+    fn column_of(self, pattern: Pattern<'_>) -> Column {
+        let place = match self {
+            Side::Left => 0,
+            Side::Right => pattern.width.saturating_sub(1),
+        };
+        let mut top = None;
+        let mut end: u32 = 0;
+        let mut dots: u32 = 0;
+        let mut y: u32 = 0;
+        for row in pattern.rows.chunks(pattern.row_bytes()) {
+            let row_end = y.saturating_add(1);
+            if bits_at(row, place) & 0x80 != 0 {
+                top = top.or(Some(y));
+                end = row_end;
+                dots = dots.saturating_add(1);
+            }
+            y = row_end;
+        }
+        let top = top.unwrap_or(0);
+        let edge = Edge {
+            rows: end.saturating_sub(top),
+            dots,
+        };
+        Column { edge, top }
+    }
+}
+
+/// Whether a pattern has all dots of a letter at the place of a part: no where there is no room to look.
+fn is_within(letter: Pattern<'_>, whole: Pattern<'_>, part: Part, room: &mut Room) -> bool {
+    let rows = whole.rows_from(part.down);
+    let rows = rows.bytes.chunks(rows.row_bytes.max(1));
+    for (dots, there) in letter.rows.chunks(letter.row_bytes()).zip(rows) {
+        if !room.take(dots.len()) || !has_dots(there, dots, part.right) {
+            return false;
+        }
+    }
+    true
+}
+
+/// Whether a row has all these dots, of which the first is so far right.
+fn has_dots(row: &[u8], dots: &[u8], right: u32) -> bool {
+    let mut place = right;
+    for byte in dots {
+        if *byte & !bits_at(row, place) != 0 {
+            return false;
+        }
+        place = place.saturating_add(8);
+    }
+    true
+}
+
+/// Eight dots of a row from a place on: white ones past its end.
+fn bits_at(row: &[u8], place: u32) -> u8 {
+    let first = (place / 8) as usize;
+    let left = row.get(first).copied().unwrap_or(0);
+    let right = row.get(first.saturating_add(1)).copied().unwrap_or(0);
+    let [bits, _] = (u16::from_be_bytes([left, right]) << (place % 8)).to_be_bytes();
+    bits
+}
