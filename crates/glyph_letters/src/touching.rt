@@ -172,9 +172,7 @@ fn is_longer(collection: &Collection, frequency: &Frequency, pattern: u32, count
         let more = collection.form.bytes_of_letters(0, count);
         collection.patterns.definition_bytes(pattern) > more
     } else {
-        let both = collection
-            .form
-            .bytes_of_letters(0, count.saturating_mul(2));
+        let both = collection.form.bytes_of_letters(0, count.saturating_mul(2));
         frequency.raster_bytes(pattern, count, count) > both
     }
 }
