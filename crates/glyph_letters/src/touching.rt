@@ -43,9 +43,9 @@ struct EdgeLetter {
     top: u32,
 }
 
-/// A side of a shape.
-#[derive(Clone, Copy, PartialEq, Eq)]
-enum Side {
+/// The left or the right side of a shape.
+#[derive(Clone, Copy)]
+enum Flank {
     Left,
     Right,
 }
@@ -132,14 +132,15 @@ fn divide_once(
         .count();
     collection.placed.reserve_exact(divided)?;
     for place in 0..count {
-        if let Some(shape) = collection.placed.get(place).copied() {
-            if let Some(division) = divisions.get(&shape.pattern) {
-                let right = division.right.within(shape);
-                if let Some(here) = collection.placed.get_mut(place) {
-                    *here = division.left.within(shape);
-                }
-                collection.placed.push(right)?;
-            }
+        let Some(shape) = collection.placed.get(place).copied() else {
+            break;
+        };
+        let Some(division) = divisions.get(&shape.pattern) else {
+            continue;
+        };
+        collection.placed.push(division.right.within(shape))?;
+        if let Some(here) = collection.placed.get_mut(place) {
+            *here = division.left.within(shape);
         }
     }
     Ok(())
@@ -205,8 +206,8 @@ impl LetterEdges {
             if *count > 1 && frequency.is_letter(number) {
                 if let Some(pattern) = patterns.get(number) {
                     let rareness = usize::MAX - *count;
-                    left.push(EdgeLetter::new(number, rareness, Side::Left.column_of(pattern)))?;
-                    right.push(EdgeLetter::new(number, rareness, Side::Right.column_of(pattern)))?;
+                    left.push(EdgeLetter::new(number, rareness, Flank::Left.column_of(pattern)))?;
+                    right.push(EdgeLetter::new(number, rareness, Flank::Right.column_of(pattern)))?;
                 }
             }
         }
@@ -227,11 +228,11 @@ impl LetterEdges {
         let Some(whole) = patterns.get(pattern) else {
             return Ok(None);
         };
-        let lefts = self.parts_of(alloc, patterns, whole, Side::Left, room)?;
+        let lefts = self.parts_of(alloc, patterns, whole, Flank::Left, room)?;
         if lefts.is_empty() {
             return Ok(None);
         }
-        let rights = self.parts_of(alloc, patterns, whole, Side::Right, room)?;
+        let rights = self.parts_of(alloc, patterns, whole, Flank::Right, room)?;
         for left in lefts.iter() {
             for right in rights.iter() {
                 let division = Division {
@@ -252,16 +253,16 @@ impl LetterEdges {
         alloc: Global,
         patterns: &Patterns,
         whole: Pattern<'_>,
-        side: Side,
+        flank: Flank,
         room: &mut Room,
     ) -> Result<Vec<Part>, AllocError> {
         let mut parts = Vec::new(alloc);
         if !room.take(whole.height as usize) {
             return Ok(parts);
         }
-        let column = side.column_of(whole);
-        for letter in self.with_edge(side, column.edge).iter().take(TRIED) {
-            if let Some(part) = letter.part_of(patterns, whole, column, side, room) {
+        let column = flank.column_of(whole);
+        for letter in self.with_edge(flank, column.edge).iter().take(TRIED) {
+            if let Some(part) = letter.part_of(patterns, whole, column, flank, room) {
                 parts.push(part)?;
             }
         }
@@ -269,10 +270,10 @@ impl LetterEdges {
     }
 
     /// The letters that have this edge at a side.
-    fn with_edge(&self, side: Side, edge: Edge) -> &[EdgeLetter] {
-        let letters: &[EdgeLetter] = match side {
-            Side::Left => &self.left,
-            Side::Right => &self.right,
+    fn with_edge(&self, flank: Flank, edge: Edge) -> &[EdgeLetter] {
+        let letters: &[EdgeLetter] = match flank {
+            Flank::Left => &self.left,
+            Flank::Right => &self.right,
         };
         let start = letters.partition_point(|letter| letter.edge < edge);
         let letters = letters.get(start..).unwrap_or(&[]);
@@ -298,7 +299,7 @@ impl EdgeLetter {
         patterns: &Patterns,
         whole: Pattern<'_>,
         column: Column,
-        side: Side,
+        flank: Flank,
         room: &mut Room,
     ) -> Option<Part> {
         let letter = patterns.get(self.pattern)?;
@@ -309,9 +310,9 @@ impl EdgeLetter {
         let part = Part {
             pattern: self.pattern,
             width: letter.width,
-            right: match side {
-                Side::Left => 0,
-                Side::Right => whole.width.saturating_sub(letter.width),
+            right: match flank {
+                Flank::Left => 0,
+                Flank::Right => whole.width.saturating_sub(letter.width),
             },
             down,
         };
@@ -344,12 +345,12 @@ impl Division {
     }
 }
 
-impl Side {
+impl Flank {
     /// The outermost column of a pattern at this side.
     fn column_of(self, pattern: Pattern<'_>) -> Column {
         let place = match self {
-            Side::Left => 0,
-            Side::Right => pattern.width.saturating_sub(1),
+            Flank::Left => 0,
+            Flank::Right => pattern.width.saturating_sub(1),
         };
         let mut top = None;
         let mut end: u32 = 0;
