@@ -38,6 +38,7 @@ unlike          48 large shapes on each page, each with a dot that no other has 
 small           shapes of twelve rows by the ten thousands, which hang together in none but small groups
 cells           as many of them apart from each other, each whole
 few_cells       a third of these, few enough for letters
+touching        cells with the same edges, alone and two that touch
 stripes         a stripe of four dots for each eight, down the page
 dots            a single dot for each eight dots of each second row
 letters         two letters on each page
@@ -277,6 +278,19 @@ def few_cells(dpi, count):
     return cells(dpi, count, 1 / 3)
 
 
+def touching(dpi, count):
+    source, rows = random.Random(3), []
+    kinds = [[0xFF] + [source.choice((0x81, 0xFF)) for _ in range(11)] for _ in range(64)]
+    for _ in range(60):
+        band = [bytearray(dpi) for _ in range(15)]
+        for place in range(0, dpi - 4, 2 * dpi // 25):
+            for used in (place, place + 2, place + 3):
+                for row, byte in zip(band, source.choice(kinds)):
+                    row[used] = byte
+        rows += band
+    return pages(dpi, plain_rows(rows), 11 * dpi // 900 + 1, count)
+
+
 def stripes(dpi, count):
     return pages(dpi, equal_bytes(0xF0, dpi) + b"\x1b*b3M\x1b*b" + 98 * b"w" + b"W", 11 * dpi // 100, count)
 
@@ -291,7 +305,7 @@ def letters(dpi, count):
     return b"\x1b&l0E" + defined(1, page) + b"\x1b&f1y" + (count - 1) * b"3x" + b"3X"
 
 
-PAGES = [checkerboard, random_dots, thin, squares, unlike, small, cells, few_cells, stripes, dots, letters]
+PAGES = [checkerboard, random_dots, thin, squares, unlike, small, cells, few_cells, touching, stripes, dots, letters]
 FACTORS = 4, 2
 
 
