@@ -17,6 +17,10 @@ use std::alloc::{AllocError, Global};
 /// This many rows of a page are without their letters at a time.
 const BAND_ROWS: u32 = 512;
 
+/// The dots of a page are kept for the next one where its text without letters has no more bytes than this: of a longer one the text takes
+/// the memory.
+const SHEET_BYTES: usize = 65_536;
+
 /// The form feed that ends a page.
 pub const FORM_FEED: u8 = 12;
 
@@ -92,7 +96,11 @@ impl RestWriter {
         out: &mut Vec<u8>,
     ) -> Result<bool, AllocError> {
         let room = whole.room.map(|room| room.saturating_sub(printed.len()));
-        if let Some(rest) = self.shortest_rest(*out.allocator(), taken, whole.page, room)? {
+        let rest = self.shortest_rest(*out.allocator(), taken, whole.page, room)?;
+        if whole.plain.len() > SHEET_BYTES {
+            self.sheet = None;
+        }
+        if let Some(rest) = rest {
             if rest.text.len().saturating_add(printed.len()) < whole.plain.len() {
                 self.pen = rest.pen;
                 out.extend_from_slice(&rest.text)?;
