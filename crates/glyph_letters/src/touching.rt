@@ -1,4 +1,4 @@
-//! Letters that touch, as an r and the t after it may: their dots are one shape, which is divided into the two where that takes fewer bytes.
+//! Letters that touch, as two t in turn may: their dots are one shape, which is divided into the two where that takes fewer bytes.
 
 use crate::frequency::{Frequency, count_uses, find_frequency};
 use glyph_patterns::{Drawing, Pattern, Patterns, number_of_place, short_number};
@@ -61,7 +61,6 @@ struct LetterEdges {
 #[derive(Clone, Copy)]
 struct Part {
     pattern: u32,
-    width: u32,
     /// How far right and down in the shape its left upper dot is.
     right: u32,
     down: u32,
@@ -309,7 +308,6 @@ impl EdgeLetter {
         }
         let part = Part {
             pattern: self.pattern,
-            width: letter.width,
             right: match flank {
                 Flank::Left => 0,
                 Flank::Right => whole.width.saturating_sub(letter.width),
@@ -328,9 +326,6 @@ impl Division {
         collection: &Collection,
         whole: Pattern<'_>,
     ) -> Result<bool, AllocError> {
-        if self.left.width < self.right.right {
-            return Ok(false);
-        }
         let patterns = &collection.patterns;
         let scale = collection.form.scale();
         let Some(mut both) = Drawing::white(alloc, whole.width, whole.height, scale)? else {

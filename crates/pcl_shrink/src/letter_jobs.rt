@@ -35,31 +35,37 @@ pub fn letter_job<'b, P: ShrinkWatcher>(
 /// Texts of pages are performed together up to this many bytes: each performing has a page of its own.
 const TOGETHER_BYTES: usize = 65_536;
 
-/// Performs texts of pages, one after the other.
+/// Performs texts of pages, one after the other. Longer ones aren't copied.
 fn perform_texts<S: PageSink>(
     source: ReadJob<'_>,
     texts: &[Vec<u8>],
     sink: &mut S,
 ) -> Result<(), JobFault> {
-    let ReadJob {
-        alloc,
-        profile,
-        dpi,
-        ..
-    } = source;
-    let mut together = Vec::new(alloc);
+    let mut together = Vec::new(source.alloc);
     for text in texts {
         if together.len().saturating_add(text.len()) > TOGETHER_BYTES {
-            perform_by(alloc, &together, profile, dpi, sink)?;
+            perform_text(source, &together, sink)?;
             together.clear();
         }
         if text.len() > TOGETHER_BYTES {
-            perform_by(alloc, text, profile, dpi, sink)?;
+            perform_text(source, text, sink)?;
         } else {
             together.extend_from_slice(text)?;
         }
     }
-    perform_by(alloc, &together, profile, dpi, sink)
+    perform_text(source, &together, sink)
+}
+
+/// Performs a text, if it isn't empty.
+fn perform_text<S: PageSink>(
+    source: ReadJob<'_>,
+    text: &[u8],
+    sink: &mut S,
+) -> Result<(), JobFault> {
+    if text.is_empty() {
+        return Ok(());
+    }
+    perform_by(source.alloc, text, source.profile, source.dpi, sink)
 }
 
 /// Writes the pages that come. A universal exit may delete fonts and macros: so the pages up to the next one are a stretch, which is
