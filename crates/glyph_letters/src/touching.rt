@@ -50,6 +50,15 @@ enum Flank {
     Right,
 }
 
+/// A shape seen from one side.
+#[derive(Clone, Copy)]
+struct Seen<'a> {
+    whole: Pattern<'a>,
+    flank: Flank,
+    /// Its outermost column there.
+    column: Column,
+}
+
 /// The letters of a job by their edges, in order.
 #[derive(Drop)]
 struct LetterEdges {
@@ -158,7 +167,7 @@ fn find_divisions(
     for (place, count) in uses.iter().enumerate() {
         let pattern = number_of_place(place);
         if *count > 0 && is_longer(collection, frequency, pattern, *count) {
-            if let Some(division) = letters.division_of(alloc, collection, pattern, &mut room)? {
+            if let Some(division) = letters.division_of(collection, pattern, &mut room)? {
                 divisions.insert(pattern, division)?;
             }
         }
@@ -218,7 +227,6 @@ impl LetterEdges {
     /// The two letters that a pattern is of, if such are found.
     fn division_of(
         &self,
-        alloc: Global,
         collection: &Collection,
         pattern: u32,
         room: &mut Room,
@@ -227,18 +235,18 @@ impl LetterEdges {
         let Some(whole) = patterns.get(pattern) else {
             return Ok(None);
         };
-        let lefts = self.parts_of(alloc, patterns, whole, Flank::Left, room)?;
+        let lefts = self.parts_of(whole, Flank::Left, patterns, room)?;
         if lefts.is_empty() {
             return Ok(None);
         }
-        let rights = self.parts_of(alloc, patterns, whole, Flank::Right, room)?;
+        let rights = self.parts_of(whole, Flank::Right, patterns, room)?;
         for left in lefts.iter() {
             for right in rights.iter() {
                 let division = Division {
                     left: *left,
                     right: *right,
                 };
-                if room.take(whole.rows.len()) && division.is_of(alloc, collection, whole)? {
+                if room.take(whole.rows.len()) && division.is_of(self.alloc(), collection, whole)? {
                     return Ok(Some(division));
                 }
             }
@@ -249,35 +257,59 @@ impl LetterEdges {
     /// The letters whose dots a pattern has at one of its sides, where it has no others in its outermost column.
     fn parts_of(
         &self,
-        alloc: Global,
-        patterns: &Patterns,
         whole: Pattern<'_>,
         flank: Flank,
+        patterns: &Patterns,
         room: &mut Room,
     ) -> Result<Vec<Part>, AllocError> {
-        let mut parts = Vec::new(alloc);
+        let mut parts = Vec::new(self.alloc());
         if !room.take(whole.height as usize) {
             return Ok(parts);
         }
-        let column = flank.column_of(whole);
-        for letter in self.with_edge(flank, column.edge).iter().take(TRIED) {
-            if let Some(part) = letter.part_of(patterns, whole, column, flank, room) {
+        let seen = Seen::from_side(whole, flank);
+        for letter in self.with_edge(seen).iter().take(TRIED) {
+            if let Some(part) = letter.part_of(seen, patterns, room) {
                 parts.push(part)?;
             }
         }
         Ok(parts)
     }
 
-    /// The letters that have this edge at a side.
-    fn with_edge(&self, flank: Flank, edge: Edge) -> &[EdgeLetter] {
-        let letters: &[EdgeLetter] = match flank {
+    /// Where lists of parts go.
+    fn alloc(&self) -> Global {
+        *self.left.allocator()
+    }
+
+    /// The letters that have the edge of a shape at its side.
+    fn with_edge(&self, seen: Seen<'_>) -> &[EdgeLetter] {
+        let letters: &[EdgeLetter] = match seen.flank {
             Flank::Left => &self.left,
             Flank::Right => &self.right,
         };
+        let edge = seen.column.edge;
         let start = letters.partition_point(|letter| letter.edge < edge);
         let letters = letters.get(start..).unwrap_or(&[]);
         let count = letters.partition_point(|letter| letter.edge <= edge);
         letters.get(..count).unwrap_or(&[])
+    }
+}
+
+impl<'a> Seen<'a> {
+    /// A pattern from this side.
+    fn from_side(whole: Pattern<'a>, flank: Flank) -> Seen<'a> {
+        Seen {
+            whole,
+            flank,
+            column: flank.column_of(whole),
+        }
+    }
+
+    /// How far right in the shape a letter of this width begins that ends at the side.
+    fn right_of(self, width: u32) -> u32 {
+        match self.flank {
+            Flank::Left => 0,
+            Flank::Right => self.whole.width.saturating_sub(width),
+        }
     }
 }
 
@@ -292,26 +324,17 @@ impl EdgeLetter {
         }
     }
 
-    /// This letter within a pattern, which has this column at a side, if all its dots are there.
-    fn part_of(
-        self,
-        patterns: &Patterns,
-        whole: Pattern<'_>,
-        column: Column,
-        flank: Flank,
-        room: &mut Room,
-    ) -> Option<Part> {
+    /// This letter within a shape, at the side from which it is seen, if all its dots are there.
+    fn part_of(self, seen: Seen<'_>, patterns: &Patterns, room: &mut Room) -> Option<Part> {
+        let whole = seen.whole;
         let letter = patterns.get(self.pattern)?;
-        let down = column.top.checked_sub(self.top)?;
+        let down = seen.column.top.checked_sub(self.top)?;
         if letter.width >= whole.width || down.saturating_add(letter.height) > whole.height {
             return None;
         }
         let part = Part {
             pattern: self.pattern,
-            right: match flank {
-                Flank::Left => 0,
-                Flank::Right => whole.width.saturating_sub(letter.width),
-            },
+            right: seen.right_of(letter.width),
             down,
         };
         is_within(letter, whole, part, room).then_some(part)
@@ -350,15 +373,13 @@ impl Flank {
         let mut top = None;
         let mut end: u32 = 0;
         let mut dots: u32 = 0;
-        let mut y: u32 = 0;
-        for row in pattern.rows.chunks(pattern.row_bytes()) {
-            let row_end = y.saturating_add(1);
+        for (y, row) in pattern.rows.chunks(pattern.row_bytes()).enumerate() {
             if bits_at(row, place) & 0x80 != 0 {
+                let y = number_of_place(y);
                 top = top.or(Some(y));
-                end = row_end;
+                end = y.saturating_add(1);
                 dots = dots.saturating_add(1);
             }
-            y = row_end;
         }
         let top = top.unwrap_or(0);
         let edge = Edge {
