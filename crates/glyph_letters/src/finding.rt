@@ -27,8 +27,13 @@ pub fn find_letters(
     if frequency.letter_count(alloc, collection)? > collection.letter_room {
         return Ok(Letters::new(alloc));
     }
-    let frequency = divide_shapes(alloc, collection, frequency)?;
-    let frequency = join_shapes(alloc, collection, frequency)?;
+    let is_divided = divide_shapes(alloc, collection, &frequency)?;
+    let is_joined = join_shapes(alloc, collection, &frequency)?;
+    let frequency = if is_divided || is_joined {
+        find_frequency(alloc, collection)?
+    } else {
+        frequency
+    };
     let standing = Standing::new(alloc, collection, &frequency)?;
     let mut found = Letters::new(alloc);
     append_letters(collection, &standing, &frequency, &mut found)?;

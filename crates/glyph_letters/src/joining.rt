@@ -1,6 +1,6 @@
 //! Shapes that stand above each other on a line, as the dot and the stem of an i do, joined to one where that takes fewer bytes.
 
-use crate::frequency::{Frequency, count_uses, find_frequency};
+use crate::frequency::{Frequency, count_uses};
 use glyph_patterns::{Drawing, Form, Pattern, Patterns, short_number};
 use glyph_shapes::{Collection, PlacedShape};
 use indexmap::IndexMap;
@@ -37,22 +37,9 @@ struct Apart<'a> {
     uses: &'a [usize],
 }
 
-/// Joins shapes that stand above each other on a line, where that takes fewer bytes. `frequency` is what the shapes of each pattern take;
-/// gives what they take then.
+/// Joins shapes that stand above each other on a line, where that takes fewer bytes: two by two until there are none to join, or they have
+/// as many parts as they may. `frequency` is what the shapes of each pattern take. Says whether any were joined.
 pub fn join_shapes(
-    alloc: Global,
-    collection: &mut Collection,
-    frequency: Frequency,
-) -> Result<Frequency, AllocError> {
-    if join_in_rounds(alloc, collection, &frequency)? {
-        find_frequency(alloc, collection)
-    } else {
-        Ok(frequency)
-    }
-}
-
-/// Joins shapes two by two until there are none to join, or they have as many parts as they may. Says whether there were any.
-fn join_in_rounds(
     alloc: Global,
     collection: &mut Collection,
     frequency: &Frequency,

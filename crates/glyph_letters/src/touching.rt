@@ -1,6 +1,6 @@
 //! Letters that touch, as two t in turn may: their dots are one shape, which is divided into the two where that takes fewer bytes.
 
-use crate::frequency::{Frequency, count_uses, find_frequency};
+use crate::frequency::{Frequency, count_uses};
 use glyph_patterns::{Drawing, Pattern, Patterns, number_of_place, short_number};
 use glyph_shapes::{Collection, PlacedShape};
 use indexmap::IndexMap;
@@ -109,22 +109,22 @@ impl Room {
     }
 }
 
-/// Divides shapes of two letters that touch, where that takes fewer bytes. `frequency` is what the shapes of each pattern take; gives what
-/// they take then.
+/// Divides shapes of two letters that touch, where that takes fewer bytes. `frequency` is what the shapes of each pattern take. Says
+/// whether any were divided.
 pub fn divide_shapes(
     alloc: Global,
     collection: &mut Collection,
-    frequency: Frequency,
-) -> Result<Frequency, AllocError> {
-    let divisions = find_divisions(alloc, collection, &frequency)?;
+    frequency: &Frequency,
+) -> Result<bool, AllocError> {
+    let divisions = find_divisions(alloc, collection, frequency)?;
     if divisions.is_empty() {
-        return Ok(frequency);
+        return Ok(false);
     }
     for _ in 0..ROUNDS {
         divide_once(collection, &divisions)?;
     }
     collection.placed.sort_unstable();
-    find_frequency(alloc, collection)
+    Ok(true)
 }
 
 /// Divides the shapes of these patterns. The right parts come behind all others.
