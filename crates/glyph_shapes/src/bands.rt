@@ -1,12 +1,10 @@
 //! Rows of a page, eight at a time, and the tiles in them.
 
-use crate::dots::{is_again, row_at};
 use crate::edges::count_runs;
 use crate::page_rows::{PageRows, Unpainted};
 use crate::shapes::Extent;
 use crate::words::{EACH_BYTE, LEFTMOST, first_bytes, inked_bytes, padded_word};
 use glyph_patterns::{ROW_BYTES, short_number};
-use pcl_bitmap::trimmed_len;
 use std::alloc::{AllocError, Global};
 
 /// How many rows a tile has. It is as many dots wide: a byte.
@@ -98,11 +96,11 @@ impl<'a> Band<'a> {
         let bottom = top.saturating_add(u32::from(TILE_SIDE));
         self.top = short_number(top);
         self.tiles.clear();
-        if (top..bottom).all(|y| trimmed_len(row_at(self.page.bitmap, y)) == 0) {
+        if (top..bottom).all(|y| self.page.inked.row(y).is_empty()) {
             self.row.clear();
             return Ok(());
         }
-        if (top..bottom).all(|y| is_again(self.page.bitmap, y)) {
+        if (top..bottom).all(|y| self.page.inked.is_again(y)) {
             return Ok(());
         }
         let count = self.columns.len();
@@ -121,6 +119,7 @@ impl<'a> Band<'a> {
         self.rows.read(y)?;
         self.row.clear();
         append_shifted(&self.rows.row, self.columns, self.grid.right, &mut self.row)?;
+        self.row.resize(self.columns.len(), 0)?;
         for (dots, byte) in self.tiles.iter_mut().zip(self.row.iter()) {
             *dots = *dots << 8 | u64::from(*byte);
         }

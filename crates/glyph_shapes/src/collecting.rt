@@ -3,6 +3,7 @@
 use crate::bands::TILE_SIDE;
 use crate::baselines::{count_bottoms, guess_baseline};
 use crate::drawing::Drawings;
+use crate::inked_pages::InkedPage;
 use crate::page_rows::Unpainted;
 use crate::pictures::is_picture;
 use crate::rows::append_rows;
@@ -12,7 +13,7 @@ use crate::screening::screen_shapes;
 use crate::shapes::{Extent, Shapes, find_shapes};
 use crate::tiles::{Tile, find_tiles};
 use glyph_patterns::{Form, Pattern, Patterns, Row, number_of_place, short_number};
-use pcl_bitmap::{Bitmap, Page, PageSink};
+use pcl_bitmap::{Page, PageSink};
 use std::alloc::{AllocError, Global};
 use std::marker::Model;
 
@@ -146,25 +147,25 @@ impl Collection {
 
     /// Collects the tiles of a page, and unless the page is a picture its rules and the shapes of what is left of it.
     fn collect_page(&mut self, page: &Page) -> Result<(), AllocError> {
-        let bitmap = &page.bitmap;
-        if is_picture(bitmap, self.page_bytes) {
-            self.find_tiles(bitmap, &[])?;
+        let page = InkedPage::new(*self.placed.allocator(), &page.bitmap)?;
+        if is_picture(&page, self.page_bytes) {
+            self.find_tiles(&page, &[])?;
             return Ok(());
         }
-        let rules = self.find_rules(bitmap)?;
+        let rules = self.find_rules(&page)?;
         self.rules.add(&rules)?;
-        let tiles = self.find_tiles(bitmap, &rules)?;
+        let tiles = self.find_tiles(&page, &rules)?;
         self.collect(Unpainted {
-            bitmap,
+            inked: &page,
             rules: &rules,
             tiles: &tiles,
         })
     }
 
     /// Finds the rules of a page. Bars of a bar code are none where characters may be compressed.
-    fn find_rules(&self, bitmap: &Bitmap) -> Result<Vec<Rule>, AllocError> {
+    fn find_rules(&self, page: &InkedPage<'_>) -> Result<Vec<Rule>, AllocError> {
         let alloc = *self.placed.allocator();
-        let rules = find_rules(alloc, bitmap)?;
+        let rules = find_rules(alloc, page)?;
         match self.form {
             Form::Characters(kind) if kind.compresses => without_bars(alloc, &rules, kind.scale),
             _ => Ok(rules),
@@ -173,12 +174,16 @@ impl Collection {
 
     /// Finds the tiles of a page without these rules that are printed as characters, and collects them: none where letters are macros,
     /// which take more bytes each.
-    fn find_tiles(&mut self, bitmap: &Bitmap, rules: &[Rule]) -> Result<Vec<Tile>, AllocError> {
+    fn find_tiles(
+        &mut self,
+        page: &InkedPage<'_>,
+        rules: &[Rule],
+    ) -> Result<Vec<Tile>, AllocError> {
         let alloc = *self.placed.allocator();
         match self.form {
             Form::Characters(_) => {
                 let page = Unpainted {
-                    bitmap,
+                    inked: page,
                     rules,
                     tiles: &[],
                 };

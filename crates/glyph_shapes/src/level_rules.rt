@@ -1,9 +1,9 @@
 //! Rules that go from left to right.
 
-use crate::dots::{are_equal, black_dots, row_at};
+use crate::dots::black_dots;
 use crate::edges::append_edges;
+use crate::inked_pages::InkedPage;
 use crate::rules::{RULE_LIMIT, Rule, is_border, is_slender, least_length};
-use pcl_bitmap::Bitmap;
 use std::alloc::{AllocError, Global};
 use std::mem::swap;
 
@@ -35,26 +35,25 @@ impl LongRun {
 /// Appends the level rules of a page, as long as there is room.
 pub fn append_level_rules(
     alloc: Global,
-    bitmap: &Bitmap,
+    page: &InkedPage<'_>,
     rules: &mut Vec<Rule>,
 ) -> Result<(), AllocError> {
     let mut finder = LevelFinder {
-        bitmap,
+        page,
         open: Vec::new(alloc),
         found: Vec::new(alloc),
         edges: Vec::new(alloc),
     };
-    let height = bitmap.size().height(bitmap.dpi());
-    for y in 0..height {
-        finder.step(y, rules)?;
+    for stretch in page.stretches.iter() {
+        finder.step(stretch.top, rules)?;
     }
-    finder.close_all(height, rules)
+    finder.close_all(page.height(), rules)
 }
 
-/// Goes over the rows of a page from the topmost one on.
+/// Goes over the rows of a page from the topmost one on. A row like the one above ends no rule, and is passed over.
 #[derive(Drop)]
 struct LevelFinder<'a> {
-    bitmap: &'a Bitmap,
+    page: &'a InkedPage<'a>,
     /// The long runs of the row above, from left to right.
     open: Vec<LongRun>,
     /// Those of the row.
@@ -63,27 +62,24 @@ struct LevelFinder<'a> {
 }
 
 impl<'a> LevelFinder<'a> {
-    /// Goes on to row `y`, the next one, and appends the rules that end above it. A row like the one above ends none.
+    /// Goes on to row `y`, the next one that isn't the row above once more, and appends the rules that end above it.
     fn step(&mut self, y: u32, rules: &mut Vec<Rule>) -> Result<(), AllocError> {
-        let row = row_at(self.bitmap, y);
-        if are_equal(row, row_above(self.bitmap, y)) {
-            return Ok(());
-        }
-        self.find_runs(row, y)?;
+        self.find_runs(y)?;
         self.close_ended(y, rules)?;
         swap(&mut self.open, &mut self.found);
         Ok(())
     }
 
     /// Finds the long runs of row `y`. Those of the row above go on.
-    fn find_runs(&mut self, row: &[u8], y: u32) -> Result<(), AllocError> {
+    fn find_runs(&mut self, y: u32) -> Result<(), AllocError> {
+        let row = self.page.row(y);
         self.found.clear();
         if !has_long_run(row) {
             return Ok(());
         }
         self.edges.clear();
         append_edges(row, &mut self.edges)?;
-        let least = least_length(self.bitmap.dpi());
+        let least = least_length(self.page.dpi());
         for ends in self.edges.chunks(2) {
             if let [start, end] = *ends {
                 let run = LongRun {
@@ -104,7 +100,7 @@ impl<'a> LevelFinder<'a> {
         for run in self.open.iter() {
             let goes_on = self.found.iter().any(|found| found.is_like(*run));
             if !goes_on {
-                append_if_rule(self.bitmap, run.rule_above(y), rules)?;
+                append_if_rule(self.page, run.rule_above(y), rules)?;
             }
         }
         Ok(())
@@ -113,7 +109,7 @@ impl<'a> LevelFinder<'a> {
     /// Appends the rules of the last row, which ends above this one.
     fn close_all(&self, bottom: u32, rules: &mut Vec<Rule>) -> Result<(), AllocError> {
         for run in self.open.iter() {
-            append_if_rule(self.bitmap, run.rule_above(bottom), rules)?;
+            append_if_rule(self.page, run.rule_above(bottom), rules)?;
         }
         Ok(())
     }
@@ -133,20 +129,16 @@ fn has_long_run(row: &[u8]) -> bool {
     words.iter().any(|word| *word == [0xFF; 4])
 }
 
-/// The row above row `y` of a page: none above the topmost one.
-fn row_above(bitmap: &Bitmap, y: u32) -> &[u8] {
-    match y.checked_sub(1) {
-        Some(above) => row_at(bitmap, above),
-        None => &[],
-    }
-}
-
 /// Appends a rectangle of long runs, if it is a rule: thin, and mostly white above and below.
-fn append_if_rule(bitmap: &Bitmap, rule: Rule, rules: &mut Vec<Rule>) -> Result<(), AllocError> {
+fn append_if_rule(
+    page: &InkedPage<'_>,
+    rule: Rule,
+    rules: &mut Vec<Rule>,
+) -> Result<(), AllocError> {
     let end = rule.left.saturating_add(rule.width);
     let bottom = rule.bottom();
-    let above = black_dots(row_above(bitmap, rule.top), rule.left, end);
-    let below = black_dots(row_at(bitmap, bottom), rule.left, end);
+    let above = black_dots(page.row_above(rule.top), rule.left, end);
+    let below = black_dots(page.row(bottom), rule.left, end);
     if rules.len() < RULE_LIMIT
         && is_slender(rule.width, rule.height)
         && is_border(above, rule.width)

@@ -10,6 +10,7 @@ mod collecting;
 mod dots;
 mod drawing;
 mod edges;
+mod inked_pages;
 mod level_rules;
 mod page_rows;
 mod pictures;

@@ -1,21 +1,22 @@
-//! The rows of a page without its rules, and without the tiles of its pictures.
+//! The rows of a page without its rules, and without the tiles of its pictures. White ones are empty.
 
 use crate::bands::TILE_SIDE;
-use crate::dots::{are_equal, ink_dots, is_again, row_at};
+use crate::dots::{are_equal, ink_dots};
+use crate::inked_pages::InkedPage;
 use crate::row_rules::RowRules;
 use crate::rules::Rule;
 use crate::shapes::Extent;
 use crate::tiles::Tile;
 use glyph_patterns::short_number;
 use pcl_base::Dpi;
-use pcl_bitmap::{Bitmap, Ink};
+use pcl_bitmap::{Ink, trimmed_len};
 use std::alloc::{AllocError, Global};
 use std::mem::swap;
 
 /// A page without the dots of some rules and tiles.
 #[derive(Clone, Copy)]
 pub struct Unpainted<'a> {
-    pub bitmap: &'a Bitmap,
+    pub inked: &'a InkedPage<'a>,
     pub rules: &'a [Rule],
     /// From the topmost ones down.
     pub tiles: &'a [Tile],
@@ -24,7 +25,7 @@ pub struct Unpainted<'a> {
 impl<'a> Unpainted<'a> {
     /// How many rows it has.
     pub fn height(self) -> u32 {
-        self.bitmap.size().height(self.bitmap.dpi())
+        self.inked.height()
     }
 
     /// Its box.
@@ -32,21 +33,21 @@ impl<'a> Unpainted<'a> {
         Extent {
             left: 0,
             top: 0,
-            right: short_number(self.bitmap.size().width(self.bitmap.dpi())),
+            right: short_number(self.inked.width()),
             bottom: short_number(self.height()),
         }
     }
 
     /// Its resolution.
     pub fn dpi(self) -> Dpi {
-        self.bitmap.dpi()
+        self.inked.dpi()
     }
 }
 
 /// Reads the rows of a page without the dots of its rules and tiles, from the topmost one on. Two rows are held.
 #[derive(Drop)]
 pub struct PageRows<'a> {
-    bitmap: &'a Bitmap,
+    page: &'a InkedPage<'a>,
     rules: RowRules<'a>,
     /// The tiles that begin below the row that was read last.
     tiles: &'a [Tile],
@@ -55,9 +56,9 @@ pub struct PageRows<'a> {
     tile_end: u32,
     /// The row below the one that was read last.
     next: u32,
-    /// The row that was read last.
+    /// The row that was read last: empty where it is white.
     pub row: Vec<u8>,
-    /// The row above it: empty above the topmost one.
+    /// The row above it: empty where that is white, and above the topmost one.
     pub above: Vec<u8>,
 }
 
@@ -65,7 +66,7 @@ impl<'a> PageRows<'a> {
     /// Above the topmost row.
     pub fn new(alloc: Global, page: Unpainted<'a>) -> PageRows<'a> {
         PageRows {
-            bitmap: page.bitmap,
+            page: page.inked,
             rules: RowRules::new(alloc, page.rules),
             tiles: page.tiles,
             tile_dots: Vec::new(alloc),
@@ -86,11 +87,15 @@ impl<'a> PageRows<'a> {
         if is_above_again {
             return self.row.extend_from_slice(&self.above);
         }
-        self.row.extend_from_slice(row_at(self.bitmap, y))?;
+        self.row.extend_from_slice(self.page.row(y))?;
         for rule in self.rules.in_row.iter() {
             ink_dots(&mut self.row, rule.left, rule.width, Ink::White);
         }
-        self.whiten_tiles(y)
+        self.whiten_tiles(y)?;
+        if trimmed_len(&self.row) == 0 {
+            self.row.clear();
+        }
+        Ok(())
     }
 
     /// Whether row `y`, which the same rules have dots in, is the row above once more, where some do and no tile has.
@@ -98,7 +103,7 @@ impl<'a> PageRows<'a> {
         !self.rules.in_row.is_empty()
             && !self.has_tiles(y)
             && y == self.next
-            && is_again(self.bitmap, y)
+            && self.page.is_again(y)
     }
 
     /// Whether tiles may have dots in row `y`, or in the row above.
@@ -134,7 +139,8 @@ impl<'a> PageRows<'a> {
         }
         self.tile_end = u32::from(first.top.saturating_add(TILE_SIDE));
         self.tile_dots.clear();
-        self.tile_dots.resize(self.row.len(), 0)?;
+        let row_bytes = self.page.width().div_ceil(8) as usize;
+        self.tile_dots.resize(row_bytes, 0)?;
         let mut count: usize = 0;
         for tile in tiles {
             if tile.top > first.top {

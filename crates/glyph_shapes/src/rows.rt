@@ -22,7 +22,7 @@ pub fn append_rows(
     Ok(())
 }
 
-/// About how many bytes the data of a row take. The row above is empty above the topmost one.
+/// About how many bytes the data of a row take. A white one may be empty, and so may the row above, above the topmost one too.
 pub fn row_bytes(above: &[u8], row: &[u8]) -> u32 {
     if are_equal(row, above) {
         0
@@ -33,6 +33,10 @@ pub fn row_bytes(above: &[u8], row: &[u8]) -> u32 {
 
 /// The same of a row that isn't the one above.
 fn data_bytes(above: &[u8], row: &[u8]) -> u32 {
+    if row.is_empty() {
+        // One stretch of white bytes.
+        return 1;
+    }
     let white = [0; ROW_LIMIT];
     let above = if above.is_empty() {
         white.get(..row.len()).unwrap_or(&[])

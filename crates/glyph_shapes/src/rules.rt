@@ -6,6 +6,7 @@
 ghost use Rattle.std.specs.Prelude.{◌≡◌};
 ghost use Rattle.pcl_bitmap.specs.Bitmap.{IsPicture};
 
+use crate::inked_pages::InkedPage;
 use crate::level_rules::append_level_rules;
 use crate::upright_rules::append_upright_rules;
 use glyph_patterns::rows_len;
@@ -103,10 +104,10 @@ impl Rules {
 }
 
 /// The rules of a page, in the order of printing.
-pub fn find_rules(alloc: Global, bitmap: &Bitmap) -> Result<Vec<Rule>, AllocError> {
+pub fn find_rules(alloc: Global, page: &InkedPage<'_>) -> Result<Vec<Rule>, AllocError> {
     let mut rules = Vec::new(alloc);
-    append_level_rules(alloc, bitmap, &mut rules)?;
-    append_upright_rules(alloc, bitmap, &mut rules)?;
+    append_level_rules(alloc, page, &mut rules)?;
+    append_upright_rules(alloc, page, &mut rules)?;
     rules.sort_unstable();
     Ok(rules)
 }

@@ -3,7 +3,6 @@
 use crate::edges::{append_edges, count_runs};
 use crate::page_rows::{PageRows, Unpainted};
 use pcl_base::Dpi;
-use pcl_bitmap::trimmed_len;
 use std::alloc::{AllocError, Global};
 use std::mem::swap;
 
@@ -184,7 +183,7 @@ impl<'a> RowWalk<'a> {
 
 /// Whether no runs of a row are looked for.
 fn is_passed_over(row: &[u8]) -> bool {
-    trimmed_len(row) == 0 || is_crowded(row)
+    row.is_empty() || is_crowded(row)
 }
 
 /// Whether a row has more runs than one for eight dots, as no row of text or of a printed picture has: a picture's dots are hundreds there.

@@ -12,10 +12,9 @@ const LEAST_WIDTH: usize = 16;
 /// A picture has this many runs of black dots for each tile: text, whose letters take fewer bytes yet, has fewer, or tiles that are rare.
 const LEAST_RUNS: usize = 5;
 
-/// The stretches of the pictures of a page, from the topmost rows down, and how often their tiles are there.
+/// The stretches of the pictures of a page, from the topmost rows down.
 #[derive(Drop)]
 pub struct SeenPictures {
-    pub counts: TileCounts,
     /// The tiles of the stretches, white ones too, those of each after the others.
     pub tiles: Vec<u64>,
     pub stretches: Vec<SeenStretch>,
@@ -43,7 +42,6 @@ impl SeenPictures {
         limit: usize,
     ) -> Result<SeenPictures, AllocError> {
         let mut pictures = SeenPictures {
-            counts: TileCounts::new(alloc)?,
             tiles: Vec::new(alloc),
             stretches: Vec::new(alloc),
         };
@@ -55,6 +53,17 @@ impl SeenPictures {
             }
         }
         Ok(pictures)
+    }
+
+    /// How often the tiles of the stretches are there.
+    pub fn count_tiles(&self, alloc: Global) -> Result<TileCounts, AllocError> {
+        let mut counts = TileCounts::new(alloc)?;
+        let mut start: usize = 0;
+        for stretch in self.stretches.iter() {
+            counts.add(self.tiles.get(start..stretch.end).unwrap_or(&[]));
+            start = stretch.end;
+        }
+        Ok(counts)
     }
 
     /// Appends the stretches of a band that are of pictures.
@@ -75,7 +84,6 @@ impl SeenPictures {
     /// Appends a stretch of a band.
     fn append_stretch(&mut self, band: &Band<'_>, stretch: Stretch) -> Result<(), AllocError> {
         let tiles = stretch.of(&band.tiles);
-        self.counts.add(tiles);
         self.tiles.extend_from_slice(tiles)?;
         self.stretches.push(SeenStretch {
             end: self.tiles.len(),

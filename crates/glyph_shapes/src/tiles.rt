@@ -135,11 +135,15 @@ impl Pictures {
         let seen = SeenPictures::of_page(alloc, page, grid, limit.saturating_mul(SEEN_TILES))?;
         self.tiles.clear();
         self.stretches.clear();
+        if seen.stretches.is_empty() {
+            return Ok(());
+        }
+        let counts = seen.count_tiles(alloc)?;
         let mut start: usize = 0;
         for stretch in seen.stretches.iter() {
             if self.tiles.len() < limit {
                 let tiles = seen.tiles.get(start..stretch.end).unwrap_or(&[]);
-                self.append_stretch(&seen.counts, *stretch, tiles)?;
+                self.append_stretch(&counts, *stretch, tiles)?;
             }
             start = stretch.end;
         }

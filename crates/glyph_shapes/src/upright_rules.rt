@@ -1,32 +1,32 @@
 //! Rules that go from top to bottom.
 
-use crate::dots::{black_dots, is_again, row_at};
+use crate::dots::black_dots;
 use crate::edges::append_edges;
+use crate::inked_pages::InkedPage;
 use crate::rules::{RULE_LIMIT, Rule, is_border, is_slender, least_length};
-use pcl_bitmap::{Bitmap, trimmed_len};
+use pcl_bitmap::trimmed_len;
 use std::alloc::{AllocError, Global};
 use std::mem::swap;
 
 /// How many rows a stack has whose common columns are looked at: each rule goes through all rows of one at least.
-fn stack_rows(bitmap: &Bitmap) -> u32 {
-    least_length(bitmap.dpi()).div_ceil(2)
+fn stack_rows(page: &InkedPage<'_>) -> u32 {
+    least_length(page.dpi()).div_ceil(2)
 }
 
 /// Appends the upright rules of a page, as long as there is room.
 pub fn append_upright_rules(
     alloc: Global,
-    bitmap: &Bitmap,
+    page: &InkedPage<'_>,
     rules: &mut Vec<Rule>,
 ) -> Result<(), AllocError> {
-    let page = PageStretches::of(alloc, bitmap)?;
     let mut finder = UprightFinder {
-        page: &page,
+        page,
         common: Vec::new(alloc),
         edges: Vec::new(alloc),
         above: Vec::new(alloc),
     };
-    let rows = stack_rows(bitmap).max(1);
-    for stack in 0..bitmap.size().height(bitmap.dpi()) / rows {
+    let rows = stack_rows(page).max(1);
+    for stack in 0..page.height() / rows {
         finder.step(stack.saturating_mul(rows), rows, rules)?;
     }
     Ok(())
@@ -35,7 +35,7 @@ pub fn append_upright_rules(
 /// Goes over the rows of a page in stacks of this many.
 #[derive(Drop)]
 struct UprightFinder<'a> {
-    page: &'a PageStretches<'a>,
+    page: &'a InkedPage<'a>,
     /// The dots that are black in all rows of the stack.
     common: Vec<u8>,
     /// Where their ink changes, in this stack and in the one above.
@@ -73,13 +73,13 @@ impl<'a> UprightFinder<'a> {
     /// Finds the dots that are black in all of this many rows from `top` on, and says whether there are any.
     fn find_common(&mut self, top: u32, rows: u32) -> Result<bool, AllocError> {
         self.common.clear();
-        self.common
-            .extend_from_slice(row_at(self.page.bitmap, top))?;
+        self.common.extend_from_slice(self.page.row(top))?;
         for y in top..top.saturating_add(rows) {
-            for (common, byte) in self.common.iter_mut().zip(row_at(self.page.bitmap, y)) {
+            let row = self.page.row(y);
+            for (common, byte) in self.common.iter_mut().zip(row) {
                 *common &= *byte;
             }
-            if trimmed_len(&self.common) == 0 {
+            if row.is_empty() || trimmed_len(&self.common) == 0 {
                 return Ok(false);
             }
         }
@@ -105,7 +105,7 @@ fn is_covered(rectangle: Rule, rules: &[Rule]) -> bool {
 
 /// Appends the rule through a stack of rows whose dots are black, if it is one and there is room.
 fn append_rule_through(
-    page: &PageStretches<'_>,
+    page: &InkedPage<'_>,
     stack: Rule,
     rules: &mut Vec<Rule>,
 ) -> Result<(), AllocError> {
@@ -120,7 +120,7 @@ fn append_rule_through(
 
 /// The rule through a stack of rows whose dots are black: it goes up and down as far as they are. None where that is no rule, or where what
 /// touches it is in these rows.
-fn rule_through(page: &PageStretches<'_>, stack: Rule) -> Option<Rule> {
+fn rule_through(page: &InkedPage<'_>, stack: Rule) -> Option<Rule> {
     if !is_slender(page.height(), stack.width) || !is_bordered(page, stack) {
         return None;
     }
@@ -136,11 +136,11 @@ fn rule_through(page: &PageStretches<'_>, stack: Rule) -> Option<Rule> {
 }
 
 /// How far up the dots of a rectangle are black.
-fn top_of(page: &PageStretches<'_>, rectangle: Rule) -> u32 {
+fn top_of(page: &InkedPage<'_>, rectangle: Rule) -> u32 {
     let mut top = rectangle.top;
     for _ in 0..rectangle.top {
         match top.checked_sub(1) {
-            Some(above) if is_black(page.bitmap, above, rectangle) => {
+            Some(above) if is_black(page, above, rectangle) => {
                 top = page.start_of(above);
             }
             _ => break,
@@ -150,10 +150,10 @@ fn top_of(page: &PageStretches<'_>, rectangle: Rule) -> u32 {
 }
 
 /// The row down to which the dots of a rectangle are black.
-fn bottom_of(page: &PageStretches<'_>, rectangle: Rule) -> u32 {
+fn bottom_of(page: &InkedPage<'_>, rectangle: Rule) -> u32 {
     let mut bottom = rectangle.bottom();
     for _ in bottom..page.height() {
-        if bottom >= page.height() || !is_black(page.bitmap, bottom, rectangle) {
+        if bottom >= page.height() || !is_black(page, bottom, rectangle) {
             break;
         }
         bottom = page.end_of(bottom);
@@ -162,20 +162,20 @@ fn bottom_of(page: &PageStretches<'_>, rectangle: Rule) -> u32 {
 }
 
 /// Whether the dots of a rectangle's columns are black in row `y`.
-fn is_black(bitmap: &Bitmap, y: u32, rectangle: Rule) -> bool {
+fn is_black(page: &InkedPage<'_>, y: u32, rectangle: Rule) -> bool {
     let end = rectangle.left.saturating_add(rectangle.width);
-    black_dots(row_at(bitmap, y), rectangle.left, end) == rectangle.width
+    black_dots(page.row(y), rectangle.left, end) == rectangle.width
 }
 
 /// Whether a black rectangle is a rule: long and thin, and mostly white on its left and right.
-fn is_upright_rule(page: &PageStretches<'_>, rule: Rule) -> bool {
-    rule.height >= least_length(page.bitmap.dpi())
+fn is_upright_rule(page: &InkedPage<'_>, rule: Rule) -> bool {
+    rule.height >= least_length(page.dpi())
         && is_slender(rule.height, rule.width)
         && is_bordered(page, rule)
 }
 
 /// Whether a rectangle is mostly white on its left and right.
-fn is_bordered(page: &PageStretches<'_>, rectangle: Rule) -> bool {
+fn is_bordered(page: &InkedPage<'_>, rectangle: Rule) -> bool {
     let end = rectangle.left.saturating_add(rectangle.width);
     let left = match rectangle.left.checked_sub(1) {
         Some(beside) => black_in_column(page, beside, rectangle),
@@ -186,7 +186,7 @@ fn is_bordered(page: &PageStretches<'_>, rectangle: Rule) -> bool {
 }
 
 /// How many dots of column `x` are black in the rows of a rectangle.
-fn black_in_column(page: &PageStretches<'_>, x: u32, rectangle: Rule) -> u32 {
+fn black_in_column(page: &InkedPage<'_>, x: u32, rectangle: Rule) -> u32 {
     let mut count: u32 = 0;
     let mut y = rectangle.top;
     for _ in 0..rectangle.height {
@@ -194,61 +194,9 @@ fn black_in_column(page: &PageStretches<'_>, x: u32, rectangle: Rule) -> u32 {
             break;
         }
         let end = page.end_of(y).min(rectangle.bottom());
-        let black = black_dots(row_at(page.bitmap, y), x, x.saturating_add(1));
+        let black = black_dots(page.row(y), x, x.saturating_add(1));
         count = count.saturating_add(black.saturating_mul(end.saturating_sub(y)));
         y = end;
     }
     count
-}
-
-/// A page, and its stretches of rows that are the same.
-#[derive(Drop)]
-struct PageStretches<'a> {
-    bitmap: &'a Bitmap,
-    /// For each row, the first of its stretch.
-    starts: Vec<u32>,
-    /// For each row, the one below its stretch.
-    ends: Vec<u32>,
-}
-
-impl<'a> PageStretches<'a> {
-    /// Those of a page.
-    fn of(alloc: Global, bitmap: &'a Bitmap) -> Result<PageStretches<'a>, AllocError> {
-        let mut page = PageStretches {
-            bitmap,
-            starts: Vec::new(alloc),
-            ends: Vec::new(alloc),
-        };
-        let mut start: u32 = 0;
-        for y in 0..page.height() {
-            if !is_again(bitmap, y) {
-                page.end_stretch(y)?;
-                start = y;
-            }
-            page.starts.push(start)?;
-        }
-        page.end_stretch(page.height())?;
-        Ok(page)
-    }
-
-    /// Ends the stretch above row `y`.
-    fn end_stretch(&mut self, y: u32) -> Result<(), AllocError> {
-        self.ends.resize(y as usize, y)
-    }
-
-    /// How many rows the page has.
-    fn height(&self) -> u32 {
-        self.bitmap.size().height(self.bitmap.dpi())
-    }
-
-    /// The first row of the stretch of row `y`.
-    fn start_of(&self, y: u32) -> u32 {
-        self.starts.get(y as usize).copied().unwrap_or(y)
-    }
-
-    /// The row below the stretch of row `y`.
-    fn end_of(&self, y: u32) -> u32 {
-        let below = y.saturating_add(1);
-        self.ends.get(y as usize).copied().unwrap_or(below)
-    }
 }
