@@ -101,7 +101,7 @@ fn rows_between(before: Option<&Letter>, letter: &Letter) -> Option<u32> {
     if before.page != letter.page || before.baseline == letter.baseline {
         return None;
     }
-    letter.baseline.checked_sub(before.baseline)
+    u32::from(letter.baseline).checked_sub(u32::from(before.baseline))
 }
 
 /// Counts a number.

@@ -208,7 +208,8 @@ fn append_letter(
     let pen = append_move(layout, letter, place, pen, out)?;
     let pen = select_font(code.font, pen, out)?;
     out.push(code.code)?;
-    Ok(pen.at(place.saturating_add_unsigned(advance), letter.baseline))
+    let x = place.saturating_add_unsigned(advance);
+    Ok(pen.at(x, u32::from(letter.baseline)))
 }
 
 /// Appends what moves the cursor to the place of a letter.
@@ -219,7 +220,7 @@ fn append_move(
     pen: Pen,
     out: &mut Vec<u8>,
 ) -> Result<Pen, AllocError> {
-    if pen.line == Some(letter.baseline) {
+    if pen.line == Some(u32::from(letter.baseline)) {
         append_rest(layout, place.saturating_sub(pen.x), pen, out)
     } else {
         append_line_start(layout, letter, place, pen, out)
@@ -277,7 +278,8 @@ fn append_return(
     pen: Pen,
     out: &mut Vec<u8>,
 ) -> Result<(), AllocError> {
-    let feeds = pen.line.and_then(|line| feed.count(line, letter.baseline));
+    let row = u32::from(letter.baseline);
+    let feeds = pen.line.and_then(|line| feed.count(line, row));
     match feeds {
         Some(count) => {
             for _ in 0..count {
@@ -310,15 +312,16 @@ fn append_row(
     pen: Pen,
     out: &mut Vec<u8>,
 ) -> Result<(), AllocError> {
+    let row = u32::from(letter.baseline);
     let below = pen
         .line
-        .and_then(|line| letter.baseline.checked_sub(line))
+        .and_then(|line| row.checked_sub(line))
         .unwrap_or(u32::MAX);
     out.extend_from_slice(label)?;
-    if digit_count(below).saturating_add(1) < digit_count(letter.baseline) {
+    if digit_count(below).saturating_add(1) < digit_count(row) {
         append_labelled(b"+", below, out)?;
     } else {
-        append_labelled(b"", letter.baseline, out)?;
+        append_labelled(b"", row, out)?;
     }
     out.extend_from_slice(b"Y")
 }

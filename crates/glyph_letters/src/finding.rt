@@ -4,7 +4,7 @@ use crate::frequency::{Frequency, find_frequency};
 use crate::joining::join_shapes;
 use crate::standing::{LineCount, Standing};
 use crate::touching::divide_shapes;
-use glyph_patterns::{Letter, LetterGlyph, Letters, number_of_place};
+use glyph_patterns::{Letter, LetterGlyph, Letters, number_of_place, short_number};
 use glyph_shapes::{Collection, PlacedShape};
 use std::alloc::{AllocError, Global};
 
@@ -94,9 +94,9 @@ fn append_letter(
 /// The letter that a shape becomes.
 fn letter_of(shape: &PlacedShape, baseline: u32, glyph: u32) -> Letter {
     Letter {
-        page: u32::from(shape.page),
-        baseline,
-        x: u32::from(shape.x),
+        page: shape.page,
+        baseline: short_number(baseline),
+        x: shape.x,
         glyph,
     }
 }

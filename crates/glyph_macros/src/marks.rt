@@ -101,8 +101,8 @@ impl Script {
                 }
             }
             _ => self.lines.push(Line {
-                page: letter.page,
-                row: letter.baseline,
+                page: u32::from(letter.page),
+                row: u32::from(letter.baseline),
                 start: place,
                 end: self.marks.len(),
             })?,
@@ -122,7 +122,7 @@ struct Cursor {
 impl Cursor {
     /// Whether it is on the line of a letter.
     fn is_on_line_of(&self, letter: &Letter) -> bool {
-        self.page == letter.page && self.row == letter.baseline
+        self.page == u32::from(letter.page) && self.row == u32::from(letter.baseline)
     }
 }
 
@@ -136,7 +136,7 @@ pub fn find_script(
     let mut script = Script::new(alloc);
     let mut cursor: Option<Cursor> = None;
     for letter in letters {
-        let width = widths.get(letter.page as usize).copied().unwrap_or(0);
+        let width = widths.get(usize::from(letter.page)).copied().unwrap_or(0);
         let place = metrics.place_of(letter);
         script.append_letter(letter, place, cursor)?;
         cursor = Some(after(letter, metrics, place, width));
@@ -149,8 +149,8 @@ fn after(letter: &Letter, metrics: &Metrics, place: i32, width: u32) -> Cursor {
     let edge = i32::try_from(width).unwrap_or(0);
     let x = place.saturating_add(metrics.advance(letter.glyph));
     Cursor {
-        page: letter.page,
-        row: letter.baseline,
+        page: u32::from(letter.page),
+        row: u32::from(letter.baseline),
         x: x.min(edge).max(0),
     }
 }

@@ -24,6 +24,9 @@ const AGAIN_BYTES: u32 = 2;
 /// What the macro of a phrase takes around its marks.
 const DEFINITION_BYTES: u32 = 19;
 
+/// After this many different pairs no further ones are counted, each of which takes memory: texts have fewer.
+const COUNTED_PAIRS: usize = 65_536;
+
 /// How many phrases there are, at most.
 const PHRASE_LIMIT: usize = 10_000;
 
@@ -349,10 +352,12 @@ fn count_pairs_on_line(marks: &[Mark], counts: &mut IndexMap<Pair, u32>) -> Resu
     Ok(())
 }
 
-/// Counts what is saved where a pair is joined.
+/// Counts what is saved where a pair is joined, if it is there already or there is room.
 fn count_pair(pair: Pair, counts: &mut IndexMap<Pair, u32>) -> Result<(), AllocError> {
-    let saved = counts.entry(pair)?.or_insert(0u32);
-    *saved = saved.saturating_add(pair.saved());
+    if counts.len() < COUNTED_PAIRS || counts.contains_key(&pair) {
+        let saved = counts.entry(pair)?.or_insert(0u32);
+        *saved = saved.saturating_add(pair.saved());
+    }
     Ok(())
 }
 

@@ -345,8 +345,8 @@ fn reach_of(taken: Taken<'_>) -> u32 {
         if let Some(pattern) = taken.found.pattern_of(taken.patterns, letter.glyph) {
             let first = taken.found.first_row_of(letter);
             let end = first.saturating_add(pattern.height);
-            let far = letter.baseline.abs_diff(first);
-            reach = reach.max(far).max(letter.baseline.abs_diff(end));
+            let row = u32::from(letter.baseline);
+            reach = reach.max(row.abs_diff(first)).max(row.abs_diff(end));
         }
     }
     reach
@@ -362,7 +362,7 @@ fn whiten(bytes: &mut [u8], row_bytes: usize, top: u32, taken: Taken<'_>, reach:
             if let Some(pattern) = taken.found.pattern_of(taken.patterns, letter.glyph) {
                 let rows = pattern.rows_from(top.saturating_sub(first));
                 let corner = Dot {
-                    x: letter.x,
+                    x: u32::from(letter.x),
                     y: first.saturating_sub(top),
                 };
                 stamp(bytes, row_bytes, corner, rows, StampInk::White);
@@ -373,9 +373,11 @@ fn whiten(bytes: &mut [u8], row_bytes: usize, top: u32, taken: Taken<'_>, reach:
 
 /// Those of the letters of a page, from the topmost line down, whose lines are within reach of these rows: of others no dot is in them.
 fn letters_near(letters: &[Letter], top: u32, end: u32, reach: u32) -> &[Letter] {
-    let start = letters.partition_point(|letter| letter.baseline.saturating_add(reach) < top);
+    let first = top.saturating_sub(reach);
+    let last = end.saturating_add(reach);
+    let start = letters.partition_point(|letter| u32::from(letter.baseline) < first);
     let letters = letters.get(start..).unwrap_or(&[]);
-    let count = letters.partition_point(|letter| letter.baseline <= end.saturating_add(reach));
+    let count = letters.partition_point(|letter| u32::from(letter.baseline) <= last);
     letters.get(..count).unwrap_or(&[])
 }
 

@@ -14,15 +14,16 @@ pub struct LetterGlyph {
     pub top: i32,
 }
 
-/// A shape that is printed as a letter. Their order is that of printing: by pages, by lines, and from left to right.
+/// A shape that is printed as a letter. Their order is that of printing: by pages, by lines, and from left to right. A job may have very
+/// many.
 #[derive(Clone, Copy, PartialEq, Eq, PartialOrd, Ord)]
 pub struct Letter {
     /// The number of the page, from 0.
-    pub page: u32,
+    pub page: u16,
     /// The dot row of the cursor.
-    pub baseline: u32,
+    pub baseline: u16,
     /// The dot of the cursor, and of the left edge.
-    pub x: u32,
+    pub x: u16,
     /// The number of its glyph.
     pub glyph: u32,
 }
@@ -31,7 +32,7 @@ impl Letter {
     /// How far right of this letter the next one stands; none where it starts another line.
     pub fn gap_to(&self, next: &Letter) -> Option<u32> {
         if self.page == next.page && self.baseline == next.baseline {
-            next.x.checked_sub(self.x)
+            u32::from(next.x).checked_sub(u32::from(self.x))
         } else {
             None
         }
@@ -65,15 +66,13 @@ impl Letters {
 
     /// The topmost dot row of a letter.
     pub fn first_row_of(&self, letter: &Letter) -> u32 {
-        letter
-            .baseline
-            .saturating_sub_signed(self.top_of(letter.glyph))
+        u32::from(letter.baseline).saturating_sub_signed(self.top_of(letter.glyph))
     }
 
     /// The letters of a page, of those from this place on, which are of this page and later ones.
     pub fn of_page(&self, page: u32, from: usize) -> &[Letter] {
         let letters = self.letters.get(from..).unwrap_or(&[]);
-        let count = letters.partition_point(|letter| letter.page <= page);
+        let count = letters.partition_point(|letter| u32::from(letter.page) <= page);
         letters.get(..count).unwrap_or(&[])
     }
 

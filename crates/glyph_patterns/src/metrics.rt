@@ -42,7 +42,7 @@ impl Metrics {
 
     /// The dot of the cursor where it prints a letter.
     pub fn place_of(&self, letter: &Letter) -> i32 {
-        let x = i32::try_from(letter.x).unwrap_or(0);
+        let x = i32::from(letter.x);
         x.saturating_sub(self.bearing(letter.glyph))
     }
 }
@@ -444,9 +444,9 @@ fn find_room(
     };
     let mut rooms = vec![in alloc; all; glyphs]?;
     for letter in letters {
-        let width = widths.get(letter.page as usize).copied().unwrap_or(0);
+        let width = widths.get(usize::from(letter.page)).copied().unwrap_or(0);
         let width = i32::try_from(width).unwrap_or(0);
-        let x = i32::try_from(letter.x).unwrap_or(0);
+        let x = i32::from(letter.x);
         if let Some(room) = rooms.get_mut(letter.glyph as usize) {
             room.most = room.most.min(x);
             room.least = room.least.max(x.saturating_add(1).saturating_sub(width));
