@@ -144,11 +144,8 @@ impl<'a, 'b, P: ShrinkWatcher> LetterWriter<'a, 'b, P> {
     /// With how many bytes more what is written is too long: none as long as the stretch is not without letters.
     fn room(&self) -> Option<usize> {
         let limit = self.limit.saturating_add(REPEATED_BYTES);
-        if self.place.saturating_add(self.whole) < limit {
-            None
-        } else {
-            Some(limit.saturating_sub(self.out.len()))
-        }
+        let is_too_long = self.place.saturating_add(self.whole) >= limit;
+        is_too_long.then_some(limit.saturating_sub(self.out.len()))
     }
 
     /// Gives up, since what is written would be too long: nothing is left of it.
@@ -194,13 +191,14 @@ impl<'a, 'b, P: ShrinkWatcher> LetterWriter<'a, 'b, P> {
         Ok(())
     }
 
-    /// Ends the stretch, which stays as it is written where that is shorter than without letters.
+    /// Ends the stretch, which stays as it is written where that is shorter than without letters, or where it is too long without.
     fn end_stretch(&mut self) -> Result<(), AllocError> {
         self.repeats.end(&mut self.out)?;
         if self.spans_reset {
             self.lettering.append_deletion(&mut self.out)?;
         }
-        if self.out.len().saturating_sub(self.place) < self.plain {
+        let is_shorter = self.out.len().saturating_sub(self.place) < self.plain;
+        if is_shorter || self.room().is_some() {
             self.has_letters = true;
         } else {
             self.take_plain_if_shorter()?;
