@@ -21,8 +21,8 @@ pub struct KeptBitmap {
     pub dpi: Dpi,
     /// The data of all rows, one after the other.
     pub data: Vec<u8>,
-    /// Where the data of each row begins, and where that of the last one ends.
-    pub starts: Vec<usize>,
+    /// Where the data of each row begins, and where that of the last one ends. Most rows of most pages have none: so these count.
+    pub starts: Vec<u32>,
     ghost count: { length starts.items ≡ page_height size dpi + 1 },
     ghost pieces: { (y : ℕ) → y < page_height size dpi → IsPiece data.items starts.items y },
 }
@@ -31,7 +31,7 @@ impl KeptBitmap {
     ghost use Rattle.pcl_same.specs.Kept.{data_of, KeepsPicture};
     ghost use Rattle.pcl_same.specs.inner.Rows.{IsFirstDotOf};
 
-    /// Keeps the dots of a bitmap. It fails where memory runs out.
+    /// Keeps the dots of a bitmap. It fails where memory runs out, or a place has more than 32 bits.
     pub fn new(alloc: Global, bitmap: &Bitmap) -> Result<KeptBitmap, AllocError>
         ensures { IfOk result (KeepsPicture bitmap.now) }
     {
@@ -44,7 +44,10 @@ impl KeptBitmap {
         for y in 0..size.height(dpi) {
             let row = bitmap.row(y);
             append_row(row, &above[..row.len()], &mut data)?;
-            starts.push(data.len())?;
+            let Ok(end) = u32::try_from(data.len()) else {
+                return Err(AllocError);
+            };
+            starts.push(end)?;
             above[..row.len()].copy_from_slice(row);
         }
         Ok(KeptBitmap {
@@ -57,7 +60,7 @@ impl KeptBitmap {
 
     /// How many bytes it takes.
     pub fn bytes(&self) -> usize {
-        let starts = self.starts.len().saturating_mul(size_of::<usize>());
+        let starts = self.starts.len().saturating_mul(size_of::<u32>());
         self.data.len().saturating_add(starts)
     }
 
@@ -67,7 +70,7 @@ impl KeptBitmap {
         ensures { result.now ≡ data_of self.now y }
     {
         let y = y as usize;
-        &self.data[self.starts[y]..self.starts[y + 1]]
+        &self.data[self.starts[y] as usize..self.starts[y + 1] as usize]
     }
 
     /// The place `(x, y)` of the first dot, in row order, at which another bitmap of the same size and resolution

@@ -15,7 +15,7 @@ loop-y-preserved c =
     let bitmap = c.args.bitmap.now in
     let y : ℕ = c.loop-y.y in
     let written = c.in_ok-append_row.ensures in
-    let end : c.len.result ≡ length c.append_row.new.out.items = omega (arith, c.len.ensures) in
+    let end : c.in-Ok.end ≡ length c.append_row.new.out.items = omega (arith, c.in-Ok.ensures, c.len.ensures) in
     record {
       keeps = more_kept written.bytes c.loop-y.invariant.keeps written.joined
           (c.in_ok-push-2.ensures.items ∙ ap (λ (n : ℕ). c.loop-y.starts.items ++ n ∷ []) end)
