@@ -9,7 +9,7 @@ use pcl_explain::kind_named;
 use pcl_page::Readers;
 use pcl_request::{
     Batch, Beside, Certificate, CheckedFiles, ComparedFiles, Destination, Layout, Profiles,
-    Request, Resolution, Rewriting, Run, Source, Target, Task, Work, resolution_named,
+    Request, Resolution, Rewriting, Run, Shrinking, Source, Target, Task, Work, resolution_named,
 };
 use pcl_streams::{ImageForm, PageChoice, PageSet, Scale};
 use std::alloc::{AllocError, Global};
@@ -89,12 +89,10 @@ fn batch_with<'w>(batch: &ArgMatches<'w>) -> Result<Batch<'w>, WrongWord<'w>> {
 
 /// How a batch writes each job again.
 fn rewriting_of(batch: &ArgMatches<'_>, resolution: Resolution) -> Rewriting {
-    let profiles = profiles_of_shrinking(batch);
-    let readers = readers_of(batch);
     match resolution {
         _ if batch.get_flag("min") => Rewriting::Certify,
-        Resolution::FirstAccepted => Rewriting::ShrinkEverywhere { profiles, readers },
-        Resolution::Given(_) => Rewriting::Shrink { profiles, readers },
+        Resolution::FirstAccepted => Rewriting::ShrinkEverywhere(shrinking_of(batch)),
+        Resolution::Given(_) => Rewriting::Shrink(shrinking_of(batch)),
     }
 }
 
@@ -172,9 +170,8 @@ fn run_of<'w>(name: &str, command: &ArgMatches<'w>) -> Result<Run<'w>, WrongWord
         "explain" => Work::Task(explain_task(command)),
         "pages" => Work::Task(pages_task(command)),
         "shrink" => Work::Task(Task::Shrink {
+            how: shrinking_of(command),
             report: command.get_flag("report").then_some(layout_of(command)),
-            profiles: profiles_of_shrinking(command),
-            readers: readers_of(command),
         }),
         _ => Work::Task(Task::Preview {
             choice: page_choice(command)?,
@@ -204,8 +201,16 @@ fn profile_of(command: &ArgMatches<'_>) -> Profile {
     }
 }
 
+/// How jobs are shrunk.
+fn shrinking_of(command: &ArgMatches<'_>) -> Shrinking {
+    Shrinking {
+        profiles: profiles_of(command),
+        readers: readers_of(command),
+    }
+}
+
 /// By which profiles a job is read that is shrunk.
-fn profiles_of_shrinking(command: &ArgMatches<'_>) -> Profiles {
+fn profiles_of(command: &ArgMatches<'_>) -> Profiles {
     if command.get_flag("stated") {
         Profiles::Stated
     } else if command.get_flag("drivers") {

@@ -152,7 +152,7 @@ fn take_names(
     let has_job = take_name(alloc, names, &paths.job)?;
     let has_sums = take_name(alloc, names, &paths.sums)?;
     let has_certificate = match rewriting {
-        Rewriting::Shrink { .. } | Rewriting::ShrinkEverywhere { .. } => true,
+        Rewriting::Shrink(_) | Rewriting::ShrinkEverywhere(_) => true,
         Rewriting::Certify => take_name(alloc, names, &paths.certificate)?,
     };
     Ok(has_job && has_sums && has_certificate)

@@ -182,14 +182,14 @@ fn how_of(alloc: Global, batch: Batch<'_>, dpi: Dpi) -> Result<String, AllocErro
     let version = batch.version;
     let dots = dpi.dots();
     match batch.rewriting {
-        Rewriting::Shrink { profiles, readers } => {
-            let caution = caution_of(readers);
-            let reading = reading_of(profiles);
+        Rewriting::Shrink(how) => {
+            let caution = caution_of(how.readers);
+            let reading = reading_of(how.profiles);
             format!(in alloc; "pclmin {version} shrink{caution}{reading} --dpi {dots}")
         }
-        Rewriting::ShrinkEverywhere { profiles, readers } => {
-            let caution = caution_of(readers);
-            let reading = reading_of(profiles);
+        Rewriting::ShrinkEverywhere(how) => {
+            let caution = caution_of(how.readers);
+            let reading = reading_of(how.profiles);
             format!(in alloc; "pclmin {version} shrink{caution}{reading} --dpi auto")
         }
         Rewriting::Certify => format!(in alloc; "pclmin {version} min --cert --dpi {dots}"),
@@ -296,7 +296,7 @@ fn is_of(job: Job<'_>, sums: Sums<'_>) -> bool {
 fn has_foreign_certificate<F: JobFiles>(files: &F, job: Job<'_>, is_named: bool) -> bool {
     let is_there = files.kind_of(job.paths.certificate.as_str()).is_some();
     match job.rewriting {
-        Rewriting::Shrink { .. } | Rewriting::ShrinkEverywhere { .. } => is_there && is_named,
+        Rewriting::Shrink(_) | Rewriting::ShrinkEverywhere(_) => is_there && is_named,
         Rewriting::Certify => is_there && !is_named,
     }
 }
@@ -313,7 +313,7 @@ fn found_earlier<F: JobFiles>(
         return Ok(Found::Earlier);
     };
     let certificate = match job.rewriting {
-        Rewriting::Shrink { .. } | Rewriting::ShrinkEverywhere { .. } => None,
+        Rewriting::Shrink(_) | Rewriting::ShrinkEverywhere(_) => None,
         Rewriting::Certify => sum_of(files, alloc, job.paths.certificate.as_str())?,
     };
     let certificate = certificate.as_ref();

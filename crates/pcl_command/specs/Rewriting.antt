@@ -21,17 +21,17 @@ use Rattle.pcl_command.specs.declared.rewriting.Again.{Again}
 
 -- the smallest job that is found, alone, or the least raster job and its certificate
 abbrev pub IsRewrittenTo : Rewriting → Dpi → (job again : List ℕ) → Option (Vec ℕ) → Type 0
-IsRewrittenTo (Shrink profiles readers) dpi job again None = IsWrittenUnder readers profiles dpi job again
-IsRewrittenTo (Shrink profiles readers) dpi job again (Some certificate) = ⊥
-IsRewrittenTo (ShrinkEverywhere profiles readers) dpi job again None = IsWrittenEverywhereUnder readers profiles job again
-IsRewrittenTo (ShrinkEverywhere profiles readers) dpi job again (Some certificate) = ⊥
+IsRewrittenTo (Shrink how) dpi job again None = IsWrittenUnder how.readers how.profiles dpi job again
+IsRewrittenTo (Shrink how) dpi job again (Some certificate) = ⊥
+IsRewrittenTo (ShrinkEverywhere how) dpi job again None = IsWrittenEverywhereUnder how.readers how.profiles job again
+IsRewrittenTo (ShrinkEverywhere how) dpi job again (Some certificate) = ⊥
 IsRewrittenTo Certify dpi job again (Some certificate) = IsCertifiedJobOf dpi One job again certificate.items
 IsRewrittenTo Certify dpi job again None = ⊥
 
 -- a refusal is the one at the resolution; or at both
 abbrev pub RefusesAgain : Rewriting → Dpi → List ℕ → Refusal → Type 0
-RefusesAgain (ShrinkEverywhere profiles readers) dpi job refusal = IsRefusedEverywhereUnder profiles job refusal
-RefusesAgain (Shrink profiles readers) dpi job refusal = IsRefusalBy (widest_of profiles) dpi job refusal
+RefusesAgain (ShrinkEverywhere how) dpi job refusal = IsRefusedEverywhereUnder how.profiles job refusal
+RefusesAgain (Shrink how) dpi job refusal = IsRefusalBy (widest_of how.profiles) dpi job refusal
 RefusesAgain Certify dpi job refusal = IsRefusal dpi job refusal
 
 -- where it isn't written again it is refused so, or memory ran out

@@ -57,15 +57,15 @@ IsDone (Explain layout profile) dpi job old new done = WritesOrRefuses (Explains
 IsDone (ExplainKind layout kind) dpi job old new done = WritesOrRefuses (ExplainsKindIn layout kind) NeverRefuses old new done
 IsDone (DescribePages layout profile) dpi job old new done =
     WritesOrRefuses (TellsOfPages profile dpi job) (IsRefusalBy profile dpi job) old new done
-IsDone (Shrink report profiles readers) dpi job old new done =
-    WritesOrRefuses (IsWrittenUnder readers profiles dpi job) (IsRefusalBy (widest_of profiles) dpi job) old new done
+IsDone (Shrink how report) dpi job old new done =
+    WritesOrRefuses (IsWrittenUnder how.readers how.profiles dpi job) (IsRefusalBy (widest_of how.profiles) dpi job) old new done
 
 -- The same at a resolution that is given, or at the first at which the job is accepted, unless memory runs out before that is known. A
 -- job is shrunk for each resolution at which it is accepted.
 abbrev pub IsDoneSeen : Task → Resolution → (job : List ℕ) → (old new : Option (List ℕ)) → Result (Unit {0}) Fault → Type 0
 IsDoneSeen task (Given dpi) job old new done = IsDone task dpi job old new done
-IsDoneSeen (Shrink report profiles readers) FirstAccepted job old new done =
-    WritesOrRefuses (IsWrittenEverywhereUnder readers profiles job) (IsRefusedEverywhereUnder profiles job) old new done
+IsDoneSeen (Shrink how report) FirstAccepted job old new done =
+    WritesOrRefuses (IsWrittenEverywhereUnder how.readers how.profiles job) (IsRefusedEverywhereUnder how.profiles job) old new done
 IsDoneSeen task FirstAccepted job old new done =
     ((done ≡ Err Memory) × Keeps old new)
     ⊎ ((dpi : Dpi) × IsFirstAccepted (task_profile task) job dpi × IsDone task dpi job old new done)

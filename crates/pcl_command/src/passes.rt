@@ -5,8 +5,8 @@ ghost use Rattle.pcl_command.specs.Profiles.{IsShrunkUnder, IsShrunkEverywhereUn
 use crate::profiles::{shrink_everywhere_under, shrink_under};
 use pcl_base::{Dpi, JobFault};
 use pcl_files::Reporter;
-use pcl_request::Profiles;
-use pcl_shrink::{Pass, Readers, ShrinkWatcher, Shrunk};
+use pcl_request::Shrinking;
+use pcl_shrink::{Pass, ShrinkWatcher, Shrunk};
 use std::alloc::Global;
 
 /// Reports how far each pass over the pages of a job has come.
@@ -29,18 +29,17 @@ fn pass_name(pass: Pass) -> &'static str {
     }
 }
 
-/// Shrinks a job at a resolution, by these profiles, and reports how far that has come.
+/// Shrinks a job at a resolution, and reports how far that has come.
 pub fn shrink_reported<P: Reporter>(
     alloc: Global,
     job: &[u8],
-    profiles: Profiles,
+    how: Shrinking,
     dpi: Dpi,
-    readers: Readers,
     reporter: P,
 ) -> Result<Shrunk, JobFault>
-    ensures { IsShrunkUnder readers profiles dpi job.now result }
+    ensures { IsShrunkUnder how.readers how.profiles dpi job.now result }
 {
-    let shrunk = shrink_under(alloc, job, profiles, dpi, readers, Passes(reporter));
+    let shrunk = shrink_under(alloc, job, how, dpi, Passes(reporter));
     reporter.ended();
     shrunk
 }
@@ -49,13 +48,12 @@ pub fn shrink_reported<P: Reporter>(
 pub fn shrink_everywhere_reported<P: Reporter>(
     alloc: Global,
     job: &[u8],
-    profiles: Profiles,
-    readers: Readers,
+    how: Shrinking,
     reporter: P,
 ) -> Result<Shrunk, JobFault>
-    ensures { IsShrunkEverywhereUnder readers profiles job.now result }
+    ensures { IsShrunkEverywhereUnder how.readers how.profiles job.now result }
 {
-    let shrunk = shrink_everywhere_under(alloc, job, profiles, readers, Passes(reporter));
+    let shrunk = shrink_everywhere_under(alloc, job, how, Passes(reporter));
     reporter.ended();
     shrunk
 }

@@ -1,26 +1,26 @@
-//! Jobs shrunk, by the profiles by which they are read.
+//! Jobs shrunk as that is asked for.
 
 ghost use Rattle.pcl_command.specs.Profiles.{IsShrunkUnder, IsShrunkEverywhereUnder};
 
 use pcl_base::{Dpi, JobFault, Profile};
-use pcl_request::Profiles;
+use pcl_request::{Profiles, Shrinking};
 use pcl_shrink::{
-    Readers, ShrinkWatcher, Shrunk, shrink_by, shrink_everywhere_by, shrink_everywhere_watched,
+    ShrinkWatcher, Shrunk, shrink_by, shrink_everywhere_by, shrink_everywhere_watched,
     shrink_watched,
 };
 use std::alloc::Global;
 
-/// Shrinks a job at a resolution, by these profiles. The watcher is called for each page that a pass has done.
+/// Shrinks a job at a resolution. The watcher is called for each page that a pass has done.
 pub fn shrink_under<P: ShrinkWatcher>(
     alloc: Global,
     job: &[u8],
-    profiles: Profiles,
+    how: Shrinking,
     dpi: Dpi,
-    readers: Readers,
     watcher: P,
 ) -> Result<Shrunk, JobFault>
-    ensures { IsShrunkUnder readers profiles dpi job.now result }
+    ensures { IsShrunkUnder how.readers how.profiles dpi job.now result }
 {
+    let Shrinking { profiles, readers } = how;
     match profiles {
         Profiles::Stated => shrink_watched(alloc, job, Profile::Stated, dpi, readers, watcher),
         Profiles::Either => shrink_watched(alloc, job, Profile::Drivers, dpi, readers, watcher),
@@ -32,12 +32,12 @@ pub fn shrink_under<P: ShrinkWatcher>(
 pub fn shrink_everywhere_under<P: ShrinkWatcher>(
     alloc: Global,
     job: &[u8],
-    profiles: Profiles,
-    readers: Readers,
+    how: Shrinking,
     watcher: P,
 ) -> Result<Shrunk, JobFault>
-    ensures { IsShrunkEverywhereUnder readers profiles job.now result }
+    ensures { IsShrunkEverywhereUnder how.readers how.profiles job.now result }
 {
+    let Shrinking { profiles, readers } = how;
     match profiles {
         Profiles::Stated => shrink_everywhere_watched(
             alloc,

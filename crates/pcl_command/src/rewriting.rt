@@ -25,12 +25,12 @@ pub fn rewrite(alloc: Global, job: &[u8], dpi: Dpi, rewriting: Rewriting) -> Res
     ensures { IsRewritten rewriting dpi job.now result }
 {
     match rewriting {
-        Rewriting::Shrink { profiles, readers } => {
-            let shrunk = shrink_under(alloc, job, profiles, dpi, readers, NoWatcher);
+        Rewriting::Shrink(how) => {
+            let shrunk = shrink_under(alloc, job, how, dpi, NoWatcher);
             shrunk_again(alloc, shrunk)
         }
-        Rewriting::ShrinkEverywhere { profiles, readers } => {
-            let shrunk = shrink_everywhere_under(alloc, job, profiles, readers, NoWatcher);
+        Rewriting::ShrinkEverywhere(how) => {
+            let shrunk = shrink_everywhere_under(alloc, job, how, NoWatcher);
             shrunk_again(alloc, shrunk)
         }
         Rewriting::Certify => match minimize(alloc, job, dpi, Format::One) {

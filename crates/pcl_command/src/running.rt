@@ -19,8 +19,7 @@ use pcl_explain::{explanation, explanation_object, kind_explanation, kind_object
 use pcl_files::{Failure, JobFiles, Reporter, outcome, settle};
 use pcl_page::first_accepted;
 use pcl_pages::describe_pages;
-use pcl_request::{Layout, Profiles, Request, Resolution, Run, Source, Target, Task, Work};
-use pcl_shrink::Readers;
+use pcl_request::{Layout, Request, Resolution, Run, Shrinking, Source, Target, Task, Work};
 use pcl_streams::{Fault, preview_pages, read_all, write_all};
 use pcl_tool::{INPUT_LIMIT, least_job};
 use std::alloc::{AllocError, Global};
@@ -204,11 +203,7 @@ fn do_seen<W: Write, P: Reporter>(
     match resolution {
         Resolution::Given(dpi) => do_task(alloc, task, dpi, job, out, watcher),
         Resolution::FirstAccepted => match task {
-            Task::Shrink {
-                report,
-                profiles,
-                readers,
-            } => write_smallest(alloc, report, profiles, readers, job, out, watcher),
+            Task::Shrink { how, report } => write_smallest(alloc, how, report, job, out, watcher),
             Task::Minimize
             | Task::Preview { .. }
             | Task::Explain { .. }
@@ -246,11 +241,7 @@ fn do_task<W: Write, P: Reporter>(
         Task::DescribePages { layout, profile } => {
             describe(alloc, layout, profile, dpi, job, out, watcher)
         }
-        Task::Shrink {
-            report,
-            profiles,
-            readers,
-        } => write_smaller(alloc, report, profiles, readers, dpi, job, out, watcher),
+        Task::Shrink { how, report } => write_smaller(alloc, how, report, dpi, job, out, watcher),
     }
 }
 
@@ -342,22 +333,21 @@ fn describe<W: Write, P: Reporter>(
     write_all(out, &text)
 }
 
-/// Writes the smallest job that is found with the pages of a job, which asks for the same, for these readers. That job is read by these
-/// profiles. A job without pages is reported, and what shrinking it did if that is asked for.
+/// Writes the smallest job that is found with the pages of a job, which asks for the same. A job without pages is reported, and what
+/// shrinking it did if that is asked for.
 fn write_smaller<W: Write, P: Reporter>(
     alloc: Global,
+    how: Shrinking,
     report: Option<Layout>,
-    profiles: Profiles,
-    readers: Readers,
     dpi: Dpi,
     job: &[u8],
     out: &mut W,
     reporter: P,
 ) -> Result<(), Fault>
-    ensures { WritesOrRefuses (IsWrittenUnder readers profiles dpi job.now) (IsRefusalBy (widest_of profiles) dpi job.now)
+    ensures { WritesOrRefuses (IsWrittenUnder how.readers how.profiles dpi job.now) (IsRefusalBy (widest_of how.profiles) dpi job.now)
         (W.contents out.old) (W.contents out.new) result }
 {
-    let shrunk = shrink_reported(alloc, job, profiles, dpi, readers, reporter)?;
+    let shrunk = shrink_reported(alloc, job, how, dpi, reporter)?;
     report_shrunk(alloc, job.len(), &shrunk, report, reporter)?;
     write_all(out, &shrunk.job)
 }
@@ -365,17 +355,16 @@ fn write_smaller<W: Write, P: Reporter>(
 /// The same at each resolution at which the job is accepted.
 fn write_smallest<W: Write, P: Reporter>(
     alloc: Global,
+    how: Shrinking,
     report: Option<Layout>,
-    profiles: Profiles,
-    readers: Readers,
     job: &[u8],
     out: &mut W,
     reporter: P,
 ) -> Result<(), Fault>
-    ensures { WritesOrRefuses (IsWrittenEverywhereUnder readers profiles job.now) (IsRefusedEverywhereUnder profiles job.now)
-        (W.contents out.old) (W.contents out.new) result }
+    ensures { WritesOrRefuses (IsWrittenEverywhereUnder how.readers how.profiles job.now)
+        (IsRefusedEverywhereUnder how.profiles job.now) (W.contents out.old) (W.contents out.new) result }
 {
-    let shrunk = shrink_everywhere_reported(alloc, job, profiles, readers, reporter)?;
+    let shrunk = shrink_everywhere_reported(alloc, job, how, reporter)?;
     report_shrunk(alloc, job.len(), &shrunk, report, reporter)?;
     write_all(out, &shrunk.job)
 }

@@ -40,7 +40,7 @@ abbrev pub task_profile : Task → Profile
 task_profile (Preview choice form profile) = profile
 task_profile (Explain layout profile) = profile
 task_profile (DescribePages layout profile) = profile
-task_profile (Shrink report profiles readers) = widest_of profiles
+task_profile (Shrink how report) = widest_of how.profiles
 task_profile other = Stated
 
 abbrev pub page_of : Work → ℕ
@@ -49,8 +49,8 @@ page_of (work.Certify certificate) = 0
 
 -- the same of a job of a batch
 abbrev pub rewriting_profile : Rewriting → Profile
-rewriting_profile (rewriting.Shrink profiles readers) = widest_of profiles
-rewriting_profile (rewriting.ShrinkEverywhere profiles readers) = widest_of profiles
+rewriting_profile (rewriting.Shrink how) = widest_of how.profiles
+rewriting_profile (rewriting.ShrinkEverywhere how) = widest_of how.profiles
 rewriting_profile rewriting.Certify = Stated
 
 -- a job or an image is made, and not a text

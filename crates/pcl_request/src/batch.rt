@@ -3,24 +3,17 @@
 ghost use Rattle.std.specs.Prelude.{◌≡◌};
 ghost use Rattle.pcl_request.specs.Requests.{rewriting_profile};
 
-use crate::profiles::Profiles;
+use crate::profiles::Shrinking;
 use crate::request::{Layout, Resolution};
 use pcl_base::Profile;
-use pcl_page::Readers;
 
 /// How each job is written again.
 #[derive(Clone, Copy, Debug, PartialEq, Eq)]
 pub enum Rewriting {
-    /// As the smallest job that is found with the same dots, for these readers. It is read by these profiles.
-    Shrink {
-        profiles: Profiles,
-        readers: Readers,
-    },
+    /// As the smallest job that is found with the same dots.
+    Shrink(Shrinking),
     /// The same at each resolution at which the job is accepted.
-    ShrinkEverywhere {
-        profiles: Profiles,
-        readers: Readers,
-    },
+    ShrinkEverywhere(Shrinking),
     /// As the least raster job, with a certificate of the first format in a file of its own.
     Certify,
 }
@@ -31,9 +24,7 @@ impl Rewriting {
         ensures { result ≡ rewriting_profile self }
     {
         match self {
-            Rewriting::Shrink { profiles, .. } | Rewriting::ShrinkEverywhere { profiles, .. } => {
-                profiles.widest()
-            }
+            Rewriting::Shrink(how) | Rewriting::ShrinkEverywhere(how) => how.profiles.widest(),
             Rewriting::Certify => Profile::Stated,
         }
     }

@@ -6,7 +6,7 @@ mod profiles;
 mod request;
 
 pub use batch::{Batch, Destination, Rewriting};
-pub use profiles::Profiles;
+pub use profiles::{Profiles, Shrinking};
 pub use request::{
     Beside, Certificate, CheckedFiles, ComparedFiles, Layout, Request, Resolution, Run, Source,
     Target, Task, Work, resolution_named,

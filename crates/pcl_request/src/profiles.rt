@@ -1,9 +1,19 @@
-//! By which profiles a job is read that is shrunk.
+//! How a job is shrunk.
 
 ghost use Rattle.std.specs.Prelude.{◌≡◌};
 ghost use Rattle.pcl_request.specs.Requests.{widest_of};
 
 use pcl_base::Profile;
+use pcl_page::Readers;
+
+/// How a job is shrunk.
+#[derive(Clone, Copy, Debug, PartialEq, Eq)]
+pub struct Shrinking {
+    /// By which profiles it is read.
+    pub profiles: Profiles,
+    /// For which readers the smaller job is.
+    pub readers: Readers,
+}
 
 /// By which profiles a job is read that is shrunk. What is written is accepted by the one by which it was read.
 #[derive(Clone, Copy, Debug, PartialEq, Eq)]

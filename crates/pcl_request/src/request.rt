@@ -4,10 +4,9 @@ ghost use Rattle.std.specs.Prelude.{◌≡◌, ◌&&◌, MatchOption};
 ghost use Rattle.pcl_request.specs.Requests.{IsWordFor, aside_of, certificate_file, first_job, has_raw, is_standard_output, makes_raw, page_of, performed, second_job, source_file, target_file, task_page, task_profile, writes_raw};
 ghost use Rattle.pcl_request.specs.declared.request.Resolution.{Resolution};
 
-use crate::profiles::Profiles;
+use crate::profiles::Shrinking;
 use pcl_base::{Dpi, Kind, Profile};
 use pcl_cert::Format;
-use pcl_page::Readers;
 use pcl_streams::{ImageForm, PageChoice};
 
 /// What a run makes of its job.
@@ -36,12 +35,10 @@ pub enum Task {
         layout: Layout,
         profile: Profile,
     },
-    /// The smallest job that is found with its pages, which asks for the same, for these readers; and a report of its bytes in a layout, if
-    /// that is asked for. It is read by these profiles.
+    /// The smallest job that is found with its pages, which asks for the same; and a report of its bytes in a layout, if that is asked for.
     Shrink {
+        how: Shrinking,
         report: Option<Layout>,
-        profiles: Profiles,
-        readers: Readers,
     },
 }
 
@@ -135,7 +132,7 @@ impl Task {
             Task::Preview { profile, .. }
             | Task::Explain { profile, .. }
             | Task::DescribePages { profile, .. } => profile,
-            Task::Shrink { profiles, .. } => profiles.widest(),
+            Task::Shrink { how, .. } => how.profiles.widest(),
         }
     }
 

@@ -10,7 +10,7 @@ use Rattle.pcl_command.proofs.running.do_seen.Goals as goal
 
 -- a task that isn't to shrink its job
 abbrev pub IsOther : Task → Type 0
-IsOther (Shrink report profiles readers) = ⊥
+IsOther (Shrink how report) = ⊥
 IsOther task = Unit {0}
 
 -- it is done at the first resolution at which the job is accepted
@@ -21,7 +21,7 @@ done_first (Preview choice form profile) dpi job old new done other first d = in
 done_first (Explain layout profile) dpi job old new done other first d = inr (dpi, first, d)
 done_first (ExplainKind layout kind) dpi job old new done other first d = inr (dpi, first, d)
 done_first (DescribePages layout profile) dpi job old new done other first d = inr (dpi, first, d)
-done_first (Shrink report profiles readers) dpi job old new done other first d = absurd other
+done_first (Shrink how report) dpi job old new done other first d = absurd other
 
 pub returns-in-Given : goal.returns-in-Given
 returns-in-Given g c = rw c.in-Given.is assumption
