@@ -43,5 +43,5 @@ pub use Rattle.std.specs.Prelude.{All, Bool, IfSome, IsTrue, MatchBool, MatchOpt
 pub use Rattle.std.specs.Simd.Lanes.{mask_l, top, zip2}
 pub use Rattle.std.specs.Str.{bytes_eq}
 pub use Rattle.std.specs.Vec.{with_items}
-pub use Rattle.pcl_base.specs.{Digits.AreDigits, Digits.is_digit, Digits.number_of, Dpi.dots_per_inch, Dpi.fineness, Dpi.units_per_dot, Kind.kind_name, Limits.command_limit, Limits.macro_limit, Limits.row_limit, Method.method_code, Method.method_with_code, Name.name_bytes, Operation.operation_of, Operation.takes_data, Refusal.refusal, Refusal.refusal_text, Size.code_of, Size.page_height, Size.page_row_bytes, Size.page_width, Size.size_with_code, Size.units_high, Value.count_of, Value.is_absent, Value.is_below_zero, Value.is_minus, Value.signed_whole, Value.whole_of, Value.with_sign, Value.zero_value, Walks.IsAttained, Walks.IsFeasible, Walks.IsLeastCost, Walks.Walk, Walks.total}
+pub use Rattle.pcl_base.specs.{Digits.AreDigits, Digits.is_digit, Digits.number_of, Dpi.dots_per_inch, Dpi.fineness, Dpi.units_per_dot, Kind.kind_name, Limits.command_limit, Limits.copies_limit, Limits.macro_limit, Limits.row_limit, Method.method_code, Method.method_with_code, Name.name_bytes, Operation.operation_of, Operation.takes_data, Refusal.refusal, Refusal.refusal_text, Size.code_of, Size.page_height, Size.page_row_bytes, Size.page_width, Size.size_with_code, Size.units_high, Value.count_of, Value.is_absent, Value.is_below_zero, Value.is_minus, Value.signed_whole, Value.whole_of, Value.with_sign, Value.zero_value, Walks.IsAttained, Walks.IsFeasible, Walks.IsLeastCost, Walks.Walk, Walks.total}
 pub use Rattle.pcl_base.specs.declared.{dpi.Dpi.Dpi, size.Size.Size}

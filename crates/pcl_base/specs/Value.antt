@@ -1,5 +1,5 @@
 -- The number of a value field: a sign as written, and a magnitude in ten-thousandths.
-use Rattle.std.specs.Prelude.{ℕ, ◌*◌, ◌/◌, Bool, true, false, ◌&&◌, nat_lt, if◌then◌else◌, Option, Some, None, ℤ, pos, neg_ℤ}
+use Rattle.std.specs.Prelude.{ℕ, ◌*◌, ◌/◌, Bool, true, false, ◌&&◌, ◌==◌, nat_lt, if◌then◌else◌, Option, Some, None, ℤ, pos, neg_ℤ}
 use Rattle.pcl_base.specs.declared.value.Sign.{Sign}
 use Rattle.pcl_base.specs.declared.value.Sign.TheVariants.{Absent, Plus, Minus}
 use Rattle.pcl_base.specs.declared.value.Value.{Value}
@@ -36,6 +36,10 @@ is_minus Minus = true
 -- the whole part is below 0
 abbrev pub is_below_zero : Value → Bool
 is_below_zero v = is_minus v.sign && nat_lt 0 (whole_of v)
+
+-- the number of a universal exit: its whole part is -12345
+abbrev pub is_exit_number : Value → Bool
+is_exit_number v = is_minus v.sign && whole_of v == 12345
 
 -- the whole part where it isn't below 0
 abbrev pub count_of : Value → Option ℕ

@@ -1,7 +1,7 @@
 //! The numbers of a job.
 
 ghost use Rattle.std.specs.Prelude.{◌≡◌, ◌≤◌};
-ghost use Rattle.pcl_base.specs.Value.{signed_whole, count_of, scaled_by};
+ghost use Rattle.pcl_base.specs.Value.{signed_whole, is_exit_number, count_of, scaled_by};
 
 /// The sign of a value field, as it is written: `-0` has one, and so has a sign without digits.
 #[derive(Clone, Copy, Debug, PartialEq, Eq)]
@@ -36,6 +36,13 @@ impl Value {
             Sign::Minus => -magnitude,
             Sign::Absent | Sign::Plus => magnitude,
         }
+    }
+
+    /// Whether it is the number of a universal exit: its whole part is -12345 (PCL 5 manual, "Universal Exit Language").
+    pub fn is_exit_number(&self) -> bool
+        ensures { result ≡ is_exit_number self.now }
+    {
+        self.whole() == -12_345
     }
 
     /// The whole part where it isn't below 0.

@@ -82,7 +82,7 @@ table_certified page text table format places is_of printed short has =
     let are = widths page.size page.dpi (rows_of page) printed.rows_are in
     let narrow : width_of page ≤ row_limit = row_small page.size page.dpi in
     let few = few_rows page printed in
-    let copies = few_digits page.copies printed.few_copies in
+    let copies = few_digits page.copies (omega (arith, printed.few_copies)) in
     let code = few_digits (code_of page.size) (code_few page.size) in
     let first = number_small are narrow is_of.feasible few 0 start.method false (omega arith) in
     record {

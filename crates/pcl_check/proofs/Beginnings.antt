@@ -1,6 +1,6 @@
 -- The start of a page text, number by number.
 use Rattle.std.proofs.Common.{◌≡◌, ℕ, ◌<◌, ◌≤◌, List, [], ◌∷◌, ◌++◌, Some, None, refl, sym, ◌∙◌, append_assoc, arith}
-use Rattle.pcl_check.proofs.Names.{decimal, codes, nat_tests, append_cancel_left, Dpi, Size, dots_per_inch, code_of, size_with_code, page_width, start_bytes, raster_start}
+use Rattle.pcl_check.proofs.Names.{copies_limit, decimal, codes, nat_tests, append_cancel_left, Dpi, Size, dots_per_inch, code_of, size_with_code, page_width, start_bytes, raster_start}
 use Rattle.pcl_check.proofs.Decimals.{same_front}
 
 abbrev pub first_bytes : List ℕ
@@ -46,7 +46,7 @@ size_of begins read next = record { first = copies_of begins (rw next.0 at read)
 
 -- a text that begins so and so
 pub record BeginsAs (dpi : Dpi) (text : List ℕ) (copies : ℕ) (size : Size) (rest : List ℕ) : Type 0 where
-  pub few : copies < 100
+  pub few : copies ≤ copies_limit
   pub text_is : text ≡ start_bytes dpi copies size ++ rest
 
 module _ {dpi : Dpi} {text : List ℕ} {copies : ℕ} {size : Size} {rest : List ℕ} (is : BeginsAs dpi text copies size rest) where

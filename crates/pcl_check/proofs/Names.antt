@@ -2,7 +2,7 @@
 pub use Rattle.std.proofs.lemmas.Bool.{leb-true}
 pub use Rattle.std.specs.List.{flat_map}
 pub use Rattle.pcl_base.proofs.{Fronts.Pass, Fronts.front_split, Lists.alike_at, Lists.all_zeros, Lists.falls_on, Lists.first_of_run, Lists.more_copies, Lists.of_parts, Lists.one_of_copies, Lists.parts_of, Lists.rest_of_alike, Lists.rest_of_run, Lists.run_byte, Lists.run_part, Lists.same_fronts, Lists.start_within, PageBounds.height_small, PageBounds.row_small}
-pub use Rattle.pcl_base.proofs.Names.{All, All-from_recursion, AllByRecursion, AreDigits, Decides-eqb, IsFeasible, MatchOption, None, Option, Some, [], ap, append-nil, append_assoc, append_cancel_left, arith, bytes_eq, cases_eq, cases_lt, code_of, codes, decimal, dots_per_inch, drop-drop, drop_all, drop_at, eqb-true, ext_get_or, get_or-drop, get_or-replicate, get_or-set_other, get_or-set_same, get_or-take, get_or_past, iff_false, is_digit, length, length-append, length-drop, length-replicate, length-set, length-take-le, ltb-false, ltb-true, method_code, method_with_code, nat_tests, nil_from_length, not, number_of, page_height, page_row_bytes, page_width, prefix_len, recursion_from_All, refl, row_limit, rules, size_with_code, slice_eq-Decides, slice_index, strip_prefix_is, sym, take-replicate, take_all, take_at, take_rest, zero-div, ℕ}
+pub use Rattle.pcl_base.proofs.Names.{All, All-from_recursion, AllByRecursion, AreDigits, Decides-eqb, IsFeasible, MatchOption, None, Option, Some, [], ap, append-nil, append_assoc, append_cancel_left, arith, bytes_eq, cases_eq, cases_lt, code_of, codes, copies_limit, decimal, dots_per_inch, drop-drop, drop_all, drop_at, eqb-true, ext_get_or, get_or-drop, get_or-replicate, get_or-set_other, get_or-set_same, get_or-take, get_or_past, iff_false, is_digit, length, length-append, length-drop, length-replicate, length-set, length-take-le, ltb-false, ltb-true, method_code, method_with_code, nat_tests, nil_from_length, not, number_of, page_height, page_row_bytes, page_width, prefix_len, recursion_from_All, refl, row_limit, rules, size_with_code, slice_eq-Decides, slice_index, strip_prefix_is, sym, take-replicate, take_all, take_at, take_rest, zero-div, ℕ}
 pub use Rattle.pcl_base.specs.contracts.{size.Size.the_type}
 pub use Rattle.pcl_base.specs.declared.{dpi.Dpi.Dpi, method.Method.Method, method.Method.TheVariants.Delta, method.Method.TheVariants.Packed, method.Method.TheVariants.Plain, method.Method.TheVariants.Runs, size.Size.Size}
 pub use Rattle.pcl_bitmap.proofs.Names.{Picture, dot_of_row, row_of}

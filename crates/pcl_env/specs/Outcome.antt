@@ -23,7 +23,7 @@ use Rattle.pcl_base.specs.declared.value.Value.{Value}
 use Rattle.pcl_base.specs.Limits.{copies_limit, id_limit, stack_limit}
 use Rattle.pcl_base.specs.Method.{method_with_code}
 use Rattle.pcl_base.specs.Size.{size_with_code, units_wide, units_high}
-use Rattle.pcl_base.specs.Value.{whole_of, is_minus, is_below_zero, scaled_by}
+use Rattle.pcl_base.specs.Value.{whole_of, is_minus, is_exit_number, is_below_zero, scaled_by}
 use Rattle.pcl_env.specs.declared.effect.Effect.{Effect}
 use Rattle.pcl_env.specs.declared.effect.Effect.TheVariants as page
 use Rattle.pcl_env.specs.declared.effect.Unsupported.{Unsupported}
@@ -208,7 +208,7 @@ units_of_measure =
 -- done to fonts and macros are refused there
 unfoldable pub outcome : Dpi → Operation → Value → Bool → Settings → Outcome
 outcome dpi Reset v m s = Some (defaults s.profile, page.EjectMarked)
-outcome dpi UniversalExit v m s = if is_minus v.sign && whole_of v == 12345 then Some (defaults s.profile, page.EjectMarked) else None
+outcome dpi UniversalExit v m s = if is_exit_number v then Some (defaults s.profile, page.EjectMarked) else None
 outcome dpi ClearMargins v m s = stays (record s { left = 0 })
 outcome dpi HalfLineFeed v m s = feed (s.vmi / 2) s
 outcome dpi HorizontalTab v m s = stays (put_x (tab_stop s) s)

@@ -7,7 +7,7 @@ use Rattle.pcl_base.specs.declared.operation.Operation.{Operation}
 use Rattle.pcl_base.specs.declared.profile.Profile.{Profile}
 use Rattle.pcl_base.specs.declared.value.Value.{Value}
 use Rattle.pcl_base.specs.Operation.{named, operation_of, takes_data, has, is_name}
-use Rattle.pcl_base.specs.Value.{whole_of, is_minus, is_below_zero}
+use Rattle.pcl_base.specs.Value.{whole_of, is_exit_number, is_below_zero}
 use Rattle.pcl_escape.specs.Letter.{goes_on}
 use Rattle.pcl_escape.specs.Field.{in_range}
 
@@ -42,4 +42,4 @@ exit_letter = 88
 
 -- whether the command is a universal exit, after which lines of the job language are skipped
 abbrev pub is_exit : Name → Value → Bool
-is_exit name value = is_name exit_name name && (is_minus value.sign && whole_of value == 12345)
+is_exit name value = is_name exit_name name && is_exit_number value

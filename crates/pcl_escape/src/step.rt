@@ -355,5 +355,5 @@ fn parameter_name(prefix: Prefix, letter: u8) -> Name
 fn is_exit(name: Name, value: Value) -> bool
     ensures { result ≡ is_exit name value }
 {
-    name == EXIT && value.whole() == -12_345
+    name == EXIT && value.is_exit_number()
 }

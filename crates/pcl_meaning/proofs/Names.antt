@@ -1,7 +1,7 @@
 -- What proofs of this crate name of std, of the crates below, and of its own definitions; those above take these from here too.
 pub use Rattle.std.proofs.lemmas.List.Concat.{flat_map-append}
 pub use Rattle.std.specs.List.{flat_map}
-pub use Rattle.pcl_base.proofs.Names.{AllByRecursion, List, and-false, cases_lt, code_of, command_limit, decimal, div-div-eq-div-mul, dots_per_inch, drop-drop, get_or_past, is_some, length-append, length-drop, length-replicate, macro_limit, map-append, method_code, mul_assoc, mul_comm, nat_lt, nat_tests, not, number_of, or-false, page_height, page_row_bytes, page_width, pow-suc, slice_index, takes_data, units_high, whole_of, zero_value, ℕ}
+pub use Rattle.pcl_base.proofs.Names.{AllByRecursion, List, and-false, cases_lt, code_of, command_limit, copies_limit, decimal, div-div-eq-div-mul, dots_per_inch, drop-drop, get_or_past, is_some, length-append, length-drop, length-replicate, macro_limit, map-append, method_code, mul_assoc, mul_comm, nat_lt, nat_tests, not, number_of, or-false, page_height, page_row_bytes, page_width, pow-suc, slice_index, takes_data, units_high, whole_of, zero_value, ℕ}
 pub use Rattle.pcl_base.proofs.{PageBounds.height_small, PageBounds.width_small}
 pub use Rattle.pcl_base.specs.declared.{dpi.Dpi.Dpi, dpi.Dpi.TheVariants.Dpi300, dpi.Dpi.TheVariants.Dpi600, kind.Kind.Kind, kind.Kind.TheVariants.UnsupportedCommand, method.Method.Method, method.Method.TheVariants.Plain, name.Name.Name, name.Name.TheVariants.Empty, name.Name.TheVariants.Three, operation.Axis.TheVariants.Horizontal, operation.Axis.TheVariants.Vertical, operation.Operation.Operation, operation.Operation.TheVariants.ControlFonts, operation.Operation.TheVariants.ControlMacros, operation.Operation.TheVariants.Copies, operation.Operation.TheVariants.EndRasterResetMethod, operation.Operation.TheVariants.FormFeed, operation.Operation.TheVariants.Move, operation.Operation.TheVariants.PageSize, operation.Operation.TheVariants.RasterMethod, operation.Operation.TheVariants.RasterOffset, operation.Operation.TheVariants.RasterResolution, operation.Operation.TheVariants.RasterRow, operation.Operation.TheVariants.RasterWidth, operation.Operation.TheVariants.Reset, operation.Operation.TheVariants.StartRaster, operation.Operation.TheVariants.TopMargin, operation.Unit.TheVariants.PclUnit, refusal.Refusal.Refusal, profile.Profile.Profile, profile.Profile.TheVariants.Drivers, profile.Profile.TheVariants.Stated, size.Size.Size, size.Size.TheVariants.Executive, value.Sign.TheVariants.Absent, value.Value.Value}
 pub use Rattle.pcl_bitmap.proofs.{Bytes.bit_of_byte-zero, Pictures.same_dots}

@@ -1,6 +1,6 @@
 -- Performing the deeds of a page text prints its page.
 use Rattle.std.proofs.Common.{◌≡◌, ℕ, zero, suc, ◌+◌, ◌-◌, ◌*◌, ◌/◌, ◌<◌, ◌≤◌, Bool, true, false, cond, ◌||◌, ◌==◌, nat_le, List, [], ◌∷◌, ◌++◌, length, drop, replicate, Option, Some, None, refl, ap, ◌∙◌, length-append, arith, Ok}
-use Rattle.pcl_meaning.proofs.Names.{not, nat_lt, AllByRecursion, length-replicate, map-append, or-false, nat_tests, Dpi, Profile, Dpi300, Dpi600, Method, Plain, Horizontal, Vertical, PclUnit, Operation, FormFeed, PageSize, Copies, TopMargin, Move, RasterResolution, RasterWidth, StartRaster, EndRasterResetMethod, RasterMethod, RasterOffset, RasterRow, Size, Executive, Value, page_limit, dots_per_inch, method_code, code_of, page_width, units_high, zero_value, Effect, Settings, put, put_x, put_y, to_first_line, copies_said, size_said, defaults, with_size, before_feed, return_carriage, Temporary, FontEvent, control, MacroEvent, Asked, pages_fit, with_page, Mark, is_black, dot_at, Raster, ends_raster, scale_of, raster_from, bytes_of_width, row_sent, row_mark, IsRowData, decoded_is, Token, opening, method, skip, send, IsRowOf, IsPageText, PageStart, Asks, first_page, next_page, sheet_said, page_said, said_for, dot_of_rows}
+use Rattle.pcl_meaning.proofs.Names.{copies_limit, not, nat_lt, AllByRecursion, length-replicate, map-append, or-false, nat_tests, Dpi, Profile, Dpi300, Dpi600, Method, Plain, Horizontal, Vertical, PclUnit, Operation, FormFeed, PageSize, Copies, TopMargin, Move, RasterResolution, RasterWidth, StartRaster, EndRasterResetMethod, RasterMethod, RasterOffset, RasterRow, Size, Executive, Value, page_limit, dots_per_inch, method_code, code_of, page_width, units_high, zero_value, Effect, Settings, put, put_x, put_y, to_first_line, copies_said, size_said, defaults, with_size, before_feed, return_carriage, Temporary, FontEvent, control, MacroEvent, Asked, pages_fit, with_page, Mark, is_black, dot_at, Raster, ends_raster, scale_of, raster_from, bytes_of_width, row_sent, row_mark, IsRowData, decoded_is, Token, opening, method, skip, send, IsRowOf, IsPageText, PageStart, Asks, first_page, next_page, sheet_said, page_said, said_for, dot_of_rows}
 use Rattle.pcl_env.specs.declared.effect.Effect.TheVariants as page
 use Rattle.pcl_env.specs.Outcome.{outcome}
 use Rattle.pcl_env.specs.Settings.{nothing_asked}
@@ -73,7 +73,7 @@ prepared_is dpi ends = grind arith
 
 -- ---- what the start of a text sets
 
-copies_out : (dpi : Dpi) (copies : ℕ) (t : Settings) → 0 < copies → copies < 100
+copies_out : (dpi : Dpi) (copies : ℕ) (t : Settings) → 0 < copies → copies ≤ copies_limit
     → outcome dpi Copies (number_value copies) false t ≡ Some (record t { copies = copies; asked = copies_said copies t.asked }, page.Stay)
 unfolding outcome
 copies_out dpi copies t some few =
@@ -165,8 +165,8 @@ set_leads {dpi} {operation} {value} {t} {next} {pages} {n} fits set turns draws 
     let prepared = prepared_is dpi (ends_raster operation) {t = t} {pages = pages} {n = n + 1} in
     lead {next = at} (rw (prepared, set, turns) (draws at)) (pages_fit at fits) rest
 
-start_leads : (size : Size) (dpi : Dpi) (copies : ℕ) {t : Settings} (pages : List Sheet) (n : ℕ) → IsBetween t → 0 < copies → copies < 100
-    → length pages ≤ page_limit → AreLeading dpi (start_deeds dpi copies size) (between t pages n)
+start_leads : (size : Size) (dpi : Dpi) (copies : ℕ) {t : Settings} (pages : List Sheet) (n : ℕ) → IsBetween t
+    → 0 < copies → copies ≤ copies_limit → length pages ≤ page_limit → AreLeading dpi (start_deeds dpi copies size) (between t pages n)
     (in_body size dpi (ready dpi size copies t) Plain 0 (zeros size dpi) [] pages (n + 1 + 1 + 1 + 1 + 1 + 1 + 1 + 1))
 start_leads size dpi copies {t} pages n b some few fits =
     let sized = with_size size (with_copies copies t) in

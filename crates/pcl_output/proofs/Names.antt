@@ -1,6 +1,6 @@
 -- What proofs of this crate name of std, of the crates below, and of its own definitions; those above take these from here too.
 pub use Rattle.std.specs.List.{flat_map}
-pub use Rattle.pcl_base.proofs.Names.{AllByRecursion, AreDigits, IsFeasible, IsLeastCost, Walk, arith, cases_lt, codes, decimal, decimal_by_steps, drop-drop, drop_more, drop_of_length-le, get_or-drop, get_or_past, is_digit, length-append, length-decimal-le, length-drop, length-replicate, method_code, mul-le-mul_right, nat_tests, not, page_height, page_row_bytes, pow-le-pow_right, pow-succ', take-replicate, take_all, total}
+pub use Rattle.pcl_base.proofs.Names.{AllByRecursion, AreDigits, IsFeasible, IsLeastCost, Walk, arith, cases_lt, codes, copies_limit, decimal, decimal_by_steps, drop-drop, drop_more, drop_of_length-le, get_or-drop, get_or_past, is_digit, length-append, length-decimal-le, length-drop, length-replicate, method_code, mul-le-mul_right, nat_tests, not, page_height, page_row_bytes, pow-le-pow_right, pow-succ', take-replicate, take_all, total}
 pub use Rattle.pcl_base.proofs.{PageBounds.row_small, Walks.feasible_bounds}
 pub use Rattle.pcl_base.specs.declared.{dpi.Dpi.Dpi, method.Method.Method, method.Method.TheVariants.Delta, method.Method.TheVariants.Packed, method.Method.TheVariants.Plain, method.Method.TheVariants.Runs, size.Size.Size}
 pub use Rattle.pcl_bitmap.proofs.Names.{IsPicture, Picture}

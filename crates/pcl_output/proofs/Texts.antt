@@ -1,6 +1,6 @@
 -- Lengths of page texts and costs of walks.
 use Rattle.std.proofs.Common.{◌≡◌, ℕ, ◌+◌, ◌<◌, ◌≤◌, false, List, [], ◌∷◌, ◌++◌, length, replicate, refl, ap, ◌∙◌, arith}
-use Rattle.pcl_output.proofs.Names.{flat_map, AllByRecursion, length-append, Dpi, Size, Plain, page_height, page_row_bytes, Walk, total, IsFeasible, IsLeastCost, feasible_bounds, Token, token_bytes, start_bytes, end_bytes, PrintsRows, IsRowOf, IsPageText, Node, start, Leads, Ends, cost, AreOfWidth, fixed_bytes, IsLeastText}
+use Rattle.pcl_output.proofs.Names.{copies_limit, flat_map, AllByRecursion, length-append, Dpi, Size, Plain, page_height, page_row_bytes, Walk, total, IsFeasible, IsLeastCost, feasible_bounds, Token, token_bytes, start_bytes, end_bytes, PrintsRows, IsRowOf, IsPageText, Node, start, Leads, Ends, cost, AreOfWidth, fixed_bytes, IsLeastText}
 use Rattle.pcl_output.proofs.Walking.{walk_of_tokens, tokens_of_walk}
 
 pub total_is : (tokens : List Token) → total cost tokens ≡ length (flat_map token_bytes tokens)
@@ -44,8 +44,8 @@ pub text_bounded : (dpi : Dpi) (size : Size) (copies : ℕ) (rows : List (List �
 text_bounded dpi size copies rows text number feasible printed =
     omega (arith, printed_length printed, feasible_bounds feasible start printed.tokens (printed_walk printed))
 
-pub text_of_least : (dpi : Dpi) (size : Size) (copies : ℕ) (rows : List (List ℕ)) (number : ℕ) → 0 < copies → copies < 100 → length rows
-    ≡ page_height size dpi
+pub text_of_least : (dpi : Dpi) (size : Size) (copies : ℕ) (rows : List (List ℕ)) (number : ℕ) → 0 < copies → copies ≤ copies_limit
+    → length rows ≡ page_height size dpi
     → AllByRecursion (IsRowOf size dpi) rows → IsLeastCost (Leads (page_row_bytes size dpi) rows) (Ends rows) cost start number
     → IsLeastText dpi size copies rows (fixed_bytes dpi size copies + number)
 text_of_least dpi size copies rows number some few count are least =

@@ -4,6 +4,7 @@ use Rattle.std.specs.List.{flat_map, AllByRecursion}
 use Rattle.pcl_base.specs.declared.dpi.Dpi.{Dpi}
 use Rattle.pcl_base.specs.declared.method.Method.TheVariants.{Plain}
 use Rattle.pcl_base.specs.declared.size.Size.{Size}
+use Rattle.pcl_base.specs.Limits.{copies_limit}
 use Rattle.pcl_base.specs.Size.{page_width, page_height, page_row_bytes}
 use Rattle.pcl_bitmap.specs.Bitmap.{Picture, dot_of_row}
 use Rattle.pcl_bitmap.specs.declared.page.Page.{Page}
@@ -29,7 +30,7 @@ PrintsAll size dpi tokens rows = PrintsRows false Plain (replicate (page_row_byt
 -- a text that prints this many copies of a page of this size, whose rows are these
 pub record IsPageText (dpi : Dpi) (size : Size) (copies : ℕ) (rows : List (List ℕ)) (text : List ℕ) : Type 0 where
   pub some_copies : 0 < copies
-  pub few_copies : copies < 100
+  pub few_copies : copies ≤ copies_limit
   pub count : length rows ≡ page_height size dpi
   pub rows_are : AllByRecursion (IsRowOf size dpi) rows
   pub tokens : List Token

@@ -5,6 +5,7 @@ ghost use Rattle.std.specs.List.{AllByRecursion};
 ghost use Rattle.pcl_base.specs.declared.dpi.Dpi.{Dpi};
 ghost use Rattle.pcl_base.specs.declared.size.Size.{Size};
 ghost use Rattle.pcl_base.specs.declared.method.Method.TheVariants as methods;
+ghost use Rattle.pcl_base.specs.Limits.{copies_limit};
 ghost use Rattle.pcl_base.specs.Size.{page_height, page_row_bytes};
 ghost use Rattle.pcl_base.specs.Walks.{Walk, IsFeasible, IsLeastCost};
 ghost use Rattle.pcl_output.specs.Tokens.{Token, PrintsRows};
@@ -30,7 +31,7 @@ pub fn feasible_numbers_bound_texts()
 
 /// A least walk from the first node, with the fixed part, is as long as a least page text.
 pub fn least_walk_is_least_text()
-    ensures { (dpi : Dpi) (size : Size) (copies : ℕ) (rows : List (List ℕ)) (number : ℕ) → 0 < copies → copies < 100
+    ensures { (dpi : Dpi) (size : Size) (copies : ℕ) (rows : List (List ℕ)) (number : ℕ) → 0 < copies → copies ≤ copies_limit
         → length rows ≡ page_height size dpi → AllByRecursion (IsRowOf size dpi) rows
         → IsLeastCost (Leads (page_row_bytes size dpi) rows) (Ends rows) cost start number
         → IsLeastText dpi size copies rows (fixed_bytes dpi size copies + number) }

@@ -1,6 +1,6 @@
 -- A page text while it is read.
 use Rattle.std.specs.Prelude.{◌≡◌, ℕ, ◌+◌, ◌-◌, ◌<◌, ◌≤◌, ◌↔◌, Bool, true, false, IsTrue, List, ◌∷◌, ◌++◌, length, take, drop, replicate, min, codes, decimal, Option, Some, None}
-use Rattle.pcl_base.specs.Limits.{data_limit}
+use Rattle.pcl_base.specs.Limits.{copies_limit, data_limit}
 use Rattle.std.specs.Borrow.{Bor}
 use Rattle.std.specs.List.{flat_map, AllByRecursion}
 use Rattle.pcl_base.specs.declared.dpi.Dpi.{Dpi}
@@ -42,8 +42,8 @@ raster_start size dpi = codes "0E" ++ 27 ∷ codes "*p0x0Y" ++ 27 ∷ codes "*t"
 -- the start of a text and what stands after it, or none where it doesn't begin as a text does
 abbrev pub IsStart : Dpi → List ℕ → Option Start → Type 0
 IsStart dpi text None = (copies : ℕ) (size : Size) (rest : List ℕ)
-    → 0 < copies → copies < 100 → text ≡ start_bytes dpi copies size ++ rest → ⊥
-IsStart dpi text (Some start) = (0 < start.copies) × (start.copies < 100)
+    → 0 < copies → copies ≤ copies_limit → text ≡ start_bytes dpi copies size ++ rest → ⊥
+IsStart dpi text (Some start) = (0 < start.copies) × (start.copies ≤ copies_limit)
     × (text ≡ start_bytes dpi start.copies start.size ++ start.rest.now)
 
 -- ---- what is left of a text

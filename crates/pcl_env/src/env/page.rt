@@ -16,9 +16,6 @@ use pcl_base::{Asking, COPIES_LIMIT, Profile, Size, Value};
 /// The most copies of a page.
 const MOST_COPIES: u32 = COPIES_LIMIT as u32;
 
-/// The whole part of a universal exit.
-const EXIT: i32 = -12_345;
-
 impl Env {
     /// Sets what a job begins with (PCL 5 manual, "Printer Reset").
     #[tactic(auto, unfolding(crate::specs::Outcome::outcome))]
@@ -34,7 +31,7 @@ impl Env {
     pub fn universal_exit(&mut self, value: Value) -> Result<Effect, Unsupported>
         ensures { Answers (outcome Dpi300 UniversalExit value false self.old) result self.old self.new }
     {
-        if value.whole() == EXIT {
+        if value.is_exit_number() {
             self.reset()
         } else {
             Err(Unsupported)

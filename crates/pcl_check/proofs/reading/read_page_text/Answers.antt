@@ -1,10 +1,10 @@
-use Rattle.std.proofs.Common.{◌≡◌, ℕ, ◌<◌, Bool, true, false, IsTrue, List, ◌++◌, length, take, Some, refl, sym, ap, ◌∙◌, append_assoc, arith, ◌==◌, ◌↔◌}
-use Rattle.pcl_check.proofs.Names.{flat_map, take_all, append_cancel_left, append_assoc, Dpi, Size, page_height, page_row_bytes, Picture, token_bytes, start_bytes, end_bytes, IsPageText, bitmap_rows, length_rows, Start, IsStart, RestPrints, body_of, IsBodyVerdict, raster_start, Page, Decides-eqb, the_type}
+use Rattle.std.proofs.Common.{◌≡◌, ℕ, ◌<◌, ◌≤◌, Bool, true, false, IsTrue, List, ◌++◌, length, take, Some, refl, sym, ap, ◌∙◌, append_assoc, arith, ◌==◌, ◌↔◌}
+use Rattle.pcl_check.proofs.Names.{copies_limit, flat_map, take_all, append_cancel_left, append_assoc, Dpi, Size, page_height, page_row_bytes, Picture, token_bytes, start_bytes, end_bytes, IsPageText, bitmap_rows, length_rows, Start, IsStart, RestPrints, body_of, IsBodyVerdict, raster_start, Page, Decides-eqb, the_type}
 use Rattle.pcl_check.proofs.Beginnings.{BeginsAs, begins_size, size_coded, size_read, same_size}
 use denote.Enum.Bare.{sameb, same_true, true_same}
 use Rattle.pcl_check.proofs.reading.read_page_text.Goals as goal
 
-printed_text : {dpi : Dpi} {size : Size} {copies : ℕ} {rows : List (List ℕ)} {text rest : List ℕ} → 0 < copies → copies < 100
+printed_text : {dpi : Dpi} {size : Size} {copies : ℕ} {rows : List (List ℕ)} {text rest : List ℕ} → 0 < copies → copies ≤ copies_limit
     → text ≡ start_bytes dpi copies size ++ rest → RestPrints size dpi (body_of size dpi rest) rows → IsPageText dpi size copies rows text
 printed_text {dpi} {size} {copies} some few e p = record {
   some_copies = some;
