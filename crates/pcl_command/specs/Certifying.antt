@@ -35,12 +35,13 @@ IsCertified format resolution job old new aside_old aside_new written =
     × IsOutputWritten input_limit output certificate old new aside_old aside_new written
 
 -- the same of the job that a reader gives; or that can't be read, and nothing is written
-abbrev pub HasCertifiedRead : Format → Resolution → (given left old new aside_old aside_new : Option (List ℕ))
+abbrev pub HasCertifiedRead : {F : Type 0} → Format → Resolution → (before after : World F) → (aside_old aside_new : Option (List ℕ))
     → Result (Unit {0}) Fault → Type 0
-HasCertifiedRead format resolution given left old new aside_old aside_new done =
-    ((fault : Fault) × IsReadAll given left input_limit (Err fault) × (new ≡ old) × (aside_new ≡ aside_old) × (done ≡ Err fault))
-    ⊎ ((job : Vec ℕ) × IsReadAll given left input_limit (Ok job)
-    × IsCertified format resolution job.items old new aside_old aside_new done)
+HasCertifiedRead format resolution before after aside_old aside_new done =
+    ((fault : Fault) × IsReadAll before.given after.given input_limit (Err fault) × (after.written ≡ before.written)
+    × (aside_new ≡ aside_old) × (done ≡ Err fault))
+    ⊎ ((job : Vec ℕ) × IsReadAll before.given after.given input_limit (Ok job)
+    × IsCertified format resolution job.items before.written after.written aside_old aside_new done)
 
 -- The same by where the job goes, with a certificate's file that was begun and holds this, and how that ended. A job's file is begun too,
 -- both files are settled, and nothing reaches the writer; or it can't be begun: then the certificate is dropped, and nothing was read.
@@ -48,7 +49,7 @@ abbrev pub HasCertifiedTo : {F : Type 0} → (F → FileAct → F → Type 0) �
     → (before after : World F) → Result (Unit {0}) Failure → Type 0
 HasCertifiedTo acts certificate aside resolution StandardOutput before after ended =
     (aside_holds : Option (List ℕ)) × (done settled : Result (Unit {0}) Fault)
-    × HasCertifiedRead certificate.format resolution before.given after.given before.written after.written aside aside_holds done
+    × HasCertifiedRead certificate.format resolution before after aside aside_holds done
     × IsSettledAside acts certificate.file.now aside_holds done before.files after.files settled × IsOutcome 0 settled ended
 HasCertifiedTo {F} acts certificate aside resolution (File name) before after ended =
     (after.written ≡ before.written)
@@ -57,7 +58,8 @@ HasCertifiedTo {F} acts certificate aside resolution (File name) before after en
     × HasFailedFile why failure)
     ⊎ ((begun : F) × (held holds aside_holds : Option (List ℕ)) × (done settled : Result (Unit {0}) Fault)
     × acts before.files (Begun name.now held) begun
-    × HasCertifiedRead certificate.format resolution before.given after.given held holds aside aside_holds done
+    × HasCertifiedRead certificate.format resolution (record before { written = held }) (record after { written = holds })
+    aside aside_holds done
     × AreSettled acts name.now holds certificate.file.now aside_holds done begun after.files settled × IsOutcome 0 settled ended))
 
 -- The certificate's file is begun before anything is read. Or it can't be, and then nothing was read or written.

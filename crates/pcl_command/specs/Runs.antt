@@ -44,10 +44,11 @@ IsJobRead (ExplainKind layout kind) given left (Err fault) = ⊥
 IsJobRead task given left read = IsReadAll given left input_limit read
 
 -- the task is done with the bytes of the job that a reader gives; or that can't be read, and nothing is written
-abbrev pub HasDoneRead : Task → Resolution → (given left old new : Option (List ℕ)) → Result (Unit {0}) Fault → Type 0
-HasDoneRead task resolution given left old new done =
-    ((fault : Fault) × IsJobRead task given left (Err fault) × (new ≡ old) × (done ≡ Err fault))
-    ⊎ ((job : Vec ℕ) × IsJobRead task given left (Ok job) × IsDoneSeen task resolution job.items old new done)
+abbrev pub HasDoneRead : {F : Type 0} → Task → Resolution → (before after : World F) → Result (Unit {0}) Fault → Type 0
+HasDoneRead task resolution before after done =
+    ((fault : Fault) × IsJobRead task before.given after.given (Err fault) × (after.written ≡ before.written) × (done ≡ Err fault))
+    ⊎ ((job : Vec ℕ) × IsJobRead task before.given after.given (Ok job)
+    × IsDoneSeen task resolution job.items before.written after.written done)
 
 -- The same by where it writes to, and how that ended. A file is begun, holds what was written, and is settled, and nothing reaches the
 -- writer; or it can't be begun, and then nothing was read.
@@ -55,13 +56,14 @@ abbrev pub HasWrittenTo : {F : Type 0} → (F → FileAct → F → Type 0) → 
     → Result (Unit {0}) Failure → Type 0
 HasWrittenTo acts task resolution target.StandardOutput before after ended =
     (done : Result (Unit {0}) Fault) × (after.files ≡ before.files)
-    × HasDoneRead task resolution before.given after.given before.written after.written done × IsOutcome (task_page task) done ended
+    × HasDoneRead task resolution before after done × IsOutcome (task_page task) done ended
 HasWrittenTo {F} acts task resolution (target.File name) before after ended =
     (after.written ≡ before.written)
     × (((why : FileFault) × (failure : Failure) × acts before.files (Unbegun name.now why) after.files × (after.given ≡ before.given)
     × (ended ≡ Err failure) × HasFailedFile why failure)
     ⊎ ((begun : F) × (held holds : Option (List ℕ)) × (done settled : Result (Unit {0}) Fault)
-    × acts before.files (Begun name.now held) begun × HasDoneRead task resolution before.given after.given held holds done
+    × acts before.files (Begun name.now held) begun
+    × HasDoneRead task resolution (record before { written = held }) (record after { written = holds }) done
     × IsSettled acts name.now holds done begun after.files settled × IsOutcome (task_page task) settled ended))
 
 -- what is asked for is written, with the job that a reader gives
