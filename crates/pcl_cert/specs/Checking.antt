@@ -51,28 +51,21 @@ IsGoodInTables page lists row method place =
     let rows = bitmap_rows page.bitmap in
     IsGoodPlace method (row_above width rows row) (row_at rows row) (table_of (width + 1) (list_of lists row method)) place
 
--- a place stands before another in a certificate: row after row, in a row method after method, and then place after place
-abbrev pub IsBefore : ℕ → Method → ℕ → BadPlace → Type 0
-IsBefore row method place bad = (row < bad.row)
-    ⊎ ((row ≡ bad.row) × ((method_code method < method_code bad.method) ⊎ ((method ≡ bad.method) × (place < bad.place))))
-
--- the first place whose number isn't good
+-- the first place whose number isn't good: row after row, in a row method after method, and then place after place
 pub record IsFirstBadIn (page : Page) (lists : List (List ℕ)) (bad : BadPlace) : Type 0 where
   pub row_within : bad.row < page_height page.size page.dpi
   pub place_within : bad.place ≤ page_row_bytes page.size page.dpi
   pub is_bad : IsGoodInTables page lists bad.row bad.method bad.place → ⊥
-  pub first : (row : ℕ) (method : Method) (place : ℕ) → place ≤ page_row_bytes page.size page.dpi → IsBefore row method place bad
+  pub first : (row : ℕ) (method : Method) (place : ℕ) → place ≤ page_row_bytes page.size page.dpi
+      → (row < bad.row)
+      ⊎ ((row ≡ bad.row) × ((method_code method < method_code bad.method) ⊎ ((method ≡ bad.method) × (place < bad.place))))
       → IsGoodInTables page lists row method place
-
--- all numbers are good
-abbrev pub AreGoodIn : Page → List (List ℕ) → Type 0
-AreGoodIn page lists = (row : ℕ) (method : Method) (place : ℕ) → row < page_height page.size page.dpi
-    → place ≤ page_row_bytes page.size page.dpi → IsGoodInTables page lists row method place
 
 -- the numbers of all places of the page's rows are good, where there are row tables
 abbrev pub ArePlacesGood : Page → Tables → Type 0
 ArePlacesGood page None = Unit {0}
-ArePlacesGood page (Some lists) = AreGoodIn page lists
+ArePlacesGood page (Some lists) = (row : ℕ) (method : Method) (place : ℕ) → row < page_height page.size page.dpi
+    → place ≤ page_row_bytes page.size page.dpi → IsGoodInTables page lists row method place
 
 -- the first place whose number isn't good, where there are row tables; without them there is none
 abbrev pub IsFirstBadPlaceOf : Page → Tables → BadPlace → Type 0

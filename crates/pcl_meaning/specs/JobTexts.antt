@@ -29,13 +29,9 @@ abbrev pub PrintEach : (Page → List ℕ → Type 0) → Dpi → List Sheet →
 PrintEach Holds dpi sheets texts =
     AreTexts (λ (sheet : Sheet) (text : List ℕ). (page : Page) × Shows dpi page sheet × Holds page text) sheets texts
 
--- no text that prints the page is shorter
-abbrev pub IsShortest : Page → List ℕ → Type 0
-IsShortest page text = (other : List ℕ) → PrintsPage page other → length text ≤ length other
-
 -- a text prints the page, in any spelling, and is as short as any that does
 abbrev pub PrintsShortest : Page → List ℕ → Type 0
-PrintsShortest page text = PrintsPage page text × IsShortest page text
+PrintsShortest page text = PrintsPage page text × ((other : List ℕ) → PrintsPage page other → length text ≤ length other)
 
 -- a job text of these pages: a reset, page texts that print them in order, and a reset
 pub record IsJobText (dpi : Dpi) (pages : List Sheet) (job : List ℕ) : Type 0 where

@@ -20,18 +20,6 @@ pub data Token : Type 0 where
   skip : List ℕ → ℕ → Bool → Token
   send : List ℕ → List ℕ → Token
 
--- M, the letter of a method
-abbrev pub method_letter : ℕ
-method_letter = 77
-
--- Y, that of rows that are skipped
-abbrev pub skip_letter : ℕ
-skip_letter = 89
-
--- W, that of a row, before its data
-abbrev pub row_letter : ℕ
-row_letter = 87
-
 -- a letter is a capital where it ends the sequence
 abbrev pub letter : ℕ → Bool → List ℕ
 letter capital true = capital ∷ []
@@ -40,9 +28,9 @@ letter capital false = (capital + 32) ∷ []
 -- the bytes of a token in a page text
 abbrev pub token_bytes : Token → List ℕ
 token_bytes opening = 27 ∷ codes "*b"
-token_bytes (method digits next ends) = digits ++ letter method_letter ends
-token_bytes (skip digits count ends) = digits ++ letter skip_letter ends
-token_bytes (send digits bytes) = digits ++ row_letter ∷ bytes
+token_bytes (method digits next ends) = digits ++ letter 77 ends
+token_bytes (skip digits count ends) = digits ++ letter 89 ends
+token_bytes (send digits bytes) = digits ++ 87 ∷ bytes
 
 -- decimal digits with any leading zeros; 0 may have none
 abbrev pub IsSpelled : List ℕ → ℕ → Type 0
