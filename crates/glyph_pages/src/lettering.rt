@@ -163,6 +163,11 @@ impl<'a> PageWriter<'a> {
         self.letters.restart();
     }
 
+    /// Forgets the dots that it holds to write the next page sooner, which take as much memory as a page.
+    pub fn forget_sheet(&mut self) {
+        self.rest.forget_sheet();
+    }
+
     /// Appends the next page: its text without letters, or one with letters where it takes fewer bytes, and with its rules as rectangles
     /// where that takes fewer yet.
     pub fn append_page(

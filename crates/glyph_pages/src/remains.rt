@@ -86,6 +86,11 @@ impl RestWriter {
         self.pen = RulePen::new();
     }
 
+    /// Forgets the dots that nobody needs any more, which take as much memory as a page.
+    pub fn forget_sheet(&mut self) {
+        self.sheet = None;
+    }
+
     /// Appends the shortest rest of a page and what prints its letters, or its text without any where that has no more bytes. Says whether
     /// it has the letters.
     pub fn append_shorter(
@@ -98,7 +103,7 @@ impl RestWriter {
         let room = whole.room.map(|room| room.saturating_sub(printed.len()));
         let rest = self.shortest_rest(*out.allocator(), taken, whole.page, room)?;
         if whole.plain.len() > SHEET_BYTES {
-            self.sheet = None;
+            self.forget_sheet();
         }
         if let Some(rest) = rest {
             if rest.text.len().saturating_add(printed.len()) < whole.plain.len() {

@@ -26,11 +26,11 @@ pub struct KeptJobs<'a> {
     pub also: Option<KeptJob<'a>>,
 }
 
-/// How many bytes pages may take that are kept while a job is read: as many as the dots of one have. A job whose pages take more is kept
-/// where it is compared, once what proposes has gone.
+/// How many bytes pages may take that are kept while a job is read: half as many as the dots of one have. A job whose pages take more is
+/// kept where it is compared, once what proposes has gone.
 pub fn room_of(dpi: Dpi) -> usize {
     let rows = Size::Letter.height(dpi) as usize;
-    Size::Letter.row_bytes(dpi).saturating_mul(rows)
+    Size::Letter.row_bytes(dpi).saturating_mul(rows) / 2
 }
 
 /// A job at each resolution at which it counts, where it is kept already.

@@ -32,40 +32,43 @@ pub fn letter_job<'b, P: ShrinkWatcher>(
     }
 }
 
-/// Texts of pages are performed together up to this many bytes: each performing has a page of its own.
+/// Texts of pages are performed together up to this many bytes: each performing has a page of its own, beside which no other is held when
+/// it ends.
 const TOGETHER_BYTES: usize = 65_536;
 
 /// Performs texts of pages, one after the other. Longer ones aren't copied.
-fn perform_texts<S: PageSink>(
+fn perform_texts<P: ShrinkWatcher>(
     source: ReadJob<'_>,
     texts: &[Vec<u8>],
-    sink: &mut S,
+    writer: &mut LetterWriter<'_, '_, P>,
 ) -> Result<(), JobFault> {
     let mut together = Vec::new(source.alloc);
     for text in texts {
         if together.len().saturating_add(text.len()) > TOGETHER_BYTES {
-            perform_text(source, &together, sink)?;
+            perform_text(source, &together, writer)?;
             together.clear();
         }
         if text.len() > TOGETHER_BYTES {
-            perform_text(source, text, sink)?;
+            perform_text(source, text, writer)?;
         } else {
             together.extend_from_slice(text)?;
         }
     }
-    perform_text(source, &together, sink)
+    perform_text(source, &together, writer)
 }
 
 /// Performs a text, if it isn't empty.
-fn perform_text<S: PageSink>(
+fn perform_text<P: ShrinkWatcher>(
     source: ReadJob<'_>,
     text: &[u8],
-    sink: &mut S,
+    writer: &mut LetterWriter<'_, '_, P>,
 ) -> Result<(), JobFault> {
     if text.is_empty() {
         return Ok(());
     }
-    perform_by(source.alloc, text, source.profile, source.dpi, sink)
+    perform_by(source.alloc, text, source.profile, source.dpi, writer)?;
+    writer.writer.forget_sheet();
+    Ok(())
 }
 
 /// Writes the pages that come. A universal exit may delete fonts and macros: so the pages up to the next one are a stretch, which is
