@@ -84,8 +84,8 @@ fn certify_read<R: Read, W: Write, C: Write, P: Watcher>(
     aside: &mut C,
     watcher: P,
 ) -> Result<(), Fault>
-    ensures { HasCertifiedRead format resolution (world tt (R.remaining reader.old) (W.contents out.old))
-        (world tt (R.remaining reader.new) (W.contents out.new)) (C.contents aside.old) (C.contents aside.new) result }
+    ensures { HasCertifiedRead format resolution (world (tt {0}) (R.remaining reader.old) (W.contents out.old))
+        (world (tt {0}) (R.remaining reader.new) (W.contents out.new)) (C.contents aside.old) (C.contents aside.new) result }
 {
     let job = read_all(alloc, reader, INPUT_LIMIT)?;
     certify_job(alloc, format, resolution, &job, out, aside, watcher)

@@ -168,8 +168,8 @@ fn do_read<R: Read, W: Write, P: Reporter>(
     out: &mut W,
     watcher: P,
 ) -> Result<(), Fault>
-    ensures { HasDoneRead task resolution (world tt (R.remaining reader.old) (W.contents out.old))
-        (world tt (R.remaining reader.new) (W.contents out.new)) result }
+    ensures { HasDoneRead task resolution (world (tt {0}) (R.remaining reader.old) (W.contents out.old))
+        (world (tt {0}) (R.remaining reader.new) (W.contents out.new)) result }
 {
     let job = read_job(alloc, task, reader)?;
     do_seen(alloc, task, resolution, &job, out, watcher)

@@ -6,13 +6,15 @@ pub returns-in_err-shrunk : goal.returns-in_err-shrunk
 returns-in_err-shrunk g c =
     let p = err_from_is_err_and c.from_residual.result c.from_residual.ensures.1 in
     let job = c.args.job.now in
+    let how = c.args.how in
     rw (p.1, p.2)
-    (unwritten (IsWrittenEverywhereUnder c.args.readers c.args.profiles job) (IsRefusedEverywhereUnder c.args.profiles job) _ _
-    (unshrunk_everywhere c.args.readers c.args.profiles job c.in_err-shrunk.field-0.0 c.in_err-shrunk.ensures))
+    (unwritten (IsWrittenEverywhereUnder how.readers how.profiles job) (IsRefusedEverywhereUnder how.profiles job) _ _
+    (unshrunk_everywhere how.readers how.profiles job c.in_err-shrunk.field-0.0 c.in_err-shrunk.ensures))
 
 pub returns : goal.returns
 returns g c =
     let job = c.args.job.now in
-    written (IsWrittenEverywhereUnder c.args.readers c.args.profiles job) (IsRefusedEverywhereUnder c.args.profiles job) _ _ _
-    (written_everywhere_under c.args.readers c.args.profiles job c.in_ok-shrunk.shrunk c.in_ok-shrunk.ensures)
+    let how = c.args.how in
+    written (IsWrittenEverywhereUnder how.readers how.profiles job) (IsRefusedEverywhereUnder how.profiles job) _ _ _
+    (written_everywhere_under how.readers how.profiles job c.in_ok-shrunk.shrunk c.in_ok-shrunk.ensures)
     (rw c.deref.ensures.value at c.write_all.ensures)
