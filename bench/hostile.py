@@ -27,8 +27,8 @@ With --commands it makes jobs of one kind of command each, the dearest that are 
 `min` take for 1 MB of these commands: of those that take longest for 20 KB, in proportion.
 
 With --shrink it makes jobs of 256 pages by macros, or of PAGES, for 300 and for 600 dots per inch, and prints what `min` and `shrink` take
-of each, without options and by the drivers' profile: the processor's seconds, the least of as many runs as take a second, the peak memory
-that GNU time tells, and the bytes that are written. The status is 1 where `shrink` takes more than FACTORS times what `min` does.
+of each, without options and by the drivers' profile: the processor's seconds, the median of as many runs as take two seconds, the peak
+memory that GNU time tells, and the bytes that are written. The status is 1 where `shrink` takes more than FACTORS times what `min` does.
 
 checkerboard    black and white dots in turn
 random_dots     1,000 rows of random dots, again and again
@@ -50,6 +50,7 @@ import subprocess
 import sys
 import time
 from pathlib import Path
+from statistics import median
 
 # A fixed font of all codes and a pitch of 0, so that text doesn't move the cursor.
 HEADER = bytes([0, 64, 0, 2] + 60 * [0])
@@ -310,11 +311,12 @@ FACTORS = 4, 2
 
 
 def taken(program, how, path, dpi, *options):
-    """The processor's seconds and the bytes of memory of a run, and the bytes that it writes: the least time of as many runs as take a
-    second. The memory is what GNU time tells, since what a child held before it was the program counts for this script."""
+    """The processor's seconds and the bytes of memory of a run, and the bytes that it writes: the median time of as many runs as take two
+    seconds, since a processor may be twice as fast for some milliseconds. The memory is what GNU time tells, since what a child held before
+    it was the program counts for this script."""
     out, runs = path.with_suffix("." + how), []
     command = ["/usr/bin/time", "-f", "%M", program, how, *options, "--dpi", str(dpi), "-o", out, path]
-    while not runs or sum(seconds for seconds, _ in runs) < 1 and len(runs) < 9:
+    while not runs or sum(seconds for seconds, _ in runs) < 2 and len(runs) < 20:
         process = subprocess.Popen(command, stderr=subprocess.PIPE, text=True)
         told = process.stderr.read().splitlines()
         _, status, usage = os.wait4(process.pid, 0)
@@ -323,7 +325,7 @@ def taken(program, how, path, dpi, *options):
         runs.append((usage.ru_utime + usage.ru_stime, 1024 * int(told[-1])))
     written = out.stat().st_size
     out.unlink()
-    return min(seconds for seconds, _ in runs), max(memory for _, memory in runs), written
+    return median(seconds for seconds, _ in runs), max(memory for _, memory in runs), written
 
 
 # What printers read otherwise is shrunk too.
