@@ -38,7 +38,7 @@ struct Apart<'a> {
 }
 
 /// Joins shapes that stand above each other on a line, where that takes fewer bytes: two by two until there are none to join, or they have
-/// as many parts as they may. `frequency` is what the shapes of each pattern take. Says whether any were joined.
+/// as many parts as they may. `frequency` is what the shapes of each pattern took before any were divided. Says whether any were joined.
 pub fn join_shapes(
     alloc: Global,
     collection: &mut Collection,

@@ -14,8 +14,8 @@ pub struct LetterGlyph {
     pub top: i32,
 }
 
-/// A shape that is printed as a letter. Their order is that of printing: by pages, by lines, and from left to right. A job may have very
-/// many.
+/// A shape that is printed as a letter. Their order is that of printing: by pages, by lines, and from left to right. A job may have
+/// hundreds of thousands, so they are small.
 #[derive(Clone, Copy, PartialEq, Eq, PartialOrd, Ord)]
 pub struct Letter {
     /// The number of the page, from 0.

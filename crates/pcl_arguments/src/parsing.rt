@@ -204,13 +204,13 @@ fn profile_of(command: &ArgMatches<'_>) -> Profile {
 /// How jobs are shrunk.
 fn shrinking_of(command: &ArgMatches<'_>) -> Shrinking {
     Shrinking {
-        profiles: profiles_of(command),
+        profiles: profiles_of_shrinking(command),
         readers: readers_of(command),
     }
 }
 
 /// By which profiles a job is read that is shrunk.
-fn profiles_of(command: &ArgMatches<'_>) -> Profiles {
+fn profiles_of_shrinking(command: &ArgMatches<'_>) -> Profiles {
     if command.get_flag("stated") {
         Profiles::Stated
     } else if command.get_flag("drivers") {

@@ -21,7 +21,7 @@ pub struct KeptBitmap {
     pub dpi: Dpi,
     /// The data of all rows, one after the other.
     pub data: Vec<u8>,
-    /// Where the data of each row begins, and where that of the last one ends. Most rows of most pages have none: so these count.
+    /// Where the data of each row begins, and where that of the last one ends. Most rows have no data, so that these take more memory.
     pub starts: Vec<u32>,
     ghost count: { length starts.items ≡ page_height size dpi + 1 },
     ghost pieces: { (y : ℕ) → y < page_height size dpi → IsPiece data.items starts.items y },

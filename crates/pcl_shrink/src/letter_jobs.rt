@@ -32,8 +32,7 @@ pub fn letter_job<'b, P: ShrinkWatcher>(
     }
 }
 
-/// Texts of pages are performed together up to this many bytes: each performing has a page of its own, beside which no other is held when
-/// it ends.
+/// Texts of pages are performed together up to this many bytes: each performing has a page of its own.
 const TOGETHER_BYTES: usize = 65_536;
 
 /// Performs texts of pages, one after the other. Longer ones aren't copied.
@@ -57,7 +56,7 @@ fn perform_texts<P: ShrinkWatcher>(
     perform_text(source, &together, writer)
 }
 
-/// Performs a text, if it isn't empty.
+/// Performs a text, if it isn't empty. Then no page is held: one that outlives this performing's would keep the next one's from its place.
 fn perform_text<P: ShrinkWatcher>(
     source: ReadJob<'_>,
     text: &[u8],
@@ -144,11 +143,20 @@ impl<'a, 'b, P: ShrinkWatcher> LetterWriter<'a, 'b, P> {
         }
     }
 
+    /// With how many bytes what is written is too long, whatever repeats in it.
+    fn limit_with_repeats(&self) -> usize {
+        self.limit.saturating_add(REPEATED_BYTES)
+    }
+
+    /// Whether the stretch is too long without letters.
+    fn needs_letters(&self) -> bool {
+        self.place.saturating_add(self.whole) >= self.limit_with_repeats()
+    }
+
     /// With how many bytes more what is written is too long: none as long as the stretch is not without letters.
     fn room(&self) -> Option<usize> {
-        let limit = self.limit.saturating_add(REPEATED_BYTES);
-        let is_too_long = self.place.saturating_add(self.whole) >= limit;
-        is_too_long.then_some(limit.saturating_sub(self.out.len()))
+        let room = self.limit_with_repeats().saturating_sub(self.out.len());
+        self.needs_letters().then_some(room)
     }
 
     /// Gives up, since what is written would be too long: nothing is left of it.
@@ -201,7 +209,7 @@ impl<'a, 'b, P: ShrinkWatcher> LetterWriter<'a, 'b, P> {
             self.lettering.append_deletion(&mut self.out)?;
         }
         let is_shorter = self.out.len().saturating_sub(self.place) < self.plain;
-        if is_shorter || self.room().is_some() {
+        if is_shorter || self.needs_letters() {
             self.has_letters = true;
         } else {
             self.take_plain_if_shorter()?;
