@@ -8,7 +8,7 @@ pub use Rattle.pcl_base.specs.declared.{dpi.Dpi.Dpi, dpi.Dpi.TheVariants.Dpi300,
 pub use Rattle.pcl_bitmap.proofs.Names.{Picture, row_of}
 pub use Rattle.pcl_bitmap.specs.declared.{page.Page.Page}
 pub use Rattle.pcl_rows.proofs.Names.{IsRowData, RowFrom, base, overlaid}
-pub use Rattle.pcl_rows.proofs.{Overlays.overlaid_within, Readings.plain_elements, Readings.row_of_plain}
+pub use Rattle.pcl_rows.proofs.{Decoded.decoded_is, Overlays.overlaid_within, Readings.plain_elements, Readings.row_of_plain}
 pub use Rattle.pcl_coders.proofs.{Filling.first_bounds, Filling.first_is_least, RowWalks.length-base}
 pub use Rattle.pcl_coders.proofs.Names.{IsCodable, IsLeastTable, IsRowTable}
 pub use Rattle.pcl_output.proofs.{DigitCounts.count_of_some, RowsFrom.length_rows, RowsFrom.row_of_bytes, Texts.text_bounded, Texts.text_of_least, Texts.widths, TokenCosts.cost_method, TokenCosts.cost_opening, TokenCosts.cost_send, TokenCosts.method_small, TokenCosts.row_cost_small, TokenCosts.spelled_cost, Walking.above_width, Walking.node, Walking.row_width}

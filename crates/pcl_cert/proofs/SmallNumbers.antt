@@ -1,6 +1,6 @@
 -- The numbers of a plan are small: each row can be sent as it is.
 use Rattle.std.proofs.Common.{◌≡◌, ℕ, zero, suc, ◌+◌, ◌-◌, ◌*◌, ◌^◌, ◌<◌, ◌≤◌, Bool, true, false, List, [], ◌∷◌, length, refl, sym, subst, ◌∙◌, arith}
-use Rattle.pcl_cert.proofs.Names.{slice_index_or, AllByRecursion, append-nil, drop_all, row_limit, Method, Plain, Runs, Packed, Delta, method_code, base, RowFrom, IsRowData, overlaid, overlaid_within, plain_elements, row_of_plain, IsCodable, length-base, IsFeasible, opening, method, send, Node, row_at, row_above, Leads, Ends, cost, AreOfWidth, least_spelling, node_number, no_numbers, RowNumbers, node, row_width, above_width, cost_opening, cost_method, cost_send, method_small, spelled_cost, row_cost_small, AreSmall}
+use Rattle.pcl_cert.proofs.Names.{slice_index_or, AllByRecursion, append-nil, drop_all, row_limit, Method, Plain, Runs, Packed, Delta, method_code, base, RowFrom, IsRowData, decoded_is, overlaid, overlaid_within, plain_elements, row_of_plain, IsCodable, length-base, IsFeasible, opening, method, send, Node, row_at, row_above, Leads, Ends, cost, AreOfWidth, least_spelling, node_number, no_numbers, RowNumbers, node, row_width, above_width, cost_opening, cost_method, cost_send, method_small, spelled_cost, row_cost_small, AreSmall}
 
 -- ---- plain data
 
@@ -14,7 +14,7 @@ plain_row {seed} {row} codable =
     let elements = plain_elements row in
     record {
       whole = (elements.0, elements.1, elements.2, omega (arith, elements.3));
-      decodes = subst (λ (made : List ℕ). RowFrom Plain row old made) laid (row_of_plain row old);
+      decodes = decoded_is Plain seed row row (subst (λ (made : List ℕ). RowFrom Plain row old made) laid (row_of_plain row old));
       fits = omega (arith, codable.small);
     }
 

@@ -1,6 +1,6 @@
 -- From what is left before a token to what is left after it.
 use Rattle.std.proofs.Common.{◌≡◌, ◌≢◌, ℕ, zero, suc, ◌-◌, ◌<◌, ◌≤◌, Bool, true, false, List, [], ◌∷◌, ◌++◌, length, replicate, Some, refl, sym, ap, ◌∙◌, append_assoc, arith, le_refl}
-use Rattle.pcl_check.proofs.Names.{not, flat_map, AllByRecursion, length-append, length-replicate, take_at, drop_at, take_all, drop_all, append-nil, zero-div, same_fronts, white_byte, Dpi, Method, Size, method_code, method_with_code, page_row_bytes, is_digit, number_of, AreDigits, IsRowData, decoded_is, Token, method, skip, send, token_bytes, IsWhite, AreWhite, end_bytes, IsRowOf, LeftOver, RestPrints, GivesRows, nat_tests}
+use Rattle.pcl_check.proofs.Names.{not, flat_map, AllByRecursion, length-append, length-replicate, take_at, drop_at, take_all, drop_all, append-nil, zero-div, same_fronts, white_byte, Dpi, Method, Size, method_code, method_with_code, page_row_bytes, is_digit, number_of, AreDigits, IsRowData, Token, method, skip, send, token_bytes, IsWhite, AreWhite, end_bytes, IsRowOf, LeftOver, RestPrints, GivesRows, nat_tests}
 use Rattle.pcl_output.specs.Tokens.{PrintsRows}
 use Rattle.pcl_check.proofs.Splits.{no_split}
 use Rattle.pcl_check.proofs.Fronts.{letter_code, letter_is, left_over, white_rows, white_front, Told, front_at, is_method, is_skip, is_send, no_digit}
@@ -95,8 +95,8 @@ module _ {size : Size} {dpi : Dpi} {left : LeftOver} {digits rest : List ℕ} {b
       | is_skip last others c positive within r p ↦ absurd (grind arith)
       | is_send sent behind painted others c m r positive f row row_data p ↦
           let same = same_fronts sent bytes (sym m ∙ n) (sym r ∙ parts) in
-          let one = decoded_is left.method left.above sent painted row_data.decodes in
-          let other = decoded_is left.method left.above bytes first is_data.decodes in
+          let one = row_data.decodes in
+          let other = is_data.decodes in
           let same_row : painted ≡ first = cc in (others, cc, rw (sym same.1, sym same_row) p)
     ];
     joins = λ rows printed. record {

@@ -8,7 +8,7 @@ pub use Rattle.pcl_base.specs.declared.{dpi.Dpi.Dpi, method.Method.Method, metho
 pub use Rattle.pcl_bitmap.proofs.Names.{Picture, dot_of_row, row_of}
 pub use Rattle.pcl_bitmap.specs.declared.{page.Page.Page}
 pub use Rattle.pcl_rows.proofs.{Decoded.decoded_is}
-pub use Rattle.pcl_rows.proofs.Names.{Decodes, Element, IsRowData, IsWhole, base, given, offset_of, stop}
+pub use Rattle.pcl_rows.proofs.Names.{Element, IsRowData, IsWhole, base, given, offset_of, stop}
 pub use Rattle.pcl_coders.proofs.{Choices.IsShapeElement, Choices.agrees_gives, Choices.byte_step, Choices.literal_step, Choices.repeat_step, Choices.replace_step, Choices.run_step, Ends.AreSameFrom, Ends.ends_at, Ends.ends_by, Ends.same_before, Ends.same_past, Ends.white_byte, Lengths.least_alone, Lengths.length_small, Prefixes.least_min_next, Prefixes.run_len_of, Shapes.IsRepeat, Shapes.delta_shape, Shapes.far_bytes, Shapes.near_bytes, Shapes.packed_shape, Shapes.plain_shape, Shapes.runs_shape}
 pub use Rattle.pcl_coders.proofs.Names.{IsLeastLen, IsLeastLength, IsLeastOf, IsRowTable, element_of, replacement_bytes, shape_stop}
 pub use Rattle.pcl_coders.specs.declared.{shape.Shape.Shape}

@@ -2,7 +2,7 @@
 use Rattle.std.specs.Prelude.{◌≡◌, ℕ, ◌+◌, ◌<◌, ◌≤◌, List, length, slice_index, Option, MatchOption}
 use Rattle.pcl_base.specs.declared.method.Method.{Method}
 use Rattle.pcl_rows.specs.Elements.{Element}
-use Rattle.pcl_rows.specs.Rows.{base}
+use Rattle.pcl_rows.specs.Decoding.{base}
 use Rattle.pcl_coders.specs.RowWalks.{Leads, Ends, cost, IsRowTable}
 
 -- no element that agrees with the row undercuts the number of the place, and it is 0 where no more data is needed

@@ -8,7 +8,7 @@ mod windows;
 ghost use Rattle.std.specs.Prelude.{◌≡◌, ℕ, ◌+◌, ◌-◌, ◌<◌, ◌≤◌, length, replicate, slice_index};
 ghost use Rattle.pcl_base.specs.declared.method.Method.TheVariants as methods;
 ghost use Rattle.pcl_base.specs.Limits.{row_limit};
-ghost use Rattle.pcl_rows.specs.Rows.{base};
+ghost use Rattle.pcl_rows.specs.Decoding.{base};
 ghost use Rattle.pcl_coders.specs.Coding.{IsCodable};
 ghost use Rattle.pcl_check.specs.Places.{FindsPlace, FindsBadPlace};
 ghost use Rattle.pcl_check.specs.inner.PlacePasses.{IsGoodEnd, IsGoodByte, AreGoodRuns, AreGoodLiterals, AreGoodReplacements, AreGoodSteps};

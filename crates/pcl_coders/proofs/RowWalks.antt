@@ -1,6 +1,6 @@
 -- Whole data for a row is a walk from its first place, of the same cost, and each such walk is data.
 use Rattle.std.proofs.Common.{◌≡◌, ℕ, ◌+◌, ◌-◌, ◌<◌, ◌≤◌, ◌⊎◌, List, [], ◌∷◌, ◌++◌, length, take, drop, refl, sym, ap, ◌∙◌, subst, inl, inr, append_assoc, arith}
-use Rattle.pcl_coders.proofs.Names.{flat_map, append-nil, take_all, drop_at, drop-drop, length-append, length-take, length-drop, length-replicate, drop-nil, length-copied, Method, Delta, Head, Near, Far, head_bytes, new_count, offset_of, Element, IsElement, AreElements, element_bytes, given, given_by, stop, reach, base, after_element, after_elements, RowFrom, IsRowData, IsCutIntoElements, after_none, some_element, spelling_has_byte, one_row, Walk, total, Agrees, Leads, Ends, cost}
+use Rattle.pcl_coders.proofs.Names.{flat_map, append-nil, take_all, drop_at, drop-drop, length-append, length-take, length-drop, length-replicate, drop-nil, length-copied, Method, Delta, Head, Near, Far, head_bytes, new_count, offset_of, Element, IsElement, AreElements, element_bytes, given, given_by, stop, reach, base, after_element, after_elements, RowFrom, IsRowData, IsCutIntoElements, after_none, some_element, spelling_has_byte, decoded_is, Walk, total, Agrees, Leads, Ends, cost}
 
 -- the untreated bytes stay after the elements
 abbrev pub kept : List ℕ → List ℕ
@@ -87,8 +87,8 @@ walk_of_data {method} {seed} {row} {bytes} size has =
     let old : List ℕ = base method seed in
     let same : length old ≡ length row = length-base method seed ∙ size in
     let w = has.whole in
-    let decoded = rw (← w.2) at (elements_decode old w.0 w.1) in
-    let cut = one_row method bytes old row (take (length old) (after_elements w.0 kept old)) has.decodes decoded in
+    let read = rw (← w.2) at (elements_decode old w.0 w.1) in
+    let cut = has.decodes ∙ sym (decoded_is method seed bytes (take (length old) (after_elements w.0 kept old)) read) in
     let made : after_elements w.0 kept old ≡ row =
     sym (take_all (length old) (after_elements w.0 kept old) (omega (arith, length-after w.0 old (omega (arith, w.3))))) ∙ sym cut in
     (w.0, walk_from_elements method old row w.0 0 same w.1 (omega (arith, w.3)) made, total_is w.0 ∙ ap length (sym w.2))
@@ -102,7 +102,7 @@ data_of_walk {method} {seed} {row} es size small walk =
     let m = walk_makes method old row es 0 same walk in
     record {
       whole = (es, m.0, refl, omega (arith, m.1));
-      decodes = subst (RowFrom method (flat_map element_bytes es) old)
-          (take_all (length old) (after_elements es kept old) (omega (arith, ap length m.2)) ∙ m.2) (elements_decode old es m.0);
+      decodes = decoded_is method seed (flat_map element_bytes es) row (subst (RowFrom method (flat_map element_bytes es) old)
+          (take_all (length old) (after_elements es kept old) (omega (arith, ap length m.2)) ∙ m.2) (elements_decode old es m.0));
       fits = omega (arith, total_is es);
     }

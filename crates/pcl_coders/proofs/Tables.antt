@@ -1,6 +1,6 @@
 -- Tables that are known without being filled, and what a table of least numbers says of its places.
-use Rattle.std.proofs.Common.{◌≡◌, ℕ, ◌+◌, ◌-◌, ◌⊎◌, List, [], ◌∷◌, ◌++◌, length, take, drop, refl, ap, ◌∙◌, subst, inl, inr, arith, zero-add}
-use Rattle.pcl_coders.proofs.Names.{slice_index, cases_lt, length-take-le, drop_at, take-append-drop, Method, Plain, Element, stop, base, RowFrom, IsRowData, overlaid, overlaid_within, plain_elements, row_of_plain, one_row, spelling_has_byte, Walk, total, Leads, Ends, cost, IsRowTable, IsLeastTable, IsCodable, IsLeastLength, AppendsLeast, IsNext, AreRightFrom, IsFirstEnd, feasible_bounds}
+use Rattle.std.proofs.Common.{◌≡◌, ℕ, ◌+◌, ◌-◌, ◌⊎◌, List, [], ◌∷◌, ◌++◌, length, take, drop, refl, sym, ap, ◌∙◌, subst, inl, inr, arith, zero-add}
+use Rattle.pcl_coders.proofs.Names.{slice_index, cases_lt, length-take-le, drop_at, take-append-drop, Method, Plain, Element, stop, base, RowFrom, IsRowData, overlaid, overlaid_within, plain_elements, row_of_plain, decoded_is, spelling_has_byte, Walk, total, Leads, Ends, cost, IsRowTable, IsLeastTable, IsCodable, IsLeastLength, AppendsLeast, IsNext, AreRightFrom, IsFirstEnd, feasible_bounds}
 use Rattle.pcl_coders.proofs.RowWalks.{length-base, data_of_walk}
 use Rattle.pcl_coders.proofs.Filling.{row_table_small}
 
@@ -27,7 +27,7 @@ plain_data {seed} {row} {end} codable first =
     let elements = plain_elements (take end row) in
     record {
       whole = (elements.0, elements.1, elements.2, omega (arith, elements.3, long, first.within));
-      decodes = subst (RowFrom Plain (take end row) old) laid (row_of_plain (take end row) old);
+      decodes = decoded_is Plain seed (take end row) row (subst (RowFrom Plain (take end row) old) laid (row_of_plain (take end row) old));
       fits = omega (arith, long, first.within, codable.small);
     }
 
@@ -42,7 +42,7 @@ plain_least {seed} {row} {end} codable first =
           elim (cases_lt (length row) (length bytes)) [
             | inl more ↦ omega (arith, first.within)
             | inr fits ↦
-                let laid = one_row Plain bytes old row (overlaid old 0 bytes) has.decodes (row_of_plain bytes old)
+                let laid = has.decodes ∙ sym (decoded_is Plain seed bytes (overlaid old 0 bytes) (row_of_plain bytes old))
                 ∙ overlaid_within old 0 bytes (omega arith) in
                 first.first (length bytes)
                 (ap (drop (length bytes)) (rw zero-add at laid) ∙ drop_at bytes (drop (length bytes) old) (length bytes) refl)

@@ -3,7 +3,7 @@ use Rattle.std.specs.Prelude.{◌≡◌, ℕ, ◌+◌, ◌≤◌, List, ◌++◌
 use Rattle.pcl_base.specs.declared.method.Method.{Method}
 use Rattle.pcl_rows.specs.Heads.{offset_of}
 use Rattle.pcl_rows.specs.Elements.{Element, IsElement, element_bytes, given, stop}
-use Rattle.pcl_rows.specs.Rows.{base}
+use Rattle.pcl_rows.specs.Decoding.{base}
 use Rattle.pcl_base.specs.Walks.{IsFeasible, IsAttained}
 
 -- an element that makes untreated bytes the wanted ones, as far as it goes: those that it leaves are the

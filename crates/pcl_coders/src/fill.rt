@@ -2,7 +2,7 @@
 
 ghost use Rattle.std.specs.Prelude.{◌≡◌, ℕ, ◌+◌, ◌<◌, ◌≤◌, min, length, slice_index};
 ghost use Rattle.pcl_base.specs.declared.method.Method.TheVariants as methods;
-ghost use Rattle.pcl_rows.specs.Rows.{base};
+ghost use Rattle.pcl_rows.specs.Decoding.{base};
 ghost use Rattle.pcl_coders.specs.Coding.{IsCodable};
 ghost use Rattle.pcl_coders.specs.inner.Choosing.{IsLeastLen};
 ghost use Rattle.pcl_coders.specs.inner.Filling.{AreRightFrom, IsFirstEnd, IsBegun, IsLiteralEnd, HasLiteralEnd, white_like};

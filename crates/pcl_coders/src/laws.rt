@@ -2,7 +2,8 @@
 
 ghost use Rattle.std.specs.Prelude.{◌≡◌, ℕ, ◌≤◌, List, length, slice_index};
 ghost use Rattle.pcl_base.specs.declared.method.Method.{Method};
-ghost use Rattle.pcl_rows.specs.Rows.{IsRowData, base};
+ghost use Rattle.pcl_rows.specs.Decoding.{base};
+ghost use Rattle.pcl_rows.specs.Rows.{IsRowData};
 ghost use Rattle.pcl_base.specs.declared.method.Method.TheVariants as methods;
 ghost use Rattle.pcl_rows.specs.Elements.{Element};
 ghost use Rattle.pcl_base.specs.Walks.{Walk, total, IsLeastCost};

@@ -3,7 +3,7 @@
 ghost use Rattle.std.specs.Prelude.{◌≡◌, ◌+◌, ◌≤◌, ◌++◌, length, take, replicate, slice_index, OnOk, OnErr};
 ghost use Rattle.pcl_base.specs.Limits.{row_limit};
 ghost use Rattle.pcl_base.specs.declared.method.Method.TheVariants as methods;
-ghost use Rattle.pcl_rows.specs.Rows.{base};
+ghost use Rattle.pcl_rows.specs.Decoding.{base};
 ghost use Rattle.pcl_coders.specs.RowWalks.{IsLeastTable};
 ghost use Rattle.pcl_coders.specs.Coding.{IsCodable, IsLeastLength, AppendsLeast};
 ghost use Rattle.pcl_coders.specs.inner.Filling.{AreRightFrom, AppendsWalk, IsFirstEnd};

@@ -12,7 +12,6 @@ pub use Rattle.pcl_env.specs.declared.{asked.Asked.Asked, effect.Effect.Effect}
 pub use Rattle.pcl_escape.proofs.Names.{ArePieces, IsEnd, IsMiddle, IsPiece, IsPrefix, IsReading, Parameter, PassesChecks, Piece, Said, Spelled, combined, commands_from, commands_of, data_checks, field_value, first_place, in_range, is_exit, is_last, may_go_on, parameter_bytes, parameter_commands, parameter_name, prefix_bytes, spelling, two_character}
 pub use Rattle.pcl_escape.proofs.{Runs.place_further}
 pub use Rattle.pcl_escape.specs.declared.{step.Prefix.Prefix}
-pub use Rattle.pcl_rows.proofs.{Decoded.decoded_is}
 pub use Rattle.pcl_rows.proofs.Names.{IsRowData}
 pub use Rattle.pcl_fonts.proofs.Names.{FontEvent, control}
 pub use Rattle.pcl_fonts.specs.declared.{fonts.FontControl.TheVariants.Temporary}

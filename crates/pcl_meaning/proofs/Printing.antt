@@ -1,6 +1,6 @@
 -- Performing the deeds of a page text prints its page.
 use Rattle.std.proofs.Common.{◌≡◌, ℕ, zero, suc, ◌+◌, ◌-◌, ◌*◌, ◌/◌, ◌<◌, ◌≤◌, Bool, true, false, cond, ◌||◌, ◌==◌, nat_le, List, [], ◌∷◌, ◌++◌, length, drop, replicate, Option, Some, None, refl, ap, ◌∙◌, length-append, arith, Ok}
-use Rattle.pcl_meaning.proofs.Names.{copies_limit, not, nat_lt, AllByRecursion, length-replicate, map-append, or-false, nat_tests, Dpi, Profile, Dpi300, Dpi600, Method, Plain, Horizontal, Vertical, PclUnit, Operation, FormFeed, PageSize, Copies, TopMargin, Move, RasterResolution, RasterWidth, StartRaster, EndRasterResetMethod, RasterMethod, RasterOffset, RasterRow, Size, Executive, Value, page_limit, dots_per_inch, method_code, code_of, page_width, units_high, zero_value, Effect, Settings, put, put_x, put_y, to_first_line, copies_said, size_said, defaults, with_size, before_feed, return_carriage, Temporary, FontEvent, control, MacroEvent, Asked, pages_fit, with_page, Mark, is_black, dot_at, Raster, ends_raster, scale_of, raster_from, bytes_of_width, row_sent, row_mark, IsRowData, decoded_is, Token, opening, method, skip, send, IsRowOf, IsPageText, PageStart, Asks, first_page, next_page, sheet_said, page_said, said_for, dot_of_rows}
+use Rattle.pcl_meaning.proofs.Names.{copies_limit, not, nat_lt, AllByRecursion, length-replicate, map-append, or-false, nat_tests, Dpi, Profile, Dpi300, Dpi600, Method, Plain, Horizontal, Vertical, PclUnit, Operation, FormFeed, PageSize, Copies, TopMargin, Move, RasterResolution, RasterWidth, StartRaster, EndRasterResetMethod, RasterMethod, RasterOffset, RasterRow, Size, Executive, Value, page_limit, dots_per_inch, method_code, code_of, page_width, units_high, zero_value, Effect, Settings, put, put_x, put_y, to_first_line, copies_said, size_said, defaults, with_size, before_feed, return_carriage, Temporary, FontEvent, control, MacroEvent, Asked, pages_fit, with_page, Mark, is_black, dot_at, Raster, ends_raster, scale_of, raster_from, bytes_of_width, row_sent, row_mark, IsRowData, Token, opening, method, skip, send, IsRowOf, IsPageText, PageStart, Asks, first_page, next_page, sheet_said, page_said, said_for, dot_of_rows}
 use Rattle.pcl_env.specs.declared.effect.Effect.TheVariants as page
 use Rattle.pcl_env.specs.Outcome.{outcome}
 use Rattle.pcl_env.specs.Settings.{nothing_asked}
@@ -213,7 +213,7 @@ module _ (size : Size) (dpi : Dpi) (t : Settings) (m : Method) (k : ℕ) (seed :
     unfolding after outcome
     row_after {row} {bytes} sends is =
         let sent : row_sent m bytes (body_raster size dpi k seed) ≡ row =
-        rw (← decoded_is m seed bytes row sends.decodes) (cleared_is row is.1) in rw sent refl
+        rw (← sends.decodes) (cleared_is row is.1) in rw sent refl
 
 rows_below : (count : ℕ) (size : Size) (dpi : Dpi) (rows : List (List ℕ)) → AllByRecursion (IsRowOf size dpi) rows
     → AllByRecursion (IsRowOf size dpi) (drop count rows)

@@ -1,6 +1,7 @@
 -- Bodies worked out by hand from docs/OUTPUT.md. The rows are one byte wide.
 use Rattle.std.proofs.Common.{◌≡◌, ℕ, true, false, List, [], ◌∷◌, ◌++◌, refl, lit≤, arith}
-use Rattle.pcl_output.proofs.Names.{codes, flat_map, Plain, Delta, Itself, Near, IsElement, IsRowData, Token, opening, method, skip, send, token_bytes, IsSpelled}
+use Rattle.pcl_output.proofs.Names.{codes, flat_map, Plain, Delta, Itself, IsElement, IsRowData, Token, opening, method, skip, send, token_bytes, IsSpelled}
+use Rattle.pcl_rows.specs.Decoding.{treated_by, decoded}
 use Rattle.pcl_output.specs.Tokens.{PrintsRows}
 
 -- ---- numbers
@@ -24,34 +25,19 @@ is_byte = record { head_is = record { method_is = refl; in_range = tt }; complet
 
 -- a plain row of one byte
 plain_row : {seed b : ℕ} → IsRowData Plain (seed ∷ []) (b ∷ []) (b ∷ [])
+unfolding decoded treated_by
 plain_row {b} = record {
   whole = (record { head = Itself; bytes = b ∷ [] } ∷ [], (is_byte, tt), refl, lit≤ tt);
-  decodes = (
-    record { head = Itself; bytes = b ∷ [] } ∷ [],
-    record { head = Itself; bytes = 0 ∷ [] },
-    [],
-    record { elements = (is_byte, tt); joined = refl; element = is_byte; lacking = (0 ∷ [], refl, lit≤ tt) },
-    refl,
-  );
+  decodes = refl;
   fits = lit≤ tt;
 }
 
 -- the row above again, without data in method 3
 row_again : {b : ℕ} → IsRowData Delta (b ∷ []) (b ∷ []) []
+unfolding decoded treated_by
 row_again = record {
   whole = ([], tt, refl, lit≤ tt);
-  decodes = (
-    [],
-    record { head = Near 0 0; bytes = 0 ∷ [] },
-    [],
-    record {
-      elements = tt;
-      joined = refl;
-      element = record { head_is = record { method_is = refl; in_range = (lit≤ tt, lit≤ tt) }; complete = refl };
-      lacking = (0 ∷ 0 ∷ [], refl, lit≤ tt);
-    },
-    refl,
-  );
+  decodes = refl;
   fits = lit≤ tt;
 }
 

@@ -1,8 +1,14 @@
--- The row that row data make, element by element from the left: the only row that `Decodes` holds of.
+-- The row that row data make over a seed row, element by element from the left.
 use Rattle.std.specs.Prelude.{ℕ, zero, suc, ◌+◌, ◌-◌, ◌/◌, ◌%◌, ◌==◌, nat_lt, if◌then◌else◌, List, [], ◌∷◌, ◌++◌, length, take, drop, replicate}
 use Rattle.pcl_base.specs.declared.method.Method.{Method}
 use Rattle.pcl_base.specs.declared.method.Method.TheVariants.{Plain, Runs, Packed, Delta}
-use Rattle.pcl_rows.specs.Rows.{base}
+
+-- the row before its data comes: zeros, and the seed row for the delta method
+abbrev pub base : Method → List ℕ → List ℕ
+base Plain seed = replicate (length seed) 0
+base Runs seed = replicate (length seed) 0
+base Packed seed = replicate (length seed) 0
+base Delta seed = seed
 
 -- the element at the front of data: how many bytes of the row stay, what it gives, and the data after it
 pub record Front : Type 0 where

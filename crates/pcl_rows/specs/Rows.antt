@@ -1,17 +1,23 @@
--- The row that row data makes over a seed row.
-use Rattle.std.specs.Prelude.{◌≡◌, ℕ, ◌+◌, ◌<◌, ◌≤◌, List, [], ◌∷◌, ◌++◌, length, take, drop, replicate, flat_map}
+-- Row data for a row over a seed row.
+use Rattle.std.specs.Prelude.{◌≡◌, ℕ, ◌+◌, ◌<◌, ◌≤◌, List, [], ◌∷◌, ◌++◌, length, take, drop, flat_map}
 use Rattle.pcl_base.specs.Limits.{data_limit}
 use Rattle.pcl_base.specs.declared.method.Method.{Method}
-use Rattle.pcl_base.specs.declared.method.Method.TheVariants.{Plain, Runs, Packed, Delta}
 use Rattle.pcl_rows.specs.Heads.{Head, head_bytes, offset_of}
+use Rattle.pcl_rows.specs.Decoding.{base, decoded}
 use Rattle.pcl_rows.specs.Elements.{Element, IsElement, AreElements, element_bytes, given_by, reach}
 
--- the row before its data comes: zeros, and the seed row for the delta method
-abbrev pub base : Method → List ℕ → List ℕ
-base Plain seed = replicate (length seed) 0
-base Runs seed = replicate (length seed) 0
-base Packed seed = replicate (length seed) 0
-base Delta seed = seed
+-- data is of whole elements that reach no place past the row
+abbrev pub IsWhole : Method → List ℕ → ℕ → Type 0
+IsWhole method bytes row_bytes =
+    (es : List Element) × AreElements method es × (bytes ≡ flat_map element_bytes es) × (reach es ≤ row_bytes)
+
+-- whole data for a row over a seed row
+pub record IsRowData (method : Method) (seed row bytes : List ℕ) : Type 0 where
+  pub whole : IsWhole method bytes (length row)
+  pub decodes : row ≡ decoded method seed bytes
+  pub fits : length bytes ≤ data_limit
+
+-- ---- how data is read: as a relation, of which the row that is decoded is the only one
 
 -- untreated bytes, after an element with these new bytes: those up to its offset stay, the given ones come,
 -- and what follows treats the rest
@@ -45,14 +51,3 @@ RowFrom method bytes old row =
 -- the row that data makes over a seed row
 abbrev pub Decodes : Method → List ℕ → List ℕ → List ℕ → Type 0
 Decodes method seed bytes row = RowFrom method bytes (base method seed) row
-
--- data is of whole elements that reach no place past the row
-abbrev pub IsWhole : Method → List ℕ → ℕ → Type 0
-IsWhole method bytes row_bytes =
-    (es : List Element) × AreElements method es × (bytes ≡ flat_map element_bytes es) × (reach es ≤ row_bytes)
-
--- whole data for a row over a seed row
-pub record IsRowData (method : Method) (seed row bytes : List ℕ) : Type 0 where
-  pub whole : IsWhole method bytes (length row)
-  pub decodes : Decodes method seed bytes row
-  pub fits : length bytes ≤ data_limit

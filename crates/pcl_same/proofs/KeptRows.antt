@@ -1,6 +1,6 @@
 -- Rows kept as row data, and rows beside them.
 use Rattle.std.proofs.Common.{◌≡◌, ℕ, zero, suc, ◌+◌, ◌-◌, ◌<◌, ◌≤◌, List, [], ◌∷◌, ◌++◌, length, take, drop, replicate, false, refl, sym, ap, ◌∙◌, inl, inr, add-one, arith}
-use Rattle.pcl_same.proofs.Names.{slice_index, cases_lt, length-append, length-drop, get_or_append_left, get_or_push, take-append-le, drop-append-le, take-replicate, take-append_seam, drop-append_seam, take-length, Dpi, Delta, page_width, page_height, page_row_bytes, Picture, IsPicture, row_of, dot_of_row, dot, same_dots, row_small, Decodes, one_row, KeptBitmap, IsFirstDot, piece, row_above, MakesRow, IsFirstDotOfRow, IsPiece, data_of, KeepsPicture}
+use Rattle.pcl_same.proofs.Names.{slice_index, cases_lt, length-append, length-drop, get_or_append_left, get_or_push, take-append-le, drop-append-le, take-replicate, take-append_seam, drop-append_seam, take-length, Dpi, Delta, page_width, page_height, page_row_bytes, Picture, IsPicture, row_of, dot_of_row, dot, same_dots, row_small, Decodes, decoded, decoded_is, KeptBitmap, IsFirstDot, piece, row_above, MakesRow, IsFirstDotOfRow, IsPiece, data_of, KeepsPicture}
 use Rattle.pcl_base.specs.declared.size.Size.{Size}
 use Rattle.pcl_coders.specs.Coding.{AppendsLeast}
 use Rattle.pcl_same.specs.inner.Rows.{Appends, AppendsRowData}
@@ -62,6 +62,18 @@ module _ {p : Picture} {bytes starts : List ℕ} {count : ℕ} (more : List ℕ)
         ];
   })
 
+-- changed bytes that are decoded to the row
+pub changes_written : {above row old new made : List ℕ} {start : ℕ} → Appends old new → start ≡ length old
+    → Decodes Delta above (take (length new - start) (drop start new)) made → made ≡ row → AppendsRowData above row old new
+changes_written {above} {row} {old} {new} {made} {start} appended at d same =
+    let tail : drop start new ≡ appended.0 = rw (at, appended.1) (drop-append_seam old appended.0) in
+    let long : length new - start ≡ length appended.0 = omega (arith, at, ap length appended.1, length-append old appended.0) in
+    record {
+      bytes = appended.0;
+      joined = appended.1;
+      decodes = sym same ∙ decoded_is Delta above appended.0 made (rw (tail, long, take-length appended.0) at d);
+    }
+
 -- least data in its place
 pub row_written : {above row old new cut whole : List ℕ} {start : ℕ} → Appends old new → start ≡ length old → cut ≡ take start new
     → AppendsLeast Delta above row cut whole → AppendsRowData above row old whole
@@ -95,13 +107,18 @@ pub made_over : (p : Picture) (y : ℕ) {n : ℕ} (buffer row : List ℕ) {bytes
     → length row ≡ n → Decodes Delta (take (length row) buffer) bytes made → Decodes Delta (row_above p y) bytes made
 made_over p y buffer row above long d = rw (← above, ← long) d
 
+-- data for a row over the front of a buffer
+pub data_over : (p : Picture) (y : ℕ) {n : ℕ} (buffer row bytes : List ℕ) → take n buffer ≡ row_above p y → length row ≡ n
+    → row ≡ decoded Delta (take (length row) buffer) bytes → row ≡ decoded Delta (row_above p y) bytes
+data_over p y buffer row bytes above long d = d ∙ ap (λ (old : List ℕ). decoded Delta old bytes) (rw (← long) at above)
+
 -- ---- two bitmaps beside the same row data
 
 -- one row more is made
 pub makes_more : (p : Picture) (held : KeptBitmap) {y : ℕ} {made : List ℕ} → ((k : ℕ) → k < y → MakesRow p k (data_of held k))
     → Decodes Delta (row_above p y) (data_of held y) made → made ≡ row_of p y → (k : ℕ) → k < y + 1 → MakesRow p k (data_of held k)
-makes_more p held {y} before d is k lt =
-    elim (cases_lt k y) [ inl less ↦ before k less | inr at ↦ let here : y ≡ k = omega arith in rw (← here, ← is) d ]
+makes_more p held {y} {made} before d is k lt =
+    elim (cases_lt k y) [ inl less ↦ before k less | inr at ↦ let here : y ≡ k = omega arith in rw (← here) (sym is ∙ decoded_is Delta _ _ made d) ]
 
 -- two bitmaps of one size and resolution, and row data that makes the rows of the one, and the first rows of the other
 module _ {kept : Picture} (other : Picture) {held : KeptBitmap} {count : ℕ} (is_kept : IsPicture kept) (keeps : KeepsPicture kept held)
@@ -120,8 +137,7 @@ module _ {kept : Picture} (other : Picture) {held : KeptBitmap} {count : ℕ} (i
   above_same : (k : ℕ) → k ≤ count → row_above kept k ≡ row_above other k
   above_same zero le = rw (sizes, resolutions) refl
   above_same (suc k) le =
-      one_row Delta (data_of held k) (row_above other k) (row_of kept k) (row_of other k)
-      (rw (above_same k (omega arith)) at (keeps.rows k (omega (arith, heights)))) (makes k (omega arith))
+      rw (above_same k (omega arith)) at (keeps.rows k (omega (arith, heights))) ∙ sym (makes k (omega arith))
 
   -- all rows are compared
   pub all_beside : IsPicture other → page_height other.size other.dpi ≤ count → kept ≡ other
@@ -134,9 +150,9 @@ module _ {kept : Picture} (other : Picture) {held : KeptBitmap} {count : ℕ} (i
       → Decodes Delta (row_above other count) (data_of held count) made → row ≡ row_of other count
       → ((px : ℕ) → page_width other.size other.dpi ≤ px → dot_of_row row px ≡ false) → IsFirstDotOfRow made row x
       → IsFirstDot (page_width kept.size kept.dpi) (page_height kept.size kept.dpi) (dot kept) (dot other) x count
-  row_differs {x} {made} {row} down decoded row_is pads first =
-      let made_is : row_of kept count ≡ made = one_row Delta (data_of held count) (row_above other count) (row_of kept count) made
-      (rw (above_same count (omega arith)) at (keeps.rows count (omega (arith, heights)))) decoded in
+  row_differs {x} {made} {row} down read row_is pads first =
+      let made_is : row_of kept count ≡ made =
+      rw (above_same count (omega arith)) at (keeps.rows count (omega (arith, heights))) ∙ sym (decoded_is Delta _ _ made read) in
       let found = rw (← made_is, row_is) at first in
       let width : page_width kept.size kept.dpi ≡ page_width other.size other.dpi = rw (sizes, resolutions) refl in
       record {

@@ -6,8 +6,8 @@ pub use Rattle.pcl_bitmap.proofs.Names.{IsPicture, Picture, bit_of_byte, dot, do
 pub use Rattle.pcl_bitmap.proofs.{Pictures.same_dots}
 pub use Rattle.pcl_bitmap.specs.declared.{page.Page.Page}
 pub use Rattle.pcl_env.specs.{Settings.nothing_asked}
-pub use Rattle.pcl_rows.proofs.Names.{Decodes}
-pub use Rattle.pcl_rows.proofs.{OneReading.one_row}
+pub use Rattle.pcl_rows.proofs.Names.{Decodes, decoded}
+pub use Rattle.pcl_rows.proofs.{Decoded.decoded_is}
 pub use Rattle.pcl_page.proofs.{Jobs.accepted_pages, Jobs.has_pages, Jobs.rest_grows}
 pub use Rattle.pcl_page.specs.{Asks.next_page}
 pub use Rattle.pcl_page.specs.declared.{asks.AskedPage.AskedPage}

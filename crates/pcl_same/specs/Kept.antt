@@ -7,7 +7,7 @@ use Rattle.pcl_base.specs.declared.method.Method.TheVariants.{Delta}
 use Rattle.pcl_base.specs.Size.{page_height, page_row_bytes}
 use Rattle.pcl_bitmap.specs.Bitmap.{Picture, row_of}
 use Rattle.pcl_bitmap.specs.declared.page.Page.{Page}
-use Rattle.pcl_rows.specs.Rows.{Decodes}
+use Rattle.pcl_rows.specs.Decoding.{decoded}
 use Rattle.pcl_page.specs.Situation.{Sheet}
 use Rattle.pcl_page.specs.Performing.{Shows}
 use Rattle.pcl_same.specs.declared.keeping.KeptPage.{KeptPage}
@@ -27,7 +27,7 @@ row_above p (suc y) = row_of p y
 
 -- data makes row y over the row above it
 abbrev pub MakesRow : Picture → ℕ → List ℕ → Type 0
-MakesRow p y bytes = Decodes Delta (row_above p y) bytes (row_of p y)
+MakesRow p y bytes = row_of p y ≡ decoded Delta (row_above p y) bytes
 
 -- ---- pages
 

@@ -3,7 +3,7 @@ use Rattle.std.specs.Prelude.{◌≡◌, ◌≢◌, ℕ, ◌+◌, ◌<◌, ◌�
 use Rattle.pcl_base.specs.declared.method.Method.TheVariants.{Delta}
 use Rattle.pcl_base.specs.Size.{page_width, page_height}
 use Rattle.pcl_bitmap.specs.Bitmap.{Picture, bit_of_byte, dot, dot_of_row}
-use Rattle.pcl_rows.specs.Rows.{Decodes}
+use Rattle.pcl_rows.specs.Decoding.{decoded}
 use Rattle.pcl_same.specs.Differing.{IsFirstDot}
 
 -- ---- the first place at which rows differ
@@ -34,7 +34,7 @@ Appends old new = (more : List ℕ) × (new ≡ old ++ more)
 pub record AppendsRowData (above row old new : List ℕ) : Type 0 where
   pub bytes : List ℕ
   pub joined : new ≡ old ++ bytes
-  pub decodes : Decodes Delta above bytes row
+  pub decodes : row ≡ decoded Delta above bytes
 
 -- a piece of the bytes begins at start number k and ends at the next
 pub record IsPiece (bytes starts : List ℕ) (k : ℕ) : Type 0 where

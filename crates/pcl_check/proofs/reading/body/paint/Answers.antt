@@ -10,7 +10,7 @@ painted : (size : Size) (dpi : Dpi) {method : Method} {above bytes row : List �
     → IsRowData method above row bytes → (IsTrue clear ↔ HasClearPads size dpi row) → IsPaintedRow dpi size method above bytes clear row
 painted size dpi true wide makes pads = ((wide, pads.0 refl), makes)
 painted size dpi {method} {above} {bytes} {row} false wide makes pads = λ other is made.
-    let same : other ≡ row = decoded_is method above bytes other made.decodes ∙ sym (decoded_is method above bytes row makes.decodes) in
+    let same : other ≡ row = made.decodes ∙ sym makes.decodes in
     let yes : false ≡ true = pads.1 (subst (HasClearPads size dpi) same is.1) in cc
 
 pub returns-then-is_whole : goal.returns-then-is_whole
@@ -18,6 +18,6 @@ returns-then-is_whole c =
     let wide : length c.copy_from_slice.new.self ≡ length c.args.above.now = c.copy_from_slice.auto.self in
     painted c.args.comparison.size c.args.comparison.bitmap.now.dpi c.has_clear_pads.result (wide ∙ c.requires.above) (record {
       whole = c.is_whole.ensures.0 c.if-is_whole.true;
-      decodes = rw c.copy_from_slice.ensures.after c.decode.ensures;
+      decodes = decoded_is _ _ _ _ (rw c.copy_from_slice.ensures.after c.decode.ensures);
       fits = c.requires.fits;
     }) c.has_clear_pads.ensures
