@@ -20,28 +20,20 @@ pub record IsGoodOutside (rows : List (List ℕ)) (number : Node → ℕ) (metho
   pub opens : number_at number row method false ≤ 3 + number_at number row method true
   pub ends : AreWhite (drop row rows) → number_at number row method false ≡ 0
 
--- inside one a method is set, and the sequence goes on or ends,
+-- inside one a method is set, and the sequence goes on or ends
 abbrev pub AreGoodSwitches : (Node → ℕ) → Method → ℕ → Type 0
 AreGoodSwitches number method row = (next : Method) (inside : Bool)
     → number_at number row method true ≤ setting_cost (method_code next) + number_at number row next inside
 
--- or white rows are skipped,
-abbrev pub AreGoodSkips : List (List ℕ) → (Node → ℕ) → Method → ℕ → Type 0
-AreGoodSkips rows number method row = (count : ℕ) (inside : Bool) → 0 < count → row + count ≤ length rows
-    → AreWhite (take count (drop row rows))
-    → number_at number row method true ≤ setting_cost count + number_at number (row + count) method inside
-
--- or the row is sent, by a length that it is counted with
-abbrev pub IsGoodRow : List (List ℕ) → (ℕ → Method → ℕ → Type 0) → (Node → ℕ) → Method → ℕ → Type 0
-IsGoodRow rows Counts number method row = (bytes : ℕ) → row < length rows → Counts row method bytes
-    → number_at number row method true ≤ row_cost bytes + number_at number (row + 1) method false
-
--- inside a sequence: setting a method, skipping white rows or sending the row never undercuts the number
+-- inside a sequence: setting a method, skipping white rows or sending the row, by a length that it is counted with, never undercuts the
+-- number
 pub record IsGoodInside (rows : List (List ℕ)) (Counts : ℕ → Method → ℕ → Type 0) (number : Node → ℕ) (method : Method) (row : ℕ)
     : Type 0 where
   pub switches : AreGoodSwitches number method row
-  pub skips : AreGoodSkips rows number method row
-  pub sends : IsGoodRow rows Counts number method row
+  pub skips : (count : ℕ) (inside : Bool) → 0 < count → row + count ≤ length rows → AreWhite (take count (drop row rows))
+      → number_at number row method true ≤ setting_cost count + number_at number (row + count) method inside
+  pub sends : (bytes : ℕ) → row < length rows → Counts row method bytes
+      → number_at number row method true ≤ row_cost bytes + number_at number (row + 1) method false
 
 -- the number after this many rows, in a method, inside a sequence or outside, is good
 abbrev pub IsGoodNumber : List (List ℕ) → (ℕ → Method → ℕ → Type 0) → (Node → ℕ) → ℕ → Method → Bool → Type 0

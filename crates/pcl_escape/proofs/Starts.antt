@@ -1,6 +1,8 @@
 -- What a step reads outside sequences: a whole piece, the first parameter of a sequence, or a fault.
 use Rattle.std.proofs.Common.{◌≡◌, ◌↔◌, ℕ, ◌+◌, ◌-◌, ◌<◌, true, false, ◌==◌, IsTrue, is_some, List, [], ◌∷◌, ◌++◌, length, take, take_at, drop, Option, Some, None, Result, Ok, Err, inl, inr, refl, sym, ap, subst₂, ◌∙◌, append_assoc, length-append, arith}
-use Rattle.pcl_escape.proofs.Names.{Profile, eqb-true, cases_Bool, nat_tests, prefix_len, nil_from_length, One, Truncated, UnsupportedCommand, Operation, Refusal, Sign, Absent, operation_of, Prefix, is_silent, is_control, is_text, is_two_character, is_parameterized, is_ungrouped, is_group, is_last, prefix_bytes, Spelled, field_bytes, field_value, is_digit, exit_name, is_exit, parameter_checks, joined, lines_at, Said, Reads, refuse, named_by, before_rest, skipped_by, with_lines, Parameter, Piece, silent, control, text, two_character, combined, exit, IsField, IsPrefix, IsNoText, IsRun, IsPiece, parameter_bytes, parameter_name, spelling, bare_command, text_command, exit_command, Fails, unknown_control, lone_escape, no_sequence, unknown_two, no_group, bad_group, in_line, IsUngrouped, cut, Pass, StopsAt, front_yes, front_split, front_again}
+use Rattle.pcl_escape.proofs.Names.{Profile, eqb-true, cases_Bool, nat_tests, prefix_len, nil_from_length, One, Truncated, UnsupportedCommand, Operation, Refusal, Sign, Absent, operation_of, Prefix, is_silent, is_control, is_text, is_two_character, is_parameterized, is_ungrouped, is_group, is_last, prefix_bytes, Spelled, field_bytes, field_value, is_digit, exit_name, is_exit, parameter_checks, joined, lines_at, Said, Reads, refuse, named_by, before_rest, skipped_by, with_lines, Parameter, Piece, silent, control, text, two_character, combined, exit, IsField, IsPrefix, IsNoText, IsRun, IsPiece, parameter_bytes, parameter_name, spelling, bare_command, Fails, unknown_control, lone_escape, no_sequence, unknown_two, no_group, bad_group, in_line, IsUngrouped, cut, Pass, StopsAt, front_yes, front_split, front_again}
+use Rattle.pcl_base.specs.Operation.{text as text_name}
+use Rattle.pcl_base.specs.Value.{zero_value}
 use Rattle.pcl_escape.specs.inner.Fields.{field_at}
 use Rattle.pcl_escape.specs.inner.Scan.{named_at, text_at, ungrouped_at, prefix_at, sequence_at, start_at, parameter_at}
 use Rattle.pcl_escape.proofs.Fields.{by_test}
@@ -11,6 +13,13 @@ use Rattle.pcl_escape.proofs.Steps.{Inside, is_middle, is_end, is_wrong, IsLast,
 -- what a step reads of a whole piece, which gives a command or none
 abbrev pub piece_reads : Option Said → List ℕ → Result Reads Refusal
 piece_reads said rest = Ok record { said = said; rest = rest; inside = None }
+
+-- what a run of text says, and a universal exit with these lines
+abbrev text_command : ℕ → List ℕ → Said
+text_command at bytes = record { at = at; name = text_name; value = zero_value; bytes = bytes }
+
+abbrev exit_command : ℕ → Spelled → List (List ℕ) → Said
+exit_command at field lines = record { at = at; name = exit_name; value = field_value field; bytes = joined lines }
 
 -- what a piece says that one step reads
 abbrev pub says : ℕ → Piece → Option Said

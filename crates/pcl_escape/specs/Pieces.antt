@@ -117,14 +117,6 @@ ArePieces profile (piece ∷ pieces) behind = IsPiece profile piece (flat_map sp
 abbrev pub bare_command : ℕ → ℕ → Said
 bare_command at code = record { at = at; name = One code; value = zero_value; bytes = [] }
 
--- a run of text
-abbrev pub text_command : ℕ → List ℕ → Said
-text_command at bytes = record { at = at; name = text_name; value = zero_value; bytes = bytes }
-
--- a universal exit says its value, and its lines one after the other
-abbrev pub exit_command : ℕ → Spelled → List (List ℕ) → Said
-exit_command at field lines = record { at = at; name = exit_name; value = field_value field; bytes = joined lines }
-
 -- a parameter with its data
 abbrev pub command_of : Prefix → ℕ → Parameter → List ℕ → Said
 command_of prefix at parameter bytes =
@@ -142,14 +134,14 @@ parameter_commands prefix at begin (parameter ∷ middle) end bytes =
 abbrev pub first_place : ℕ → Prefix → ℕ
 first_place at prefix = at + 1 + length (prefix_bytes prefix)
 
--- the commands of a piece that begins at a place
+-- the commands of a piece that begins at a place: a universal exit says its value, and its lines one after the other
 abbrev pub commands_from : ℕ → Piece → List Said
 commands_from at (silent byte) = []
 commands_from at (control code) = bare_command at code ∷ []
-commands_from at (text bytes) = text_command at bytes ∷ []
+commands_from at (text bytes) = record { at = at; name = text_name; value = zero_value; bytes = bytes } ∷ []
 commands_from at (two_character byte) = bare_command at byte ∷ []
 commands_from at (combined prefix middle end bytes) = parameter_commands prefix at (first_place at prefix) middle end bytes
-commands_from at (exit field lines) = exit_command at field lines ∷ []
+commands_from at (exit field lines) = record { at = at; name = exit_name; value = field_value field; bytes = joined lines } ∷ []
 
 -- the commands of pieces that begin at a place
 abbrev pub commands_of : ℕ → List Piece → List Said

@@ -29,10 +29,6 @@ has_byte bytes place value = nat_eq (slice_index bytes place) value
 
 -- ---- headers
 
--- the types of fonts by their numbers 0 to 2
-abbrev pub type_with_number : ℕ → FontType
-type_with_number number = if number == 0 then SevenBit else if number == 1 then EightBit else EveryCode
-
 -- the codes that a font of a type has: those of seven bits that print, those of eight, or all
 abbrev pub has_code : FontType → ℕ → Bool
 has_code SevenBit code = nat_le 32 code && nat_le code 127
@@ -74,13 +70,13 @@ is_header Drivers dpi bytes = has_format 0 64 bytes || (has_format 20 68 bytes &
 abbrev pub resolution_of : List ℕ → Dpi
 resolution_of bytes = if has_byte bytes 2 20 && nat_eq (word bytes 64) 600 then Dpi600 else Dpi300
 
--- the font that a header defines; a new font is temporary
+-- the font that a header defines, of types 0 to 2; a new font is temporary
 abbrev pub font_of : List ℕ → Font
 font_of bytes = record {
   proportional = has_byte bytes 13 1;
   pitch = word bytes 16;
   resolution = resolution_of bytes;
-  type = type_with_number (slice_index bytes 3);
+  type = if slice_index bytes 3 == 0 then SevenBit else if slice_index bytes 3 == 1 then EightBit else EveryCode;
   permanent = false;
 }
 

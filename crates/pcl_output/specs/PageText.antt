@@ -23,10 +23,6 @@ bitmap_rows picture = rows_from (page_height picture.size picture.dpi) (page_row
 abbrev pub IsRowOf : Size → Dpi → List ℕ → Type 0
 IsRowOf size dpi row = (length row ≡ page_row_bytes size dpi) × ((x : ℕ) → page_width size dpi ≤ x → dot_of_row row x ≡ false)
 
--- the tokens print these rows
-abbrev pub PrintsAll : Size → Dpi → List Token → List (List ℕ) → Type 0
-PrintsAll size dpi tokens rows = PrintsRows false Plain (replicate (page_row_bytes size dpi) 0) tokens rows
-
 -- a text that prints this many copies of a page of this size, whose rows are these
 pub record IsPageText (dpi : Dpi) (size : Size) (copies : ℕ) (rows : List (List ℕ)) (text : List ℕ) : Type 0 where
   pub some_copies : 0 < copies
@@ -35,7 +31,7 @@ pub record IsPageText (dpi : Dpi) (size : Size) (copies : ℕ) (rows : List (Lis
   pub rows_are : AllByRecursion (IsRowOf size dpi) rows
   pub tokens : List Token
   pub spelled : text ≡ start_bytes dpi copies size ++ flat_map token_bytes tokens ++ end_bytes
-  pub prints : PrintsAll size dpi tokens rows
+  pub prints : PrintsRows false Plain (replicate (page_row_bytes size dpi) 0) tokens rows
 
 -- the text prints the page
 abbrev pub PrintsPage : Page → List ℕ → Type 0

@@ -25,7 +25,7 @@ abbrev pub letter : ℕ → Bool → List ℕ
 letter capital true = capital ∷ []
 letter capital false = (capital + 32) ∷ []
 
--- the bytes of a token in a page text
+-- the bytes of a token in a page text: 77 is M, 89 is Y, and 87 is W
 abbrev pub token_bytes : Token → List ℕ
 token_bytes opening = 27 ∷ codes "*b"
 token_bytes (method digits next ends) = digits ++ letter 77 ends

@@ -4,9 +4,11 @@ use Rattle.pcl_base.specs.declared.operation.Operation.TheVariants as operations
 use Rattle.pcl_base.specs.declared.kind.Kind.TheVariants.{FontHeader, CharacterData}
 use Rattle.pcl_fonts.specs.declared.header.FontInfo.{FontInfo}
 use Rattle.pcl_fonts.specs.Fields.{has_format, is_plain, info_of}
+use Rattle.pcl_fonts.specs.History.{has_permanent as is_font_permanent}
+use Rattle.pcl_macros.specs.History.{has_permanent as is_macro_permanent}
 use Rattle.pcl_page.specs.Text.{header_refusal, character_refusal}
 use Rattle.pcl_page.specs.Situation.{after, blank_passed, blanks_passed, text_in}
-use Rattle.pcl_page.proofs.Names.{Dpi, Kind, MacroOpen, Asking, SheetSide, Operation, ControlMacros, DownloadCharacter, DownloadFont, PrintText, Stated, Drivers, Refusal, Value, macro_limit, operation_of, option_map, Effect, EjectMarked, Settings, defaults, font_in_use, Outcome, Said, Character, Font, font_after, Action, Keeping, Raster, ends_raster, prints, Situation, at_begin, settings_below, end_raster, turned, turned_by, taken, code_printed, codes_printed, font_now, put_back, asked_for, drawn, drawn_on, draw_refusal, unless_refused, ◌|>◌, is_ignored, prepared, after_named, counted_in_limit, page_refusal, within_page_limit, after_checked, with_what_stays, at_end, Run, action_of, acted, lasting_by, after_macros, after_counted, defining, keeping_of, after_command, run_by, run_from, run_of, macro_ended, Performance, done, unless, then_on, in_order, led_to, and_run, step, commands_left, runs, end_refusal, ended, after_end, performance, performance_of}
+use Rattle.pcl_page.proofs.Names.{Dpi, Kind, MacroOpen, Asking, SheetSide, Operation, ControlMacros, DownloadCharacter, DownloadFont, PrintText, Stated, Drivers, Refusal, Value, macro_limit, operation_of, option_map, Effect, EjectMarked, Settings, defaults, font_in_use, Outcome, Said, Character, Font, font_after, Action, Keeping, Raster, ends_raster, prints, Situation, at_begin, settings_below, end_raster, turned, turned_by, taken, code_printed, codes_printed, font_now, put_back, asked_for, drawn, drawn_on, draw_refusal, unless_refused, ◌|>◌, is_ignored, prepared, after_named, counted_in_limit, page_refusal, within_page_limit, after_checked, with_lasting, at_end, Run, action_of, acted, lasting_by, after_macros, after_counted, defining, keeping_of, after_command, run_by, run_from, run_of, macro_ended, Performance, done, unless, then_on, in_order, led_to, and_run, step, commands_left, runs, end_refusal, ended, after_end, performance, performance_of}
 use Rattle.pcl_page.proofs.Profiles.{IsStated, set_by_drivers, AreSetAlike, AreTakenAlike, outcome_alike}
 
 -- ---- situations by both profiles
@@ -313,7 +315,7 @@ at_end_alike : (dpi : Dpi) (s : Situation) → IsStated s.settings → StandAlik
 at_end_alike dpi s stated =
     let raster = raster_end_alike dpi s stated in
     let turns = turned_alike (defaults s.settings.profile) EjectMarked (end_raster dpi s) (stated.0, refl, refl) in
-    let ends = λ (t : Situation). put_back (with_what_stays s.fonts s.macros t) in
+    let ends = λ (t : Situation). put_back (with_lasting (is_macro_permanent s.macros) (with_lasting (is_font_permanent s.fonts) t)) in
     (ap (λ (t : Situation). ends (turned (defaults Drivers) EjectMarked t)) raster.0 ∙ ap ends turns.0, turns.1)
 
 after_end_alike : (dpi : Dpi) (end : ℕ) → PerformsAlike (after_end dpi end) (after_end dpi end)

@@ -4,7 +4,7 @@ use Rattle.pcl_page.proofs.Names.{nat_tests, Dpi, CallFault, Refused, Memory, Ki
 use Rattle.pcl_env.specs.Outcome.{outcome}
 use Rattle.pcl_fonts.specs.History.{has_permanent as is_font_permanent}
 use Rattle.pcl_macros.specs.History.{has_permanent as is_macro_permanent}
-use Rattle.pcl_page.specs.Situation.{Sheet, Situation, turned_page, put_back, with_what_stays, draw_refusal, unless_refused, ◌|>◌, drawn_on, end_raster, is_marked, sheet_of, turned, turned_by, drawn, counted, prepared, is_ignored, after, after_named, at_end, page_refusal, within_page_limit, after_checked}
+use Rattle.pcl_page.specs.Situation.{Sheet, Situation, turned_page, put_back, with_lasting, draw_refusal, unless_refused, ◌|>◌, drawn_on, end_raster, is_marked, sheet_of, turned, turned_by, drawn, counted, prepared, is_ignored, after, after_named, at_end, page_refusal, within_page_limit, after_checked}
 use Rattle.pcl_page.proofs.Turns.{prepared_page, with_settings, pages_fit, pages_past, handed_sheet, below_same}
 use Rattle.pcl_page.proofs.Keeping.{drawn_keeps}
 
@@ -183,6 +183,10 @@ module _ {S : Type 0} (takes : S → Page → S → Type 0) (dpi : Dpi) (operati
 
 -- ---- the end of the input
 
+-- what the end makes of a page that is turned where it is marked
+abbrev ended_from : Situation → Situation → Situation
+ended_from s turned = put_back (with_lasting (is_macro_permanent s.macros) (with_lasting (is_font_permanent s.fonts) turned))
+
 -- the end, where it is not refused
 abbrev EndsAt : {S : Type 0} → (S → Page → S → Type 0) → Dpi → Situation → Situation → Performer → S → S → Type 0
 EndsAt {S} takes dpi s end new sink later = (page_refusal end ≡ None) × HandsMore takes dpi s end sink later × (asks_of new.asks ≡ end.asks)
@@ -205,7 +209,7 @@ end_marked takes dpi s copies asked old middle new sink later i m few c a e t ag
     let copied : copies ≡ s.settings.copies = cc (c, i.settings) in
     let shows : Shows dpi t.0 (sheet_of end) = rw (below.0, below.1) (handed_sheet s i.painted (i.sized is) copied t.1) in
     rw is (
-      pages_fit (put_back (with_what_stays s.fonts s.macros (turned_page (defaults s.settings.profile) end)))
+      pages_fit (ended_from s (turned_page (defaults s.settings.profile) end))
           (omega (arith, i.ejected, count)),
       (sheet_of end ∷ [], refl, (t.0, later, shows, t.2, refl)),
       again ∙ ap (end_asks s) (e.asks ∙ ap (λ (x : Asked). with_page x (asks_of old.asks)) said ∙ ap (with_page end.settings.asked) i.asks),
@@ -217,7 +221,7 @@ pub end_unmarked : {S : Type 0} (takes : S → Page → S → Type 0) (dpi : Dpi
 end_unmarked takes dpi s old new sink later i m few same again =
     let is : is_marked s ≡ false = cc in
     rw is (
-      pages_fit (put_back (with_what_stays s.fonts s.macros (with_settings (defaults s.settings.profile) (end_raster dpi s))))
+      pages_fit (ended_from s (with_settings (defaults s.settings.profile) (end_raster dpi s)))
           (omega (arith, i.ejected)),
       ([], sym (append-nil s.pages), same),
       again ∙ ap (end_asks s) i.asks,
@@ -229,5 +233,5 @@ end_past {dpi} {s} i m many =
     let end = end_raster dpi s in
     let count = length-append s.pages (sheet_of end ∷ []) in
     let is : is_marked s ≡ true = cc in
-    rw is (pages_past (put_back (with_what_stays s.fonts s.macros (turned_page (defaults s.settings.profile) end)))
+    rw is (pages_past (ended_from s (turned_page (defaults s.settings.profile) end))
     (omega (arith, i.ejected, count)))

@@ -56,19 +56,16 @@ keeping_of other value = Kept
 abbrev pub with_macro_event : MacroEvent → Situation → Situation
 with_macro_event event s = record s { macros = event ∷ s.macros }
 
--- a definition of the macro whose ID is set begins after this place
-abbrev pub definition_begun : ℕ → Situation → Situation
-definition_begun place s = record s { begun = Some (record { id = s.settings.macro_id; from = place + 1 }) }
-
 -- the definition that is open ends before this place; an end without a begin is refused
 abbrev pub definition_ended : ℕ → Option Begun → Situation → Result Situation Kind
 definition_ended place None s = Err OutOfPlace
 definition_ended place (Some d) s = Ok (record s { macros = defined d.id d.from place ∷ s.macros; begun = None })
 
--- a number that says nothing is a value that isn't taken; running a macro is what follows the command
+-- A definition of the macro whose ID is set begins after the command at this place. A number that says nothing is a value that isn't
+-- taken; running a macro is what follows the command.
 abbrev pub acted : ℕ → Option Action → Situation → Result Situation Kind
 acted place None s = Err UnsupportedValue
-acted place (Some Begin) s = Ok (definition_begun place s)
+acted place (Some Begin) s = Ok (record s { begun = Some (record { id = s.settings.macro_id; from = place + 1 }) })
 acted place (Some End) s = definition_ended place s.begun s
 acted place (Some (Control what)) s = Ok (with_macro_event (control what s.settings.macro_id) s)
 acted place other s = Ok s
@@ -86,14 +83,10 @@ macro_lasts (Control All) is_defined = true
 macro_lasts (Control Temporary) is_defined = false
 macro_lasts other is_defined = not is_defined
 
--- the macro whose ID is set was defined
-abbrev pub is_macro_defined : Situation → Bool
-is_macro_defined s = is_some (macro_now s)
-
 -- it is noted where a macro control changes what stays in the printer, or counts on it
 abbrev pub lasting_by : Option Action → Situation → Situation
 lasting_by None s = s
-lasting_by (Some action) s = with_lasting (macro_lasts action (is_macro_defined s)) s
+lasting_by (Some action) s = with_lasting (macro_lasts action (is_some (macro_now s))) s
 
 -- what the command at a place does to macros and definitions; a reset deletes the temporary macros
 abbrev pub after_macros : ℕ → Option Operation → Value → Situation → Result Situation Kind

@@ -30,29 +30,25 @@ pub record Raster : Type 0 where
 abbrev pub scale_of : Dpi → ℕ → ℕ
 scale_of dpi resolution = max 1 (dots_per_inch dpi / resolution)
 
--- as many as reach the page's right edge, the last perhaps cut
-abbrev pub width_to_edge : Dpi → ℕ → Settings → ℕ
-width_to_edge dpi left s = let scale = scale_of dpi s.resolution in (page_width s.size dpi - left + (scale - 1)) / scale
-
--- the width of a raster in raster dots: the one set, or else up to the right edge
-abbrev pub width_from : Dpi → ℕ → Settings → ℕ
-width_from dpi left s = unwrap_or s.raster_width (width_to_edge dpi left s)
-
 -- eight raster dots to a byte
 abbrev pub bytes_of_width : ℕ → ℕ
 bytes_of_width width = (width + 7) / 8
 
--- a raster starts at a dot of the cursor's row, with a seed row of zeros
+-- A raster starts at a dot of the cursor's row, with a seed row of zeros. It has the width that is set, or else as many dots as reach the
+-- page's right edge, the last perhaps cut.
 abbrev pub raster_from : Dpi → ℕ → Settings → Raster
-raster_from dpi left s = record {
-  left = left;
-  top = dot_at dpi s.cursor.y;
-  scale = scale_of dpi s.resolution;
-  width = width_from dpi left s;
-  height = s.raster_height;
-  rows = 0;
-  seed = replicate (bytes_of_width (width_from dpi left s)) 0;
-}
+raster_from dpi left s =
+    let scale = scale_of dpi s.resolution in
+    let width = unwrap_or s.raster_width ((page_width s.size dpi - left + (scale - 1)) / scale) in
+    record {
+      left = left;
+      top = dot_at dpi s.cursor.y;
+      scale = scale;
+      width = width;
+      height = s.raster_height;
+      rows = 0;
+      seed = replicate (bytes_of_width width) 0;
+    }
 
 -- ---- rows
 

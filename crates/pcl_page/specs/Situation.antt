@@ -1,6 +1,6 @@
 -- Where a job stands, and what a command outside of macros makes of that.
-use Rattle.std.specs.Prelude.{ℕ, ◌+◌, ◌*◌, ◌==◌, ◌&&◌, ◌||◌, not, is_some, Bool, true, false, nat_le, if◌then◌else◌, length, List, [], ◌∷◌, ◌++◌, Option, Some, None, Result, Ok, Err}
-use Rattle.std.specs.Option.{option_and_then}
+use Rattle.std.specs.Prelude.{ℕ, ◌+◌, ◌*◌, ◌==◌, ◌&&◌, ◌||◌, not, is_some, Bool, true, false, nat_le, unwrap_or, if◌then◌else◌, length, List, [], ◌∷◌, ◌++◌, Option, Some, None, Result, Ok, Err}
+use Rattle.std.specs.Option.{option_map, option_and_then}
 use Rattle.pcl_base.specs.declared.dpi.Dpi.{Dpi}
 use Rattle.pcl_base.specs.declared.kind.Kind.{Kind}
 use Rattle.pcl_base.specs.declared.kind.Kind.TheVariants.{UnsupportedCommand, UnsupportedValue, TooManyCommands, TooManyPages}
@@ -32,7 +32,7 @@ use Rattle.pcl_macros.specs.History.{MacroEvent, has_permanent as is_macro_perma
 use Rattle.pcl_macros.specs.Table.{Begun}
 use Rattle.pcl_page.specs.Asks.{Asks, no_asks, with_page, with_exit, restarted, with_side, with_separation, lasting_if}
 use Rattle.pcl_page.specs.Marks.{Mark, are_marked, dot_at, dots_of}
-use Rattle.pcl_page.specs.Text.{selected_font, control_of, select_by_id, header_refusal, character_refusal, text_refusal, prints, character_mark, behind_character, behind_blank}
+use Rattle.pcl_page.specs.Text.{control_of, select_by_id, header_refusal, character_refusal, text_refusal, prints, character_mark, behind_character, behind_blank}
 use Rattle.pcl_page.specs.Raster.{Raster, raster_from, skipped, row_sent, with_row, row_mark, is_ignored_in_raster, ends_raster}
 
 -- a page as the job means it, where `Page` of the code is one that was painted
@@ -127,25 +127,17 @@ rectangle_mark dpi ink s = record {
   ink = ink;
 }
 
--- the rectangle at the cursor is filled with this ink, and marks the page
+-- the rectangle is filled with this ink, and marks the page
 abbrev pub filled_with : Dpi → Option Ink → Situation → Situation
 filled_with dpi None s = s
 filled_with dpi (Some ink) s = record s { marks = rectangle_mark dpi ink s.settings ∷ s.marks }
 
--- the raster that a row goes to: a row outside a raster starts one at the page's left edge
-abbrev pub raster_for_row : Dpi → Option Raster → Settings → Raster
-raster_for_row dpi None s = raster_from dpi 0 s
-raster_for_row dpi (Some r) s = r
-
--- rows are skipped in a raster alone
-abbrev pub skipped_in : ℕ → Option Raster → Option Raster
-skipped_in count None = None
-skipped_in count (Some r) = Some (skipped count r)
-
--- a row is sent to this raster: it marks the page, and becomes the seed row
-abbrev pub with_row_in : Dpi → Said → Raster → Situation → Situation
-with_row_in dpi command r s =
-    let row = row_sent s.settings.method command.bytes r in
+-- A row is sent to the raster that has begun; outside a raster it starts one at the page's left edge. It marks the page, and becomes the
+-- seed row.
+abbrev pub row_painted : Dpi → List ℕ → Situation → Situation
+row_painted dpi bytes s =
+    let r = unwrap_or s.raster (raster_from dpi 0 s.settings) in
+    let row = row_sent s.settings.method bytes r in
     record s { raster = Some (with_row row r); marks = row_mark row r ∷ s.marks }
 
 -- ---- fonts and text
@@ -174,23 +166,16 @@ font_lasts other is_sent = not is_sent
 abbrev pub with_lasting : Bool → Situation → Situation
 with_lasting test s = record s { asks = lasting_if test s.asks }
 
--- the font of the ID that is set was sent
-abbrev pub is_font_sent : Situation → Bool
-is_font_sent s = is_some (font_after s.fonts s.settings.font_id)
-
 -- a font control, for the font and the character whose ID and code were set last
 abbrev pub fonts_controlled : Option FontControl → Situation → Situation
 fonts_controlled None s = s
 fonts_controlled (Some what) s =
-    with_event (control what s.settings.font_id s.settings.character_code) (with_lasting (font_lasts what (is_font_sent s)) s)
-
--- a reset deletes the temporary fonts
-abbrev pub without_temporary : Situation → Situation
-without_temporary s = with_event (control Temporary 0 0) s
+    let is_sent = is_some (font_after s.fonts s.settings.font_id) in
+    with_event (control what s.settings.font_id s.settings.character_code) (with_lasting (font_lasts what is_sent) s)
 
 -- the font that is selected and in use, where it is there
 abbrev pub font_now : Situation → Option Font
-font_now s = selected_font s.fonts (font_in_use s.settings)
+font_now s = option_and_then (font_after s.fonts) (font_in_use s.settings)
 
 -- a code that prints no character: a space moves the cursor
 abbrev pub blank_passed : ℕ → Situation → Situation
@@ -218,29 +203,21 @@ abbrev pub text_in : Dpi → List ℕ → Option FontInfo → Situation → Situ
 text_in dpi codes None s = blanks_passed codes s
 text_in dpi codes (Some font) s = codes_printed dpi font (prints s.fonts (font_in_use s.settings)) codes s
 
--- the codes of a text one after the other, in the font that is selected and in use
-abbrev pub text_printed : Dpi → List ℕ → Situation → Situation
-text_printed dpi codes s = text_in dpi codes (info_of (font_now s)) s
-
 -- ---- universal exits
 
 -- a universal exit with these lines was performed
 abbrev pub exited : List ℕ → Situation → Situation
 exited lines s = record s { asks = with_exit (record { pages = length s.pages; lines = lines }) s.asks }
 
--- the printer is put back to its defaults, besides what is set
+-- the printer is put back to its defaults, besides what is set: a reset deletes the temporary fonts
 abbrev pub put_back : Situation → Situation
-put_back s = without_temporary (record s { asks = restarted s.asks })
-
--- the job is separated from the next
-abbrev pub separated : Value → Situation → Situation
-separated value s = record s { asks = with_separation (signed_whole value) s.asks }
+put_back s = with_event (control Temporary 0 0) (record s { asks = restarted s.asks })
 
 -- the next page is asked for on this side of a sheet; sides and a media type eject a marked page on some printers, and what only drivers
 -- ask holds for all of a page
 abbrev pub asked_for : Asking → Value → Situation → Situation
 asked_for SheetSide value s = record s { asks = with_side (signed_whole value) s.asks }
-asked_for JobSeparation value s = with_lasting (is_marked s) (separated value s)
+asked_for JobSeparation value s = with_lasting (is_marked s) (record s { asks = with_separation (signed_whole value) s.asks })
 asked_for Sides value s = with_lasting (is_marked s) s
 asked_for MediaType value s = with_lasting (is_marked s) s
 asked_for other value s = if is_stated other then s else with_lasting (is_marked s) s
@@ -256,12 +233,12 @@ drawn dpi ControlFonts command s = fonts_controlled (control_of command.value) s
 drawn dpi DownloadFont command s = with_font command.bytes s
 drawn dpi DownloadCharacter command s = with_character command.bytes s
 drawn dpi (SelectFont side) command s = record s { settings = select_by_id side (whole_of command.value) s.fonts s.settings }
-drawn dpi PrintText command s = text_printed dpi command.bytes s
+drawn dpi PrintText command s = text_in dpi command.bytes (info_of (font_now s)) s
 drawn dpi FillRectangle command s = filled_with dpi (ink_of command.value) s
 drawn dpi StartRaster command s =
     record s { raster = Some (raster_from dpi (if whole_of command.value == 0 then 0 else dot_at dpi s.settings.cursor.x) s.settings) }
-drawn dpi RasterOffset command s = record s { raster = skipped_in (whole_of command.value) s.raster }
-drawn dpi RasterRow command s = with_row_in dpi command (raster_for_row dpi s.raster s.settings) s
+drawn dpi RasterOffset command s = record s { raster = option_map (skipped (whole_of command.value)) s.raster }
+drawn dpi RasterRow command s = row_painted dpi command.bytes s
 drawn dpi other command s = s
 
 -- why a command isn't drawn that sets what it sets: a number that says nothing is a value that isn't taken
@@ -341,10 +318,9 @@ after_checked dpi command s = counted_in_limit s |> after_named dpi (operation_o
 
 -- ---- the end of the input
 
--- fonts and macros that the job made permanent stay in the printer
-abbrev pub with_what_stays : List FontEvent → List MacroEvent → Situation → Situation
-with_what_stays fonts macros s = with_lasting (is_macro_permanent macros) (with_lasting (is_font_permanent fonts) s)
-
--- the end of the input acts as a reset that counts nothing; no macro runs after it
+-- the end of the input acts as a reset that counts nothing; no macro runs after it. Fonts and macros that the job made permanent stay in
+-- the printer.
 abbrev pub at_end : Dpi → Situation → Situation
-at_end dpi s = put_back (with_what_stays s.fonts s.macros (turned (defaults s.settings.profile) EjectMarked (end_raster dpi s)))
+at_end dpi s =
+    put_back (with_lasting (is_macro_permanent s.macros) (with_lasting (is_font_permanent s.fonts)
+    (turned (defaults s.settings.profile) EjectMarked (end_raster dpi s))))

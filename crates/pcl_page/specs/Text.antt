@@ -22,11 +22,6 @@ use Rattle.pcl_page.specs.Marks.{Mark, dot_at}
 
 -- ---- fonts
 
--- the font of the ID that is selected, where one is selected and its font is there
-abbrev pub selected_font : List FontEvent → Option ℕ → Option Font
-selected_font events None = None
-selected_font events (Some id) = font_after events id
-
 -- what a font control does, by its number
 abbrev pub control_of : Value → Option FontControl
 control_of value = option_and_then (λ n.
@@ -70,15 +65,11 @@ text_refusal codes (Some font) = None
 
 -- ---- codes
 
--- the character that a code prints in a font: fonts of this type have the code, and the character is there
-abbrev pub prints_in : List FontEvent → ℕ → ℕ → Option Font → Option Character
-prints_in events id code None = None
-prints_in events id code (Some font) = if has_code font.type code then character_after events id code else None
-
--- the same in the font of the ID that is selected
+-- the character that a code prints in the font of the ID that is selected: it is there, and so is the font, whose type has the code
 abbrev pub prints : List FontEvent → Option ℕ → ℕ → Option Character
 prints events None code = None
-prints events (Some id) code = prints_in events id code (font_after events id)
+prints events (Some id) code =
+    option_and_then (λ font. if has_code font.type code then character_after events id code else None) (font_after events id)
 
 -- how many dots of a page a dot of a font is wide and high: two, where a font of 300 dots per inch is on a page of 600
 abbrev pub dots_per_bit : Dpi → Dpi → ℕ

@@ -14,7 +14,7 @@ impl<'a> Performer<'a> {
     ghost use Rattle.pcl_base.specs.declared.dpi.Dpi.{Dpi};
     ghost use Rattle.pcl_fonts.specs.History.{control, font_after};
     ghost use Rattle.pcl_page.specs.Text.{select_by_id, header_refusal, character_refusal};
-    ghost use Rattle.pcl_page.specs.Situation.{Situation, with_font, with_character, with_lasting, font_lasts, is_font_sent, fonts_controlled};
+    ghost use Rattle.pcl_page.specs.Situation.{Situation, with_font, with_character, with_lasting, font_lasts, fonts_controlled};
     ghost use Rattle.pcl_page.specs.inner.Reflecting.{IsIn, HasEvent, HasSettings, Draws};
 
     /// Takes the header of a font for the ID that is meant. Without data nothing happens.
@@ -63,7 +63,7 @@ impl<'a> Performer<'a> {
     /// Notes whether a font control changes what stays in the printer.
     fn note_control(&mut self, what: FontControl)
         ensures { (dpi : Dpi) (s : Situation) → IsIn dpi s self.old
-            → IsIn dpi (with_lasting (font_lasts what (is_font_sent s)) s) self.new }
+            → IsIn dpi (with_lasting (font_lasts what (is_some (font_after s.fonts s.settings.font_id))) s) self.new }
     {
         let is_sent = self.fonts.font(self.environment.font_id()).is_some();
         self.last_if(font_lasts(what, is_sent));

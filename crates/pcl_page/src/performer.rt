@@ -50,20 +50,21 @@ pub struct Performer<'a> {
 impl<'a> Performer<'a> {
     ghost use Rattle.std.specs.Prelude.{◌≡◌, ◌<◌, ◌==◌, ◌&&◌, not, is_some, ◌≤◌, ◌+◌, ◌*◌, ◌^◌, if◌then◌else◌, Some, IfOk, OnOk, OnErr};
     ghost use Rattle.pcl_base.specs.declared.kind.Kind.TheVariants.{UnsupportedValue};
-    ghost use Rattle.pcl_base.specs.Value.{whole_of};
+    ghost use Rattle.pcl_base.specs.Value.{whole_of, signed_whole};
+    ghost use Rattle.std.specs.Option.{option_map};
     ghost use Rattle.pcl_page.specs.Marks.{dot_at};
-    ghost use Rattle.pcl_page.specs.Raster.{raster_from, rows_in, is_ignored_in_raster};
+    ghost use Rattle.pcl_page.specs.Raster.{raster_from, rows_in, skipped, is_ignored_in_raster};
     ghost use Rattle.pcl_base.specs.declared.dpi.Dpi.{Dpi};
     ghost use Rattle.pcl_escape.specs.Said.{Said, view};
     ghost use Rattle.pcl_env.specs.Offset.{lie_together};
     ghost use Rattle.pcl_env.specs.Outcome.{outcome};
-    ghost use Rattle.pcl_page.specs.Situation.{Situation, at_begin, is_marked, drawn, draw_refusal, separated, asked_for, ink_of, filled_with, rectangle_mark, skipped_in, exited, put_back, with_lasting};
+    ghost use Rattle.pcl_page.specs.Situation.{Situation, at_begin, is_marked, drawn, draw_refusal, asked_for, ink_of, filled_with, rectangle_mark, exited, put_back, with_lasting};
     ghost use Rattle.pcl_page.specs.Macros.{macro_ended};
     ghost use Rattle.std.specs.Prelude.{List};
     ghost use Rattle.pcl_fonts.specs.History.{FontEvent, has_permanent};
     ghost use Rattle.pcl_fonts.specs.Table.{Holds};
     ghost use Rattle.pcl_macros.specs.History.{has_permanent as is_kept};
-    ghost use Rattle.pcl_page.specs.Asks.{asks_of, restarted, lasting_if};
+    ghost use Rattle.pcl_page.specs.Asks.{asks_of, restarted, with_separation, lasting_if};
     ghost use Rattle.pcl_bitmap.specs.declared.page.Page.{Page};
     ghost use Rattle.pcl_page.specs.inner.Reflecting.{IsIn, IsPrepared, HasRaster, Takes, IsFollowed, IsEjected, IsDrawn, Draws, IsSent, IsTurned, IsTried, EndDone};
 
@@ -320,7 +321,7 @@ impl<'a> Performer<'a> {
 
     /// Separates the job from the next.
     fn separate(&mut self, value: Value)
-        ensures { (dpi : Dpi) (s : Situation) → IsIn dpi s self.old → IsIn dpi (separated value s) self.new }
+        ensures { (dpi : Dpi) (s : Situation) → IsIn dpi s self.old → IsIn dpi (record s { asks = with_separation (signed_whole value) s.asks }) self.new }
     {
         self.asks.separate(i64::from(value.whole()));
     }
@@ -400,7 +401,7 @@ impl<'a> Performer<'a> {
     /// Skips rows of the raster that has begun; outside one it does nothing.
     fn skip_rows(&mut self, value: Value)
         requires rows { rows_in self.old.raster + 2 ^ 20 ≤ 2 ^ 20 * self.old.performed }
-        ensures { HasRaster (skipped_in (whole_of value) self.old.raster) self.old self.new }
+        ensures { HasRaster (option_map (skipped (whole_of value)) self.old.raster) self.old self.new }
     {
         if let Some(raster) = &mut self.raster {
             let count = value.whole().unsigned_abs();

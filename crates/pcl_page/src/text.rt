@@ -25,13 +25,13 @@ impl<'a> Performer<'a> {
     ghost use Rattle.pcl_fonts.specs.Fields.{info_of};
     ghost use Rattle.pcl_fonts.specs.Table.{character_in};
     ghost use Rattle.pcl_page.specs.Text.{prints, text_refusal, behind_character, behind_blank};
-    ghost use Rattle.pcl_page.specs.Situation.{Situation, font_now, text_printed, code_printed, codes_printed, blank_passed, blanks_passed};
+    ghost use Rattle.pcl_page.specs.Situation.{Situation, font_now, text_in, code_printed, codes_printed, blank_passed, blanks_passed};
     ghost use Rattle.pcl_page.specs.inner.Reflecting.{character_at, IsIn, IsDrawn, IsInked, IsAtCursor, HasSettings, Draws};
 
     /// Prints the codes in the font that is selected and in use. Without one a code above that of a space is refused.
     pub fn print_text(&mut self, codes: &[u8], dpi: Dpi) -> Result<(), CallFault>
         ensures { (s : Situation) → IsIn dpi s self.old
-            → Draws dpi (text_refusal codes.now (font_now s)) (text_printed dpi codes.now s) result self.new }
+            → Draws dpi (text_refusal codes.now (font_now s)) (text_in dpi codes.now (info_of (font_now s)) s) result self.new }
     {
         match self.font_in_use() {
             Some(font) => Ok(self.print_codes(codes, font, dpi)?),

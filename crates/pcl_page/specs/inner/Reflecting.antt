@@ -1,5 +1,5 @@
 -- The performer and the situation that it is in.
-use Rattle.std.specs.Prelude.{◌≡◌, ℕ, pos, ◌+ℤ◌, ◌-ℤ◌, ◌*ℤ◌, ◌+◌, ◌^◌, ◌<◌, true, false, if◌then◌else◌, List, ◌++◌, length, ◌⊎◌, Option, Some, None, Result, Ok, Err}
+use Rattle.std.specs.Prelude.{◌≡◌, ℕ, pos, ◌+ℤ◌, ◌-ℤ◌, ◌*ℤ◌, ◌+◌, ◌^◌, ◌<◌, true, false, if◌then◌else◌, unwrap_or, List, ◌++◌, length, ◌⊎◌, Option, Some, None, Result, Ok, Err}
 use Rattle.pcl_base.specs.declared.dpi.Dpi.{Dpi}
 use Rattle.pcl_base.specs.declared.fault.JobFault.{JobFault}
 use Rattle.pcl_base.specs.declared.fault.JobFault.TheVariants as job
@@ -30,8 +30,8 @@ use Rattle.pcl_env.specs.declared.asked.Asked.{Asked}
 use Rattle.pcl_page.specs.Asks.{with_page, asks_of}
 use Rattle.pcl_page.specs.Marks.{Mark, is_black, dot_at}
 use Rattle.pcl_page.specs.Text.{dots_per_bit}
-use Rattle.pcl_page.specs.Raster.{Raster, row_sent, with_row, row_mark, ends_raster}
-use Rattle.pcl_page.specs.Situation.{Sheet, Situation, raster_for_row, settings_below, is_marked, turned, at_end, page_refusal, after_checked}
+use Rattle.pcl_page.specs.Raster.{Raster, raster_from, row_sent, with_row, row_mark, ends_raster}
+use Rattle.pcl_page.specs.Situation.{Sheet, Situation, settings_below, is_marked, turned, at_end, page_refusal, after_checked}
 use Rattle.pcl_page.specs.Delivering.{Hands}
 
 -- a bitmap shows marks
@@ -189,7 +189,7 @@ pub record IsSent (dpi : Dpi) (bytes : List ℕ) (old new : Performer) : Type 0 
   pub begun : Performer
   pub followed : IsFollowed old.environment.size old begun
   pub raster : Raster
-  pub raster_is : raster ≡ raster_for_row dpi old.raster old.environment
+  pub raster_is : raster ≡ unwrap_or old.raster (raster_from dpi 0 old.environment)
   pub sent : new.raster ≡ Some (with_row (row_sent old.environment.method bytes raster) raster)
   pub drawn : IsDrawn (row_mark (row_sent old.environment.method bytes raster) raster) begun new
 

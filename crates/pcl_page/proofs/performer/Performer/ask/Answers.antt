@@ -1,6 +1,8 @@
 use Rattle.std.proofs.Common.{◌≡◌, Bool, inl, inr, refl, subst}
 use Rattle.pcl_page.proofs.Names.{IsIn}
-use Rattle.pcl_page.specs.Situation.{with_lasting, separated, asked_for, is_marked}
+use Rattle.pcl_base.specs.Value.{signed_whole}
+use Rattle.pcl_page.specs.Asks.{with_separation}
+use Rattle.pcl_page.specs.Situation.{with_lasting, asked_for, is_marked}
 use Rattle.pcl_page.proofs.performer.Performer.ask.Goals as goal
 
 pub returns-in-Sides : goal.returns-in-Sides
@@ -15,10 +17,10 @@ returns-in-MediaType c = λ dpi s i. rw c.in-MediaType.is
 pub returns-in-JobSeparation : goal.returns-in-JobSeparation
 returns-in-JobSeparation c = λ dpi s i.
     let apart = c.separate.ensures dpi s i in
-    let value = c.args.value in
+    let separated = record s { asks = with_separation (signed_whole c.args.value) s.asks } in
     rw c.in-JobSeparation.is
-    (subst (λ (test : Bool). IsIn dpi (with_lasting test (separated value s)) c.last_if-in-JobSeparation.new.self) apart.marked
-    (c.last_if-in-JobSeparation.ensures.situation dpi (separated value s) apart))
+    (subst (λ (test : Bool). IsIn dpi (with_lasting test separated) c.last_if-in-JobSeparation.new.self) apart.marked
+    (c.last_if-in-JobSeparation.ensures.situation dpi separated apart))
 
 pub returns-in-TextScale : goal.returns-in-TextScale
 returns-in-TextScale c = λ dpi s i.

@@ -1,5 +1,5 @@
-use Rattle.std.proofs.Common.{◌≡◌, ◌∙◌, Option, refl, sym, ap, ℕ, rules}
-use Rattle.pcl_page.proofs.Names.{Raster, raster_for_row}
+use Rattle.std.proofs.Common.{◌≡◌, ◌∙◌, Option, unwrap_or, refl, sym, ap, ℕ, rules}
+use Rattle.pcl_page.proofs.Names.{Raster, raster_from}
 use Rattle.pcl_page.proofs.Painted.{or_is}
 use Rattle.pcl_page.proofs.performer.Performer.send_row.Goals as goal
 use Rattle.pcl_page.proofs.performer.Performer.send_row.Goals.{in-Some, in-None+in_ok-raster-in-None}
@@ -9,13 +9,13 @@ returns c =
     let old = c.follow_size.new.self in
     let followed = rw c.size-size.ensures.value at c.in_ok-follow_size.ensures in
     let raster = c.match-take.raster in
-    let is : raster ≡ raster_for_row c.args.dpi old.raster old.environment =
+    let is : raster ≡ unwrap_or old.raster (raster_from c.args.dpi 0 old.environment) =
     elim c.match-take.branch [
       | in-Some w ↦ w.raster-is
-          ∙ sym (ap (λ (r : Option Raster). raster_for_row c.args.dpi r old.environment) (sym c.take.ensures.value ∙ w.in-Some.is))
+          ∙ sym (ap (λ (r : Option Raster). unwrap_or r (raster_from c.args.dpi 0 old.environment)) (sym c.take.ensures.value ∙ w.in-Some.is))
       | in-None+in_ok-raster-in-None w ↦
           w.raster-is ∙ w.in_ok-raster-in-None.ensures
-          ∙ sym (ap (λ (r : Option Raster). raster_for_row c.args.dpi r old.environment) (sym c.take.ensures.value ∙ w.in-None.is))
+          ∙ sym (ap (λ (r : Option Raster). unwrap_or r (raster_from c.args.dpi 0 old.environment)) (sym c.take.ensures.value ∙ w.in-None.is))
     ] in
     let method = c.method.ensures in
     let dots = λ (x y : ℕ). rw (method, followed.settings, or_is) at (c.send.ensures.dots x y) in
