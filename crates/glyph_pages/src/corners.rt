@@ -1,10 +1,7 @@
 //! Where on a page its ink begins.
 
-ghost use Rattle.std.specs.Prelude.{◌≡◌, ◌≤◌, ◌*◌, length};
-ghost use Rattle.pcl_bitmap.specs.Bitmap.{IsPicture};
-
 use glyph_shapes::row_at;
-use pcl_bitmap::{Bitmap, Ink, trimmed_len};
+use pcl_bitmap::{Bitmap, Ink, bits_of, trimmed_len};
 use std::alloc::{AllocError, Global};
 
 /// A raster starts further right than the page where that leaves out this many bytes of each row: fewer are in the first byte of data of
@@ -51,11 +48,11 @@ fn white_bytes(row: &[u8], most: usize) -> usize {
 }
 
 /// Moves the dots of a page so that this corner becomes its upper left one. Left of it and above it the page is white.
-pub fn move_to_corner(alloc: Global, corner: Corner, bitmap: &mut Bitmap) -> Result<(), AllocError>
-    ensures size { bitmap.new.size ≡ bitmap.old.size }
-    ensures dpi { bitmap.new.dpi ≡ bitmap.old.dpi }
-    ensures picture { IsPicture bitmap.old → IsPicture bitmap.new }
-{
+pub fn move_to_corner(
+    alloc: Global,
+    corner: Corner,
+    bitmap: &mut Bitmap,
+) -> Result<(), AllocError> {
     let mut row = Vec::new(alloc);
     let height = bitmap.size().height(bitmap.dpi());
     for y in corner.top..height {
@@ -75,11 +72,7 @@ fn row_from(bitmap: &Bitmap, y: u32, left: usize) -> &[u8] {
 }
 
 /// Has row `y` of a page have these dots, and white ones right of them.
-fn set_row(row: &[u8], y: u32, bitmap: &mut Bitmap)
-    ensures size { bitmap.new.size ≡ bitmap.old.size }
-    ensures dpi { bitmap.new.dpi ≡ bitmap.old.dpi }
-    ensures picture { IsPicture bitmap.old → IsPicture bitmap.new }
-{
+fn set_row(row: &[u8], y: u32, bitmap: &mut Bitmap) {
     let page_width = bitmap.size().width(bitmap.dpi());
     if trimmed_len(row_at(bitmap, y)) != 0 {
         bitmap.fill(0, y, u64::from(page_width), 1, Ink::White);
@@ -87,11 +80,4 @@ fn set_row(row: &[u8], y: u32, bitmap: &mut Bitmap)
     if trimmed_len(row) != 0 {
         bitmap.paint_row(0, u64::from(y), 1, page_width.min(bits_of(row)), row);
     }
-}
-
-/// How many bits a row has.
-pub fn bits_of(row: &[u8]) -> u32
-    ensures { result ≤ 8 * length row.now }
-{
-    u32::try_from(row.len()).map_or(0, |bytes| bytes.saturating_mul(8))
 }

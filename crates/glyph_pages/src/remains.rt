@@ -1,15 +1,12 @@
 //! Rasters of what of a page isn't printed as text.
 
-ghost use Rattle.std.specs.Prelude.{◌≡◌, IfOk};
-ghost use Rattle.pcl_bitmap.specs.Bitmap.{IsPicture};
-
-use crate::corners::{bits_of, corner_of, move_to_corner};
+use crate::corners::{corner_of, move_to_corner};
 use crate::rule_writing::{RulePen, append_rules, sparse_rules};
 use crate::shortening::shortened;
 use crate::sparing::{Saving, may_be_shorter, saving_of};
 use glyph_patterns::{Dot, Letter, Letters, Patterns, StampInk, stamp};
 use glyph_shapes::{Rule, ink_rules};
-use pcl_bitmap::{Bitmap, Ink, Page, trimmed_len};
+use pcl_bitmap::{Bitmap, Ink, Page, bits_of, trimmed_len};
 use pcl_plan::plan;
 use pcl_writer::write_page;
 use std::alloc::{AllocError, Global};
@@ -181,13 +178,14 @@ impl<'a> Rests<'a> {
 
     /// Adds the rest with all rules in the raster, if it has room.
     fn add_unruled(&mut self) -> Result<(), AllocError> {
-        let mut others = self.page_without_letters()?;
-        if self.has_room(0, &others.bitmap) {
-            let text = raster_text(self.alloc, &mut others)?;
+        let mut others = self.dots_without_letters()?;
+        if self.has_room(0, &others) {
+            let (text, moved) = raster_text(self.alloc, self.page, others)?;
             let pen = self.pen;
             self.keep(Rest { text, pen }, false);
+            others = moved;
         }
-        self.sheet = Some(others.bitmap);
+        self.sheet = Some(others);
         Ok(())
     }
 
@@ -205,17 +203,19 @@ impl<'a> Rests<'a> {
             self.taken.free_id,
             &mut rectangles,
         )?;
-        let mut others = self.page_without_letters()?;
-        ink_rules(rules, Ink::White, &mut others.bitmap);
-        if self.has_room(rectangles.len(), &others.bitmap) {
-            let saving = saving_of_rules(self.alloc, &others.bitmap, rules, rectangles.len())?;
+        let mut others = self.dots_without_letters()?;
+        ink_rules(rules, Ink::White, &mut others);
+        if self.has_room(rectangles.len(), &others) {
+            let saving = saving_of_rules(self.alloc, &others, rules, rectangles.len())?;
             if saving != Saving::SurelyLonger {
-                let mut text = raster_text(self.alloc, &mut others)?;
+                let (text, moved) = raster_text(self.alloc, self.page, others)?;
+                let mut text = text;
                 text.extend_from_slice(&rectangles)?;
                 self.keep(Rest { text, pen }, saving == Saving::SurelyShorter);
+                others = moved;
             }
         }
-        self.sheet = Some(others.bitmap);
+        self.sheet = Some(others);
         Ok(())
     }
 
@@ -239,26 +239,17 @@ impl<'a> Rests<'a> {
         }
     }
 
-    /// The page without the dots of its letters.
-    fn page_without_letters(&mut self) -> Result<Page, AllocError> {
+    /// The dots of the page without those of its letters.
+    fn dots_without_letters(&mut self) -> Result<Bitmap, AllocError> {
         let page = self.page;
         let mut bitmap = white_bitmap(self.alloc, page, self.sheet.take())?;
         paint_without(self.alloc, self.taken, &page.bitmap, &mut bitmap)?;
-        Ok(Page {
-            size: page.size,
-            copies: page.copies,
-            dpi: page.dpi,
-            bitmap,
-        })
+        Ok(bitmap)
     }
 }
 
 /// The white dots of a page like this one, in place of others where these are as many.
-fn white_bitmap(alloc: Global, page: &Page, sheet: Option<Bitmap>) -> Result<Bitmap, AllocError>
-    ensures size { IfOk result (λ bitmap. bitmap.size ≡ page.now.size) }
-    ensures dpi { IfOk result (λ bitmap. bitmap.dpi ≡ page.now.dpi) }
-    ensures picture { IfOk result (λ bitmap. IsPicture bitmap) }
-{
+fn white_bitmap(alloc: Global, page: &Page, sheet: Option<Bitmap>) -> Result<Bitmap, AllocError> {
     if let Some(sheet) = sheet {
         if sheet.size() == page.size && sheet.dpi() == page.dpi {
             let mut bitmap = sheet;
@@ -297,15 +288,27 @@ fn white_rows(bitmap: &Bitmap, rules: &[Rule]) -> usize {
     count
 }
 
-/// The page text of a page as it is sent beside letters and rectangles, without its form feed. Its dots are moved where the raster starts
-/// further right: so no more than two pages are held at once.
-fn raster_text(alloc: Global, page: &mut Page) -> Result<Vec<u8>, AllocError> {
-    let corner = corner_of(&page.bitmap);
+/// The page text of a page with these dots as it is sent beside letters and rectangles, without its form feed; and the dots, which are moved
+/// where the raster starts further right: so no more than two pages are held at once.
+fn raster_text(
+    alloc: Global,
+    page: &Page,
+    others: Bitmap,
+) -> Result<(Vec<u8>, Bitmap), AllocError> {
+    let corner = corner_of(&others);
+    let mut bitmap = others;
     if !corner.is_of_page() {
-        move_to_corner(alloc, corner, &mut page.bitmap)?;
+        move_to_corner(alloc, corner, &mut bitmap)?;
     }
-    let text = least_text(alloc, page)?;
-    shortened(alloc, &text, page, corner)
+    let moved = Page {
+        size: bitmap.size(),
+        copies: page.copies,
+        dpi: bitmap.dpi(),
+        bitmap,
+    };
+    let text = least_text(alloc, &moved)?;
+    let text = shortened(alloc, &text, &moved, corner)?;
+    Ok((text, moved.bitmap))
 }
 
 /// The least page text of a page, without its form feed.
@@ -323,11 +326,7 @@ fn paint_without(
     taken: Taken<'_>,
     whole: &Bitmap,
     bitmap: &mut Bitmap,
-) -> Result<(), AllocError>
-    ensures size { bitmap.new.size ≡ bitmap.old.size }
-    ensures dpi { bitmap.new.dpi ≡ bitmap.old.dpi }
-    ensures picture { IsPicture bitmap.new }
-{
+) -> Result<(), AllocError> {
     let row_bytes = bitmap.size().row_bytes(bitmap.dpi());
     let band_bytes = row_bytes.saturating_mul(BAND_ROWS as usize).max(1);
     let reach = reach_of(taken);
@@ -387,11 +386,7 @@ fn letters_near(letters: &[Letter], top: u32, end: u32, reach: u32) -> &[Letter]
 }
 
 /// Paints rows of this many bytes from row `top` on. White ones are passed over.
-fn paint(bytes: &[u8], row_bytes: usize, top: u32, bitmap: &mut Bitmap)
-    ensures size { bitmap.new.size ≡ bitmap.old.size }
-    ensures dpi { bitmap.new.dpi ≡ bitmap.old.dpi }
-    ensures picture { IsPicture bitmap.new }
-{
+fn paint(bytes: &[u8], row_bytes: usize, top: u32, bitmap: &mut Bitmap) {
     let page_width = bitmap.size().width(bitmap.dpi());
     let mut y = u64::from(top);
     for row in bytes.chunks(row_bytes.max(1)) {

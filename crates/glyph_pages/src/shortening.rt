@@ -3,8 +3,6 @@
 //! The raster of a page text starts at the corner of the page, and each row ends a sequence (docs/OUTPUT.md). A raster may start where the
 //! ink does, and a row without data needs no end: the sequence of the next row takes it too.
 
-ghost use Rattle.std.specs.Prelude.{◌≤◌, length};
-
 use crate::corners::Corner;
 use glyph_patterns::append_labelled;
 use pcl_bitmap::Page;
@@ -22,11 +20,11 @@ pub fn shortened(
     corner: Corner,
 ) -> Result<Vec<u8>, AllocError> {
     let mut out = Vec::new(alloc);
-    let (head, body) = text.split_at(end_after(text, b'A'));
+    let (head, body) = split_after(text, b'A');
     if corner.is_of_page() {
         out.extend_from_slice(head)?;
     } else {
-        let (start, _) = head.split_at(end_after(head, b'E'));
+        let (start, _) = split_after(head, b'E');
         out.extend_from_slice(start)?;
         append_start(page, corner, &mut out)?;
     }
@@ -59,14 +57,13 @@ fn append_chained(body: &[u8], out: &mut Vec<u8>) -> Result<(), AllocError> {
     out.extend_from_slice(rest)
 }
 
-/// Where the first command of a text ends that has this letter: at its start where none has.
-fn end_after(text: &[u8], letter: u8) -> usize
-    ensures { result ≤ length text.now }
-{
-    match text.iter().position(|byte| *byte == letter) {
-        Some(place) => place.saturating_add(1).min(text.len()),
+/// A text up to the end of its first command that has this letter, and what follows: all of it where none has.
+fn split_after(text: &[u8], letter: u8) -> (&[u8], &[u8]) {
+    let end = match text.iter().position(|byte| *byte == letter) {
+        Some(place) => place.saturating_add(1),
         None => 0,
-    }
+    };
+    text.split_at(end.min(text.len()))
 }
 
 /// A sequence that sends a row.

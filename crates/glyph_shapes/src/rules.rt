@@ -3,9 +3,6 @@
 //! A level rule is the same long run of black dots in each of its rows, an upright one the same black columns down many rows. What
 //! crosses a rule is black in it too: so both kinds are found on the page as it is, before any is taken out.
 
-ghost use Rattle.std.specs.Prelude.{◌≡◌};
-ghost use Rattle.pcl_bitmap.specs.Bitmap.{IsPicture};
-
 use crate::inked_pages::InkedPage;
 use crate::level_rules::append_level_rules;
 use crate::upright_rules::append_upright_rules;
@@ -156,11 +153,7 @@ pub fn is_border(black: u32, length: u32) -> bool {
 }
 
 /// Inks the dots of rules.
-pub fn ink_rules(rules: &[Rule], ink: Ink, bitmap: &mut Bitmap)
-    ensures size { bitmap.new.size ≡ bitmap.old.size }
-    ensures dpi { bitmap.new.dpi ≡ bitmap.old.dpi }
-    ensures picture { IsPicture bitmap.old → IsPicture bitmap.new }
-{
+pub fn ink_rules(rules: &[Rule], ink: Ink, bitmap: &mut Bitmap) {
     for rule in rules {
         bitmap.fill(
             rule.left,

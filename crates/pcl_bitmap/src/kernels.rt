@@ -1,6 +1,6 @@
 //! Where rows of bytes change: 32 bytes at a time, and the rest byte by byte.
 
-ghost use Rattle.std.specs.Prelude.{◌≡◌, ◌≢◌, ◌↔◌, ℕ, ◌+◌, ◌<◌, ◌≤◌, length, slice_index, All, IsTrue};
+ghost use Rattle.std.specs.Prelude.{◌≡◌, ◌≢◌, ◌↔◌, ℕ, ◌+◌, ◌-◌, ◌*◌, ◌^◌, ◌<◌, ◌≤◌, min, length, slice_index, All, IsTrue};
 ghost use Rattle.std.specs.Int.{bit_at};
 ghost use Rattle.pcl_bitmap.specs.Kernels.{IsFirstDifference, IsRunEnd, IsTrimmedLen};
 
@@ -49,6 +49,13 @@ pub fn run_end(row: &[u8], from: usize) -> usize
         place += 1;
     }
     place
+}
+
+/// How many bits a row has, up to as many as the type counts.
+pub fn bits_of(row: &[u8]) -> u32
+    ensures { result ≡ min (8 * length row.now) (2 ^ 32 - 1) }
+{
+    u32::try_from(row.len().saturating_mul(8)).unwrap_or(u32::MAX)
 }
 
 /// The length of a row without the zero bytes at its end.

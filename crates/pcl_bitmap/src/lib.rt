@@ -16,6 +16,6 @@ mod squares;
 
 pub use bitmap::Bitmap;
 pub use ink::Ink;
-pub use kernels::{first_difference, run_end, trimmed_len};
+pub use kernels::{bits_of, first_difference, run_end, trimmed_len};
 pub use laws::same_dots_same_bitmap;
 pub use page::{Page, PageSink};
