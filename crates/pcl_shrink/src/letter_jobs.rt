@@ -254,15 +254,21 @@ impl<'a, 'b, P: ShrinkWatcher> LetterWriter<'a, 'b, P> {
     /// The job with the pages that came: none where no stretch has letters, or where it is too long.
     fn finish(self) -> Result<Option<Vec<u8>>, AllocError> {
         let mut writer = self;
-        if writer.is_too_long {
-            return Ok(None);
+        let is_shorter = writer.end()?;
+        Ok(is_shorter.then_some(writer.out))
+    }
+
+    /// Ends the job. Says whether it has letters, and fewer bytes than it may have.
+    fn end(&mut self) -> Result<bool, AllocError> {
+        if self.is_too_long {
+            return Ok(false);
         }
-        writer.end_stretch()?;
-        if !writer.has_letters {
-            return Ok(None);
+        self.end_stretch()?;
+        if !self.has_letters {
+            return Ok(false);
         }
-        append_end(writer.asks, writer.pages, &mut writer.out)?;
-        Ok((writer.out.len() < writer.limit).then_some(writer.out))
+        append_end(self.asks, self.pages, &mut self.out)?;
+        Ok(self.out.len() < self.limit)
     }
 
     /// Appends what was written of a page, of which this is a text without letters, so that it says what was said of it. The end of a
