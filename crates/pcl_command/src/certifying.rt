@@ -28,30 +28,42 @@ pub fn certify<F: JobFiles, R: Read, W: Write, P: Watcher>(
         (world files.new (R.remaining reader.new) (W.contents out.new)) result }
 {
     match files.begin_aside(certificate.file) {
-        Ok(file) => certify_to(files, alloc, certificate, file, run, reader, out, watcher),
+        Ok(writer) => {
+            let begun = BegunCertificate {
+                certificate,
+                writer,
+            };
+            certify_to(files, alloc, begun, run, reader, out, watcher)
+        }
         Err(why) => Err(Failure::of_file(alloc, why)),
     }
 }
 
-/// Writes the job to the target of a run, and the certificate to a file that was begun. Both take their places at the end, or neither
-/// does.
+/// A certificate whose file was begun.
+struct BegunCertificate<'a, W> {
+    certificate: Certificate<'a>,
+    writer: W,
+}
+
+/// Writes the job to the target of a run, and the certificate to its file. Both take their places at the end, or neither does.
 fn certify_to<F: JobFiles, R: Read, W: Write, P: Watcher>(
     files: &mut F,
     alloc: Global,
-    certificate: Certificate<'_>,
-    aside: F::Writer,
+    begun: BegunCertificate<'_, F::Writer>,
     run: Run<'_>,
     reader: &mut R,
     out: &mut W,
     watcher: P,
 ) -> Result<(), Failure>
-    ensures { HasCertifiedTo F.acts certificate.entry (F.Writer.contents aside) run.entry.resolution run.entry.target
+    ensures { HasCertifiedTo F.acts begun.entry.certificate (F.Writer.contents begun.entry.writer) run.entry.resolution run.entry.target
         (world files.old (R.remaining reader.old) (W.contents out.old))
         (world files.new (R.remaining reader.new) (W.contents out.new)) result }
 {
-    let Certificate { file: name, format } = certificate;
+    let BegunCertificate {
+        certificate: Certificate { file: name, format },
+        writer: mut aside,
+    } = begun;
     let seen = run.resolution;
-    let mut aside = aside;
     match run.target {
         Target::StandardOutput => {
             let done = certify_read(alloc, format, seen, reader, out, &mut aside, watcher);
