@@ -27,7 +27,7 @@ pub fn advice_on_kind(kind: Kind) -> &'static str {
         Kind::FontHeader =>
             "the header of a soft font is malformed, or the font is of a kind that isn't a bitmap: send fonts as bitmaps",
         Kind::CharacterData =>
-            "a character of a soft font is malformed or too large, or its font isn't there: send fonts as bitmaps",
+            "a character of a soft font is malformed or too large: send fonts as bitmaps",
         Kind::NoFont =>
             "text with no soft font selected: fonts of the printer aren't known here, so let the driver send fonts or graphics",
         Kind::MacroOpen => "a reset or the end of the job comes inside the definition of a macro",

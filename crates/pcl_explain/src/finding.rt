@@ -2,7 +2,7 @@
 
 ghost use Rattle.std.specs.Prelude.{◌≡◌};
 
-use pcl_base::{Refusal, Value};
+use pcl_base::{Kind, Refusal, Value};
 
 /// Something in a job that the rules refuse.
 #[derive(Clone, Copy, Debug)]
@@ -11,7 +11,7 @@ pub struct Finding {
     pub refusal: Refusal,
     /// The value of the command; none where the job can't be read, and at the end of the input.
     pub value: Option<Value>,
-    /// How many commands of the job are as this one: of its name, and of its value where that alone is refused.
+    /// How many commands from this one on are refused as it is.
     pub times: usize,
 }
 
@@ -25,6 +25,21 @@ impl Finding {
             value: None,
             times: 1,
         }
+    }
+
+    /// The value, where that is what is refused.
+    pub fn refused_value(self) -> Option<Value> {
+        match self.refusal.kind {
+            Kind::UnsupportedValue => self.value,
+            _ => None,
+        }
+    }
+
+    /// Whether another finding is one line with it: of the same kind and name, and of the same value where that is refused.
+    pub fn is_same_thing(self, other: Finding) -> bool {
+        self.refusal.kind == other.refusal.kind
+            && self.refusal.name == other.refusal.name
+            && self.refused_value() == other.refused_value()
     }
 }
 

@@ -53,11 +53,9 @@ fn text_after(alloc: Global, job: &[u8], findings: &Findings) -> Result<Vec<u8>,
 /// Appends what stands after the refusal in the line of a finding: the value where that is refused, how many commands of the job
 /// are like it where there are more, and what can be done.
 fn append_rest(finding: &Finding, out: &mut Vec<u8>) -> Result<(), AllocError> {
-    if let Some(value) = finding.value {
-        if finding.refusal.kind == Kind::UnsupportedValue {
-            out.extend_from_slice(b" ")?;
-            append_value(value, out)?;
-        }
+    if let Some(value) = finding.refused_value() {
+        out.extend_from_slice(b" ")?;
+        append_value(value, out)?;
     }
     if finding.times > 1 {
         out.extend_from_slice(b" (")?;

@@ -114,7 +114,7 @@ fn reason_of(alloc: Global, finding: &Finding) -> Result<Reason, AllocError> {
         kind: finding.refusal.kind.name(),
         at: finding.refusal.at,
         command: String::from_utf8(name).unwrap_or(String::new(alloc)),
-        value: finding.value.map(|value| whole(value)),
+        value: finding.refused_value().map(|value| whole(value)),
         times: finding.times,
         advice: advice_on(finding),
     })

@@ -26,10 +26,10 @@ pub struct ReadAs {
     pub dpi: Dpi,
 }
 
-/// What the rules of a profile refuse in a job. That is the refusal of the job, and then that of the job without all commands like those
-/// that were refused before, up to 100 in all. Where a value is refused, the commands of its name with other values that are refused by
-/// themselves are found with it, so that the job is performed once for each name, and 32 times at most. None exactly where the job is
-/// accepted.
+/// What the rules of a profile refuse in a job. That is the refusal of the job, and then that of the job without the commands that were
+/// refused before and those from there on that are like them, up to 100 in all. Where a value is refused, the commands of its name with
+/// other values that are refused by themselves are found with it, so that the job is performed once for each name, and 32 times at most.
+/// None exactly where the job is accepted.
 pub fn find_refusals(
     alloc: Global,
     job: &[u8],
@@ -68,10 +68,14 @@ fn findings_from(
     match read_job(alloc, read_as.profile, job) {
         Ok(mut commands) => {
             let first = leave_out(&mut commands, refusal);
-            let with_first = leave_out_values(alloc, &mut commands, &first, read_as)?;
+            let found = found_after(alloc, commands, job.len(), read_as, first)?;
             Ok(Findings {
-                first,
-                later: later_findings(alloc, commands, job.len(), read_as, with_first)?,
+                first: Finding {
+                    refusal,
+                    value: first.value,
+                    times: found.times,
+                },
+                later: found.later,
             })
         }
         Err(JobFault::Refused(_)) => {
@@ -89,12 +93,60 @@ fn findings_from(
     }
 }
 
-/// What is found after a sequence that can't be read.
+/// What is found after the first refusal of a job.
 #[derive(Drop)]
 struct FoundAfter {
-    /// How many sequences can't be read as the first can't.
+    /// How many commands or sequences are refused as the first is, which is one of them.
     times: usize,
     later: Vec<Finding>,
+}
+
+impl FoundAfter {
+    /// Adds a finding, or counts its commands with those of the same thing.
+    fn add(&mut self, first: Finding, finding: Finding) -> Result<(), AllocError> {
+        if finding.is_same_thing(first) {
+            self.times = self.times.saturating_add(finding.times);
+            return Ok(());
+        }
+        for other in self.later.iter_mut() {
+            if finding.is_same_thing(*other) {
+                other.times = other.times.saturating_add(finding.times);
+                return Ok(());
+            }
+        }
+        self.later.push(finding)?;
+        Ok(())
+    }
+
+    /// Adds findings.
+    fn add_all(&mut self, first: Finding, findings: &[Finding]) -> Result<(), AllocError> {
+        for finding in findings {
+            self.add(first, *finding)?;
+        }
+        Ok(())
+    }
+}
+
+/// What is found in commands from which the first that is refused was left out, with those like it. At the job's end no command is refused,
+/// and nothing more is found.
+fn found_after(
+    alloc: Global,
+    commands: Vec<Command<'_>>,
+    end: usize,
+    read_as: ReadAs,
+    first: Finding,
+) -> Result<FoundAfter, AllocError> {
+    let mut left = commands;
+    let mut found = FoundAfter {
+        times: first.times,
+        later: Vec::new(alloc),
+    };
+    if first.value.is_none() {
+        return Ok(found);
+    }
+    let values = leave_out_values(alloc, &mut left, &first, read_as)?;
+    found.add_all(first, &values)?;
+    later_findings(alloc, left, end, read_as, first, found)
 }
 
 /// Reads a job on after a sequence that can't be read, with it and later ones left out, as long as it is known where they end.
@@ -105,6 +157,7 @@ fn read_on(
     read_as: ReadAs,
 ) -> Result<FoundAfter, AllocError> {
     let mut bytes = Vec::from_slice(alloc, job)?;
+    let unread = Finding::without_command(first);
     let mut found = FoundAfter {
         times: 1,
         later: Vec::new(alloc),
@@ -117,16 +170,9 @@ fn read_on(
         let start = blank_sequence(&mut bytes, refused.at);
         match next_fault(alloc, &bytes, start, read_as.profile)? {
             Some(refusal) => refused = refusal,
-            None => {
-                found.later = findings_of(alloc, &bytes, read_as, found.later)?;
-                return Ok(found);
-            }
+            None => return findings_of(alloc, &bytes, read_as, unread, found),
         }
-        if refused.kind == first.kind && refused.name == first.name {
-            found.times = found.times.saturating_add(1);
-        } else {
-            add_unread(&mut found.later, refused)?;
-        }
+        found.add(unread, Finding::without_command(refused))?;
     }
     Ok(found)
 }
@@ -148,16 +194,17 @@ fn next_fault(
     }
 }
 
-/// What is found in a job that can be read, after some findings.
+/// What is found in a job that can be read, with what was found before.
 fn findings_of(
     alloc: Global,
     job: &[u8],
     read_as: ReadAs,
-    findings: Vec<Finding>,
-) -> Result<Vec<Finding>, AllocError> {
+    first: Finding,
+    before: FoundAfter,
+) -> Result<FoundAfter, AllocError> {
     match read_job(alloc, read_as.profile, job) {
-        Ok(commands) => later_findings(alloc, commands, job.len(), read_as, findings),
-        Err(JobFault::Refused(_)) => Ok(findings),
+        Ok(commands) => later_findings(alloc, commands, job.len(), read_as, first, before),
+        Err(JobFault::Refused(_)) => Ok(before),
         Err(JobFault::Memory) => Err(AllocError),
     }
 }
@@ -167,44 +214,34 @@ fn is_of_one_sequence(kind: Kind) -> bool {
     matches!(kind, Kind::UnsupportedCommand | Kind::ValueRange)
 }
 
-/// Adds a sequence that can't be read to findings, or counts it where one of its name is there.
-fn add_unread(findings: &mut Vec<Finding>, refusal: Refusal) -> Result<(), AllocError> {
-    for finding in findings.iter_mut() {
-        if finding.refusal.kind == refusal.kind && finding.refusal.name == refusal.name {
-            finding.times = finding.times.saturating_add(1);
-            return Ok(());
-        }
-    }
-    findings.push(Finding::without_command(refusal))?;
-    Ok(())
-}
-
-/// What is found in commands after some findings, one after the other, each without those that were found before.
+/// What is found in commands, one after the other, each without those that were found before.
 fn later_findings(
     alloc: Global,
     commands: Vec<Command<'_>>,
     end: usize,
     read_as: ReadAs,
-    before: Vec<Finding>,
-) -> Result<Vec<Finding>, AllocError> {
+    first: Finding,
+    before: FoundAfter,
+) -> Result<FoundAfter, AllocError> {
     let mut left = commands;
-    let mut findings = before;
+    let mut found = before;
     for _ in 0..PERFORMING_LIMIT {
-        if findings.len() >= FINDING_LIMIT {
+        if found.later.len() >= FINDING_LIMIT {
             break;
         }
         let Some(refusal) = refusal_of(alloc, &left, end, read_as)? else {
             break;
         };
         let finding = leave_out(&mut left, refusal);
-        findings.push(finding)?;
+        found.add(first, finding)?;
         if finding.value.is_none() {
             break;
         }
-        findings.extend_from_slice(&leave_out_values(alloc, &mut left, &finding, read_as)?)?;
+        let values = leave_out_values(alloc, &mut left, &finding, read_as)?;
+        found.add_all(first, &values)?;
     }
-    findings.truncate(FINDING_LIMIT - 1);
-    Ok(findings)
+    found.later.truncate(FINDING_LIMIT - 1);
+    Ok(found)
 }
 
 /// Leaves out the commands of the name of a finding with other values that are refused by themselves, where it is its value that is
@@ -244,20 +281,36 @@ pub fn refusal_of(
     }
 }
 
-/// Leaves out the command that is refused, and all that are like it, and says what was left out.
+/// Leaves out the command that is refused, and those from there on that are like it, and says what was refused. Where there are more than
+/// there may be, those before it are left out too, so that what follows can be performed.
 fn leave_out(commands: &mut Vec<Command<'_>>, refusal: Refusal) -> Finding
     ensures { result.refusal ≡ refusal }
 {
     let Some(refused) = refused_command(commands, refusal) else {
         return Finding::without_command(refusal);
     };
-    let before = commands.len();
-    commands.retain(|command| !is_like(refusal.kind, &refused, command));
+    let times = count_like(refusal, &refused, commands);
+    let is_too_many = matches!(refusal.kind, Kind::TooManyPages | Kind::TooManyCommands);
+    commands.retain(|command| {
+        let is_reached = is_too_many || command.at >= refusal.at;
+        !(is_reached && is_like(refusal.kind, &refused, command))
+    });
     Finding {
         refusal,
         value: Some(refused.value),
-        times: before - commands.len(),
+        times,
     }
+}
+
+/// How many commands from the one that is refused on are like it.
+fn count_like(refusal: Refusal, refused: &Command<'_>, commands: &[Command<'_>]) -> usize {
+    let mut count: usize = 0;
+    for command in commands {
+        if command.at >= refusal.at && is_like(refusal.kind, refused, command) {
+            count = count.saturating_add(1);
+        }
+    }
+    count
 }
 
 /// The command that a refusal names.
@@ -270,10 +323,16 @@ fn refused_command<'a>(commands: &[Command<'a>], refusal: Refusal) -> Option<Com
     None
 }
 
-/// Whether a command would be refused as another is: one of its name, and of its value where that is what is refused.
+/// Whether a command would be refused as another is: one of its name, of its value or with its data where these are what is refused. Of
+/// those that begin, end or run macros each counts alone.
 fn is_like(kind: Kind, refused: &Command<'_>, command: &Command<'_>) -> bool {
     command.name == refused.name
-        && (kind != Kind::UnsupportedValue || command.value == refused.value)
+        && match kind {
+            Kind::UnsupportedValue => command.value == refused.value,
+            Kind::FontHeader | Kind::CharacterData => command.bytes == refused.bytes,
+            Kind::MacroControl | Kind::MacroOpen | Kind::MacroDepth => command.at == refused.at,
+            _ => true,
+        }
 }
 
 /// Takes pages, and does nothing with them.
