@@ -103,7 +103,7 @@ bench:
 bench-certificates:
 	bench/certificates.sh
 
-# Has some 230 jobs of real clients written again by `min` and `shrink`, and checks each. Needs Python 3, the packages that the
+# Has some 280 jobs of real clients written again by `min` and `shrink`, and checks each. Needs Python 3, the packages that the
 # head of the script lists, and the program that `make build` left.
 bench-clients:
 	bench/clients.py $(PROGRAM)
