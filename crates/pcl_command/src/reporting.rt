@@ -214,7 +214,7 @@ fn doubt_name(doubt: Doubt) -> &'static [u8]
         Doubt::Code => b"a code without a character",
         Doubt::EmptyMark => b"a mark without dots on the page",
         Doubt::ColumnWidth => b"the column width after another font, or a font sent anew",
-        Doubt::PastEnd => b"a tab, or a move by rows, past the end of the page",
+        Doubt::PastEnd => b"a tab, a move by rows or a line spacing past the end of the page",
         Doubt::PartOfUnit => b"a part of a unit",
         Doubt::Ejection => b"sides, a media type or a page length on a page with marks",
         Doubt::Edge => b"ink past an edge of the page",

@@ -38,7 +38,7 @@ pub enum Doubt {
     EmptyMark,
     /// The column width after another font came into use, or the selected one was sent anew, or has a part of a PCL unit.
     ColumnWidth,
-    /// A tab, or a move by rows, past the end of the page.
+    /// A tab, or a move by rows, past the end of the page, or a line spacing of more than its height.
     PastEnd,
     /// A part of a unit of 1/7200 inch, or of a PCL unit, also in an advance.
     PartOfUnit,
@@ -173,7 +173,7 @@ impl Doubts {
     ) {
         self.note_parts(operation, value, environment);
         self.note_width(operation, value, environment);
-        self.note_spacing(operation, value);
+        self.note_spacing(operation, value, environment);
         if !is_marked && ejects_marked(operation) {
             self.note_if(self.has_raster, Doubt::EmptyMark);
         }
@@ -243,14 +243,16 @@ impl Doubts {
         self.note_if(has_parts, Doubt::PartOfUnit);
     }
 
-    /// Looks at what a command does to the line spacing.
-    fn note_spacing(&mut self, operation: Operation, value: Value) {
+    /// Looks at what a command has done to the line spacing.
+    fn note_spacing(&mut self, operation: Operation, value: Value, environment: &Env) {
         match operation {
             Operation::Reset | Operation::UniversalExit | Operation::LineSpacing => {
                 self.spacing = None;
             }
             Operation::VerticalMotionIndex => {
                 self.spacing = has_rest(value, VMI_UNIT).then_some(Doubt::PartOfUnit);
+                let is_past = environment.vmi() > environment.size().units_high();
+                self.note_if(is_past, Doubt::PastEnd);
             }
             _ => {}
         }
@@ -327,6 +329,11 @@ impl Doubts {
         self.is_row_half = false;
         self.has_back |= !self.is_reset && may_have_back(asked);
         self.has_raster = false;
+    }
+
+    /// Looks at the end of a job whose last page isn't marked.
+    pub fn note_unmarked_end(&mut self) {
+        self.note_if(self.has_raster, Doubt::EmptyMark);
     }
 
     /// Looks at a place that goes to the cursor's stack, or comes from it.

@@ -449,6 +449,7 @@ impl<'a> Performer<'a> {
             self.end_asks(is_macro_permanent);
             return Ok(());
         }
+        self.doubts.note_unmarked_end();
         self.end_asks(is_macro_permanent);
         Ok(())
     }
