@@ -288,8 +288,8 @@ fn white_rows(bitmap: &Bitmap, rules: &[Rule]) -> usize {
     count
 }
 
-/// The page text of a page with these dots as it is sent beside letters and rectangles, without its form feed; and the dots, which are moved
-/// where the raster starts further right: so no more than two pages are held at once.
+/// The page text of a page with these dots as it is sent beside letters and rectangles, without its form feed; and the dots, which are
+/// moved where the raster starts further right: so no more than two pages are held at once.
 fn raster_text(
     alloc: Global,
     page: &Page,

@@ -28,7 +28,7 @@ impl Finding {
     }
 
     /// The value, where that is what is refused.
-    pub fn refused_value(self) -> Option<Value> {
+    pub(crate) fn refused_value(self) -> Option<Value> {
         match self.refusal.kind {
             Kind::UnsupportedValue => self.value,
             _ => None,
@@ -36,7 +36,7 @@ impl Finding {
     }
 
     /// Whether another finding is one line with it: of the same kind and name, and of the same value where that is refused.
-    pub fn is_same_thing(self, other: Finding) -> bool {
+    pub(crate) fn is_same_thing(self, other: Finding) -> bool {
         self.refusal.kind == other.refusal.kind
             && self.refusal.name == other.refusal.name
             && self.refused_value() == other.refused_value()

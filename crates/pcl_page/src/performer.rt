@@ -321,7 +321,8 @@ impl<'a> Performer<'a> {
 
     /// Separates the job from the next.
     fn separate(&mut self, value: Value)
-        ensures { (dpi : Dpi) (s : Situation) → IsIn dpi s self.old → IsIn dpi (record s { asks = with_separation (signed_whole value) s.asks }) self.new }
+        ensures { (dpi : Dpi) (s : Situation) → IsIn dpi s self.old
+            → IsIn dpi (record s { asks = with_separation (signed_whole value) s.asks }) self.new }
     {
         self.asks.separate(i64::from(value.whole()));
     }

@@ -118,7 +118,10 @@ data_over p y buffer row bytes above long d = d ∙ ap (λ (old : List ℕ). dec
 pub makes_more : (p : Picture) (held : KeptBitmap) {y : ℕ} {made : List ℕ} → ((k : ℕ) → k < y → MakesRow p k (data_of held k))
     → Decodes Delta (row_above p y) (data_of held y) made → made ≡ row_of p y → (k : ℕ) → k < y + 1 → MakesRow p k (data_of held k)
 makes_more p held {y} {made} before d is k lt =
-    elim (cases_lt k y) [ inl less ↦ before k less | inr at ↦ let here : y ≡ k = omega arith in rw (← here) (sym is ∙ decoded_is Delta _ _ made d) ]
+    elim (cases_lt k y) [
+      | inl less ↦ before k less
+      | inr at ↦ let here : y ≡ k = omega arith in rw (← here) (sym is ∙ decoded_is Delta _ _ made d)
+    ]
 
 -- two bitmaps of one size and resolution, and row data that makes the rows of the one, and the first rows of the other
 module _ {kept : Picture} (other : Picture) {held : KeptBitmap} {count : ℕ} (is_kept : IsPicture kept) (keeps : KeepsPicture kept held)

@@ -9,13 +9,14 @@ returns c =
     let old = c.follow_size.new.self in
     let followed = rw c.size-size.ensures.value at c.in_ok-follow_size.ensures in
     let raster = c.match-take.raster in
-    let is : raster ≡ unwrap_or old.raster (raster_from c.args.dpi 0 old.environment) =
+    let chosen : Option Raster → Raster = λ r. unwrap_or r (raster_from c.args.dpi 0 old.environment) in
+    let is : raster ≡ chosen old.raster =
     elim c.match-take.branch [
       | in-Some w ↦ w.raster-is
-          ∙ sym (ap (λ (r : Option Raster). unwrap_or r (raster_from c.args.dpi 0 old.environment)) (sym c.take.ensures.value ∙ w.in-Some.is))
+          ∙ sym (ap chosen (sym c.take.ensures.value ∙ w.in-Some.is))
       | in-None+in_ok-raster-in-None w ↦
           w.raster-is ∙ w.in_ok-raster-in-None.ensures
-          ∙ sym (ap (λ (r : Option Raster). unwrap_or r (raster_from c.args.dpi 0 old.environment)) (sym c.take.ensures.value ∙ w.in-None.is))
+          ∙ sym (ap chosen (sym c.take.ensures.value ∙ w.in-None.is))
     ] in
     let method = c.method.ensures in
     let dots = λ (x y : ℕ). rw (method, followed.settings, or_is) at (c.send.ensures.dots x y) in
