@@ -26,8 +26,8 @@
 use crate::folder::{Folder, Held};
 use case_tables::{CasesOfLines, TableFault, bytes_of, number};
 use clap::Error;
-use pcl_answers::Ending;
-use pcl_files::{Failure, Reporter};
+use pcl_files::Reporter;
+use pcl_messages::Ending;
 use pcl_program::{exit_status, run};
 use pcl_tool::Watcher;
 use std::alloc::{AllocError, Global};
@@ -401,11 +401,7 @@ fn counts_of(text: &str) -> Result<(usize, usize), TableFault> {
 fn text_of(alloc: Global, ended: &Result<Ending, Error>) -> Result<String, AllocError> {
     Ok(match ended {
         Ok(Ending::Done | Ending::Checked(_) | Ending::Compared(_)) => String::new(alloc),
-        Ok(Ending::Failed(Failure::Said { line, .. })) => String::from_utf8_lossy(alloc, line)?,
-        Ok(Ending::Failed(Failure::NoMemory)) => String::from_str(
-            alloc,
-            "pclmin: out of memory\n",
-        )?,
+        Ok(Ending::Failed(failure)) => String::from_utf8_lossy(alloc, failure.line())?,
         Err(error) => format!(in alloc; "{error}")?,
     })
 }

@@ -7,11 +7,11 @@ use pcl_base::{Dpi, PAGE_LIMIT, Profile};
 use pcl_cert::Format;
 use pcl_explain::kind_named;
 use pcl_page::Readers;
+use pcl_preview::{ImageForm, PageChoice, PageSet, Scale};
 use pcl_request::{
     Batch, Beside, Certificate, CheckedFiles, ComparedFiles, Destination, Layout, Profiles,
     Request, Resolution, Rewriting, Run, Shrinking, Source, Target, Task, Work, resolution_named,
 };
-use pcl_streams::{ImageForm, PageChoice, PageSet, Scale};
 use std::alloc::{AllocError, Global};
 use std::convert::AsStr;
 

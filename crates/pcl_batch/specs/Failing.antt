@@ -1,7 +1,7 @@
 -- The status of a run that failed.
 use Rattle.std.specs.Prelude.{ℕ, ◌≢◌}
-use Rattle.pcl_files.specs.declared.failures.Failure.{Failure}
-use Rattle.pcl_files.specs.declared.failures.Failure.TheVariants.{Said, NoMemory}
+use Rattle.pcl_messages.specs.declared.failures.Failure.{Failure}
+use Rattle.pcl_messages.specs.declared.failures.Failure.TheVariants.{Said, NoMemory}
 
 -- a run that failed doesn't end with status 0
 abbrev pub HasFailingStatus : Failure → Type 0

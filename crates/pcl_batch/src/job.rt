@@ -12,9 +12,9 @@ use crate::rewriter::Rewriter;
 use crate::sums::{FileSum, Sums, sums_text};
 use crate::writing::write_again;
 use pcl_base::{Dpi, JobFault};
-use pcl_files::{FileKind, JobFiles, read_file, resolve};
+use pcl_files::{FileKind, JobFiles, read_file};
 use pcl_page::{Readers, page_count};
-use pcl_request::{Batch, Destination, Profiles, Rewriting};
+use pcl_request::{Batch, Destination, Profiles, Rewriting, resolve};
 use pcl_streams::Fault;
 use std::alloc::{AllocError, Global};
 

@@ -1,11 +1,11 @@
 //! What is said of a job that isn't written.
 
 ghost use Rattle.std.specs.Prelude.{◌≡◌, ◌≢◌, IfOk};
-ghost use Rattle.pcl_files.specs.Messages.{status_for};
+ghost use Rattle.pcl_messages.specs.Faults.{status_for};
 ghost use Rattle.pcl_batch.specs.Failing.{HasFailingStatus};
 ghost use Rattle.pcl_batch.specs.inner.Jobs.{IsFailing};
 
-use pcl_files::{FILE_STATUS, Failure, MEMORY_STATUS, USAGE_STATUS, fault_line, status_of};
+use pcl_messages::{FILE_STATUS, Failure, USAGE_STATUS, fault_line, status_of};
 use pcl_streams::Fault;
 use std::alloc::{AllocError, Global};
 
@@ -97,16 +97,10 @@ impl Reason {
     pub(crate) fn of_failure(alloc: Global, failure: &Failure) -> Result<Reason, AllocError>
         ensures { IfOk result (λ reason. HasFailingStatus failure.now → IsFailing reason) }
     {
-        match failure {
-            Failure::Said { line, status } => Ok(Reason {
-                status: *status,
-                said: said_in(alloc, line)?,
-            }),
-            Failure::NoMemory => Ok(Reason {
-                status: MEMORY_STATUS,
-                said: String::from_str(alloc, "out of memory")?,
-            }),
-        }
+        Ok(Reason {
+            status: failure.status(),
+            said: said_in(alloc, failure.line())?,
+        })
     }
 
     /// With what is left of an earlier batch.

@@ -1,7 +1,7 @@
 //! Who writes the jobs of a batch again.
 
 use pcl_base::Dpi;
-use pcl_files::Failure;
+use pcl_messages::Failure;
 use pcl_request::Rewriting;
 use std::alloc::Global;
 

@@ -9,7 +9,8 @@ use crate::reasons::{Obstacle, Reason};
 use crate::report::Outcome;
 use crate::rewriter::{Rewriter, Rewritten};
 use crate::sums::{FileSum, sums_text};
-use pcl_files::{Failure, JobFiles, settle, settle_both, write_file};
+use pcl_files::{JobFiles, settle, settle_both, write_file};
+use pcl_messages::Failure;
 use pcl_streams::{Fault, write_all};
 use std::alloc::{AllocError, Global};
 

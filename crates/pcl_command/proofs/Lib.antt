@@ -1,2 +1,6 @@
 pub mod Names
 pub mod Written
+pub mod SamePages
+pub mod Drawn
+pub mod ComparedFor
+mod Finest

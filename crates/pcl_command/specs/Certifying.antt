@@ -11,11 +11,11 @@ use Rattle.pcl_streams.specs.declared.fault.Fault.{Fault}
 use Rattle.pcl_streams.specs.declared.fault.Fault.TheVariants.{Refused, Memory}
 use Rattle.pcl_streams.specs.Transfer.{IsReadAll}
 use Rattle.pcl_tool.specs.Minimizing.{IsCertifiedJobOf, IsOutputWritten}
-use Rattle.pcl_files.specs.Failures.{HasFailedFile, IsOutcome}
+use Rattle.pcl_messages.specs.Failures.{HasFailedFile, IsOutcome}
 use Rattle.pcl_files.specs.Files.{FileAct, Begun, Unbegun, Dropped}
-use Rattle.pcl_files.specs.Resolutions.{IsSeenAt}
+use Rattle.pcl_request.specs.Resolutions.{IsSeenAt}
 use Rattle.pcl_files.specs.WholeFiles.{AreSettled, IsSettledAside}
-use Rattle.pcl_files.specs.declared.failures.Failure.{Failure}
+use Rattle.pcl_messages.specs.declared.failures.Failure.{Failure}
 use Rattle.pcl_files.specs.declared.files.FileFault.{FileFault}
 use Rattle.pcl_request.specs.declared.request.Certificate.{Certificate}
 use Rattle.pcl_request.specs.declared.request.Resolution.{Resolution}

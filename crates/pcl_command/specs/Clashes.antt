@@ -1,10 +1,9 @@
 -- Files that would take the place of a job's.
-use Rattle.std.specs.Prelude.{◌≡◌, ◌⊎◌, List, ℕ, Bool, true, false, Option, Some, None, codes}
+use Rattle.std.specs.Prelude.{◌≡◌, ◌⊎◌, List, ℕ, Bool, true, false, Option, Some, None}
 use Rattle.std.specs.Borrow.{Bor}
 use Rattle.pcl_files.specs.Files.{FileAct, AreOne, AreTwo}
 use Rattle.pcl_request.specs.Requests.{aside_of, first_job, second_job}
 use Rattle.pcl_request.specs.declared.request.Request.{Request}
-use Rattle.pcl_request.specs.declared.request.Request.TheVariants as asked
 
 -- a name is that of a job's file, or there is no such file
 abbrev pub SayIfNamed : {F : Type 0} → (F → FileAct → F → Type 0) → F → (name : List ℕ) → (job : Option (Bor (List ℕ))) → Bool → Type 0
@@ -25,8 +24,3 @@ SayIfTaken acts files None first second said = said ≡ false
 -- the file of a certificate or of an image is that of a job that is read, written or compared, or a file of its own
 abbrev pub SayIfClash : {F : Type 0} → (F → FileAct → F → Type 0) → F → Request → Bool → Type 0
 SayIfClash acts files request said = SayIfTaken acts files (aside_of request) (first_job request) (second_job request) said
-
--- what is said where it is that of a job
-abbrev pub clash_line : Request → List ℕ
-clash_line (asked.Compare files) = codes "pclmin: --image names the file of a job: give it a file of its own\n"
-clash_line other = codes "pclmin: --cert names the file of a job: give it a file of its own\n"

@@ -9,9 +9,9 @@ use Rattle.pcl_cert.specs.declared.format.Format.TheVariants.{One}
 use Rattle.pcl_streams.specs.declared.fault.Fault.{Fault}
 use Rattle.pcl_streams.specs.JobFaults.{RefusedOrMemory, fault_of}
 use Rattle.pcl_tool.specs.Minimizing.{IsCertifiedJobOf}
-use Rattle.pcl_files.specs.Failures.{HasFailed}
-use Rattle.pcl_files.specs.Messages.{line_of, status_for}
-use Rattle.pcl_files.specs.declared.failures.Failure.{Failure}
+use Rattle.pcl_messages.specs.Failures.{HasFailed}
+use Rattle.pcl_messages.specs.Faults.{line_of, status_for}
+use Rattle.pcl_messages.specs.declared.failures.Failure.{Failure}
 use Rattle.pcl_request.specs.Requests.{widest_of}
 use Rattle.pcl_request.specs.declared.batch.Rewriting.{Rewriting}
 use Rattle.pcl_request.specs.declared.batch.Rewriting.TheVariants.{Shrink, ShrinkEverywhere, Certify}

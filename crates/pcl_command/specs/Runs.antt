@@ -5,18 +5,18 @@ use Rattle.pcl_base.specs.Limits.{input_limit}
 use Rattle.pcl_streams.specs.declared.fault.Fault.{Fault}
 use Rattle.pcl_streams.specs.declared.fault.Fault.TheVariants.{ReadFault}
 use Rattle.pcl_streams.specs.Transfer.{IsReadAll}
-use Rattle.pcl_files.specs.Failures.{HasFailed, HasFailedFile, IsOutcome}
+use Rattle.pcl_messages.specs.Failures.{HasFailed, HasFailedFile, IsOutcome}
 use Rattle.pcl_files.specs.Files.{FileAct, Opened, Unopened, Begun, Unbegun}
-use Rattle.pcl_files.specs.Messages.{line_of, status_for}
+use Rattle.pcl_messages.specs.Faults.{line_of, status_for}
 use Rattle.pcl_files.specs.WholeFiles.{IsSettled}
-use Rattle.pcl_files.specs.declared.failures.Failure.{Failure}
+use Rattle.pcl_messages.specs.declared.failures.Failure.{Failure}
 use Rattle.pcl_files.specs.declared.files.FileFault.{FileFault}
-use Rattle.pcl_answers.specs.Checks.{IsCheckRun}
-use Rattle.pcl_answers.specs.ComparisonLines.{compare_line_of, compare_status_for}
-use Rattle.pcl_answers.specs.Comparisons.{IsCompareRun}
-use Rattle.pcl_answers.specs.declared.comparisons.CompareFault.{CompareFault}
-use Rattle.pcl_answers.specs.declared.endings.Ending.{Ending}
-use Rattle.pcl_answers.specs.declared.endings.Ending.TheVariants.{Done, Checked, Compared, Failed}
+use Rattle.pcl_command.specs.Checks.{IsCheckRun}
+use Rattle.pcl_messages.specs.ComparisonLines.{compare_line_of, compare_status_for}
+use Rattle.pcl_command.specs.Comparisons.{IsCompareRun}
+use Rattle.pcl_messages.specs.declared.compare_fault.CompareFault.{CompareFault}
+use Rattle.pcl_messages.specs.declared.endings.Ending.{Ending}
+use Rattle.pcl_messages.specs.declared.endings.Ending.TheVariants.{Done, Checked, Compared, Failed}
 use Rattle.pcl_request.specs.Requests.{task_page}
 use Rattle.pcl_request.specs.declared.request.Task.{Task}
 use Rattle.pcl_request.specs.declared.request.Task.TheVariants.{ExplainKind}
@@ -33,7 +33,8 @@ use Rattle.pcl_request.specs.declared.request.ComparedFiles.{ComparedFiles}
 use Rattle.pcl_request.specs.declared.request.Request.{Request}
 use Rattle.pcl_request.specs.declared.request.Request.TheVariants as asked
 use Rattle.pcl_command.specs.Certifying.{HasCertified}
-use Rattle.pcl_command.specs.Clashes.{SayIfClash, clash_line}
+use Rattle.pcl_command.specs.Clashes.{SayIfClash}
+use Rattle.pcl_messages.specs.Failures.{clash_line}
 use Rattle.pcl_command.specs.Tasks.{IsDoneSeen}
 use Rattle.pcl_command.specs.World.{World}
 

@@ -9,7 +9,7 @@ use Rattle.pcl_page.specs.Accepting.{IsAccepted, IsFirstAccepted}
 use Rattle.pcl_page.specs.Delivering.{IsRefusal, IsRefusalBy}
 use Rattle.pcl_streams.specs.declared.fault.Fault.{Fault}
 use Rattle.pcl_streams.specs.declared.fault.Fault.TheVariants.{Refused, Memory, WriteFault}
-use Rattle.pcl_streams.specs.PageImages.{IsPagesPreview}
+use Rattle.pcl_preview.specs.PageImages.{IsPagesPreview}
 use Rattle.pcl_streams.specs.Transfer.{AppendsFront}
 use Rattle.pcl_tool.specs.Writing.{IsWrittenJob}
 use Rattle.pcl_explain.specs.Findings.{Explains, ExplainsAsObject, ExplainsKind, ExplainsKindAsObject}

@@ -5,8 +5,9 @@ ghost use Rattle.pcl_command.specs.World.{world};
 
 use pcl_base::Profile;
 use pcl_cert::Format;
-use pcl_files::{Failure, JobFiles, outcome, resolve, settle_aside, settle_both};
-use pcl_request::{Certificate, Resolution, Run, Target};
+use pcl_files::{JobFiles, settle_aside, settle_both};
+use pcl_messages::{Failure, outcome};
+use pcl_request::{Certificate, Resolution, Run, Target, resolve};
 use pcl_streams::{Fault, Watcher, read_all};
 use pcl_tool::{INPUT_LIMIT, minimize_watched, write_output};
 use std::alloc::Global;

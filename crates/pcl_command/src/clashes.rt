@@ -1,11 +1,9 @@
 //! Files that would take the place of a job's.
 
-ghost use Rattle.pcl_files.specs.Failures.{HasFailed};
-ghost use Rattle.pcl_command.specs.Clashes.{SayIfClash, SayIfNamed, clash_line};
+ghost use Rattle.pcl_command.specs.Clashes.{SayIfClash, SayIfNamed};
 
-use pcl_files::{Failure, JobFiles};
+use pcl_files::JobFiles;
 use pcl_request::Request;
-use std::alloc::Global;
 
 /// Whether the file of a certificate or of an image is that of a job that is read, written or compared.
 pub fn clashes<F: JobFiles>(files: &F, request: Request<'_>) -> bool
@@ -27,21 +25,5 @@ fn is_named<F: JobFiles>(files: &F, name: &str, job: Option<&str>) -> bool
     match job {
         Some(job) => files.are_one(name, job),
         None => false,
-    }
-}
-
-/// What is said of such a file, in place of doing what is asked for.
-pub fn refuse_clash(alloc: Global, request: Request<'_>) -> Failure
-    ensures { HasFailed (clash_line request.entry) 2 result }
-{
-    match request {
-        Request::Compare(_) => Failure::usage(
-            alloc,
-            b"pclmin: --image names the file of a job: give it a file of its own\n",
-        ),
-        Request::Run(_) | Request::Check(_) => Failure::usage(
-            alloc,
-            b"pclmin: --cert names the file of a job: give it a file of its own\n",
-        ),
     }
 }

@@ -2,12 +2,16 @@
 #![tactic(auto)]
 
 mod certifying;
+mod checks;
 mod clashes;
+mod comparisons;
+mod difference_images;
 mod passes;
 mod profiles;
 mod reporting;
 mod rewriting;
 mod running;
 
+pub use comparisons::{compare_jobs, compared_at};
 pub use rewriting::{Again, rewrite};
 pub use running::carry_out;

@@ -5,6 +5,7 @@ ghost use Rattle.pcl_command.specs.Profiles.{IsShrunkUnder, IsShrunkEverywhereUn
 use crate::profiles::{shrink_everywhere_under, shrink_under};
 use pcl_base::{Dpi, JobFault};
 use pcl_files::Reporter;
+use pcl_messages::pass_name;
 use pcl_request::Shrinking;
 use pcl_shrink::{Pass, ShrinkWatcher, Shrunk};
 use std::alloc::Global;
@@ -16,16 +17,6 @@ struct Passes<P>(P);
 impl<P: Reporter> ShrinkWatcher for Passes<P> {
     fn pages_passed(&self, pass: Pass, pages: usize) {
         self.0.pages_passed(pass_name(pass), pages);
-    }
-}
-
-/// What a pass does.
-fn pass_name(pass: Pass) -> &'static str {
-    match pass {
-        Pass::Paint => "pages painted at 600 dots per inch",
-        Pass::Read => "pages read",
-        Pass::Write => "pages written",
-        Pass::Compare => "pages to compare",
     }
 }
 

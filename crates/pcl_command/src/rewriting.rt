@@ -5,7 +5,7 @@ ghost use Rattle.pcl_command.specs.Rewriting.{IsRewritten, IsShrunkAgain};
 use crate::profiles::{shrink_everywhere_under, shrink_under};
 use pcl_base::{Dpi, JobFault};
 use pcl_cert::Format;
-use pcl_files::Failure;
+use pcl_messages::Failure;
 use pcl_request::Rewriting;
 use pcl_shrink::{NoWatcher, Shrunk};
 use pcl_streams::Fault;

@@ -10,17 +10,20 @@ ghost use Rattle.pcl_command.specs.Tasks.{ExplainsIn, ExplainsKindIn, IsDone, Is
 ghost use Rattle.pcl_command.specs.World.{world};
 
 use crate::certifying::certify;
-use crate::clashes::{clashes, refuse_clash};
+use crate::checks::check;
+use crate::clashes::clashes;
+use crate::comparisons::compare;
 use crate::passes::{shrink_everywhere_reported, shrink_reported};
 use crate::reporting::{report_no_page, report_shrunk};
-use pcl_answers::{Ending, check, compare, not_compared};
 use pcl_base::{Dpi, Kind, Profile};
 use pcl_explain::{explanation, explanation_object, kind_explanation, kind_object};
-use pcl_files::{Failure, JobFiles, Reporter, outcome, settle};
+use pcl_files::{JobFiles, Reporter, settle};
+use pcl_messages::{Ending, Failure, not_compared, outcome, refuse_clash};
 use pcl_page::first_accepted;
 use pcl_pages::describe_pages;
 use pcl_request::{Layout, Request, Resolution, Run, Shrinking, Source, Target, Task, Work};
-use pcl_streams::{Fault, preview_pages, read_all, write_all};
+use pcl_preview::preview_pages;
+use pcl_streams::{Fault, read_all, write_all};
 use pcl_tool::{INPUT_LIMIT, least_job};
 use std::alloc::{AllocError, Global};
 use std::io::{Read, Write};

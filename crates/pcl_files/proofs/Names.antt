@@ -1,5 +1,4 @@
 -- What proofs of this crate name of std, of the crates below, and of its own definitions; those above take these from here too.
-pub use Rattle.pcl_base.proofs.Names.{Err, List, Vec, arith, codes, decimal, inr, refusal_text, rules, ℕ}
+pub use Rattle.pcl_base.proofs.Names.{Err, List, arith, inr, ℕ}
 pub use Rattle.pcl_streams.specs.declared.{fault.Fault.Fault, fault.Fault.TheVariants.Memory, fault.Fault.TheVariants.ReadFault, fault.Fault.TheVariants.TooLong}
-pub use Rattle.pcl_files.specs.{Files.FileAct, Messages.line_of, Messages.text_of}
-pub use Rattle.pcl_files.specs.{WholeFiles.IsFileRead}
+pub use Rattle.pcl_files.specs.{Files.FileAct, WholeFiles.IsFileRead}

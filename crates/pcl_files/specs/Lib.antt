@@ -1,5 +1,2 @@
-pub mod Messages
-pub mod Failures
 pub mod Files
 pub mod WholeFiles
-pub mod Resolutions

@@ -15,28 +15,28 @@ use Rattle.pcl_streams.specs.declared.fault.Fault.TheVariants as run
 use Rattle.pcl_tool.specs.declared.job_verdict.JobVerdict.TheVariants.{Proved}
 use Rattle.pcl_tool.specs.declared.job_verdict.CheckAnswer.{CheckAnswer}
 use Rattle.pcl_tool.specs.declared.job_verdict.CheckAnswer.TheVariants as checked
-use Rattle.pcl_streams.specs.declared.form.ImageForm.{ImageForm}
-use Rattle.pcl_streams.specs.declared.form.ImageForm.TheVariants.{Greymap}
-use Rattle.pcl_streams.specs.declared.form.Scale.{Scale}
-use Rattle.pcl_streams.specs.declared.page_images.PageChoice.{PageChoice}
-use Rattle.pcl_streams.specs.PageImages.{AreImagesIn, LacksPage}
+use Rattle.pcl_preview.specs.declared.form.ImageForm.{ImageForm}
+use Rattle.pcl_preview.specs.declared.form.ImageForm.TheVariants.{Greymap}
+use Rattle.pcl_preview.specs.declared.form.Scale.{Scale}
+use Rattle.pcl_preview.specs.declared.page_images.PageChoice.{PageChoice}
+use Rattle.pcl_preview.specs.PageImages.{AreImagesIn, LacksPage}
 use Rattle.pcl_tool.specs.Minimizing.{IsCertifiedJobOf, input_limit}
 use Rattle.pcl_tool.specs.Writing.{IsWrittenJob}
 use Rattle.pcl_same.specs.declared.comparison.AskedComparison.{AskedComparison}
 use Rattle.pcl_same.specs.declared.comparison.AskedComparison.TheVariants as comparisons
 use Rattle.pcl_request.specs.declared.request.Beside.{Beside}
 use Rattle.pcl_request.specs.declared.request.Layout.TheVariants.{Text}
-use Rattle.pcl_answers.specs.Checks.{IsAnswerBeside}
-use Rattle.pcl_answers.specs.Comparisons.{IsComparisonFor}
+use Rattle.pcl_command.specs.Checks.{IsAnswerBeside}
+use Rattle.pcl_command.specs.Comparisons.{IsComparisonFor}
 use Rattle.pcl_page.specs.declared.doubts.Readers.TheVariants.{Printers}
 use Rattle.pcl_shrink.specs.Shrinking.{IsWrittenFor, IsWrittenEverywhere, IsRefusedEverywhere}
 use Rattle.pcl_explain.specs.Findings.{Explains}
 use Rattle.pcl_same.specs.declared.fault.Which.{Which}
 use Rattle.pcl_same.specs.declared.fault.Which.TheVariants.{First, Second}
-use Rattle.pcl_answers.specs.declared.comparisons.CompareFault.TheVariants as compare
-use Rattle.pcl_files.specs.Messages.{line_of}
-use Rattle.pcl_answers.specs.Verdicts.{answer_line_of}
-use Rattle.pcl_answers.specs.ComparisonLines.{comparison_line_of, compare_line_of}
+use Rattle.pcl_messages.specs.declared.compare_fault.CompareFault.TheVariants as compare
+use Rattle.pcl_messages.specs.Faults.{line_of}
+use Rattle.pcl_messages.specs.Verdicts.{answer_line_of}
+use Rattle.pcl_messages.specs.ComparisonLines.{comparison_line_of, compare_line_of}
 use Rattle.pcl_library.specs.Arguments.{IsSeen, AreSeen, IsChoiceFor, IsScaleFor, IsFormatFor, IsPerformed}
 use Rattle.pcl_library.specs.Failures.{argument_line, failure_line, outcome_of, job_number}
 use Rattle.pcl_library.specs.Lines.{c_string}

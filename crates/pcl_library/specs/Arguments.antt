@@ -1,6 +1,6 @@
 -- Arguments that come as numbers, and inputs that are too long.
 use Rattle.std.specs.Prelude.{◌≡◌, ◌≢◌, ◌⊎◌, ◌↔◌, ℕ, ◌<◌, ◌≤◌, Bool, List, length, Option, Some, None, Result, Ok, Err}
-use Rattle.pcl_answers.specs.Comparisons.{AreComparedAt}
+use Rattle.pcl_command.specs.Comparisons.{AreComparedAt}
 use Rattle.pcl_base.specs.Limits.{input_limit, page_limit}
 use Rattle.pcl_base.specs.declared.dpi.Dpi.{Dpi}
 use Rattle.pcl_base.specs.declared.dpi.Dpi.TheVariants.{Dpi300, Dpi600}
@@ -9,14 +9,14 @@ use Rattle.pcl_base.specs.declared.profile.Profile.TheVariants.{Drivers}
 use Rattle.pcl_cert.specs.declared.format.Format.{Format}
 use Rattle.pcl_cert.specs.declared.format.Format.TheVariants.{One, Two}
 use Rattle.pcl_streams.specs.declared.fault.Fault.TheVariants as run
-use Rattle.pcl_streams.specs.declared.form.Scale.{Scale}
-use Rattle.pcl_streams.specs.declared.page_images.PageChoice.{PageChoice}
-use Rattle.pcl_streams.specs.declared.page_images.PageChoice.TheVariants.{All, Listed}
-use Rattle.pcl_streams.specs.declared.page_images.PageSet.{PageSet}
-use Rattle.pcl_streams.specs.PageImages.{is_between, is_listed}
+use Rattle.pcl_preview.specs.declared.form.Scale.{Scale}
+use Rattle.pcl_preview.specs.declared.page_images.PageChoice.{PageChoice}
+use Rattle.pcl_preview.specs.declared.page_images.PageChoice.TheVariants.{All, Listed}
+use Rattle.pcl_preview.specs.declared.page_images.PageSet.{PageSet}
+use Rattle.pcl_preview.specs.PageImages.{is_between, is_listed}
 use Rattle.pcl_request.specs.declared.request.Resolution.{Resolution}
 use Rattle.pcl_request.specs.declared.request.Resolution.TheVariants.{Given, FirstAccepted}
-use Rattle.pcl_files.specs.Resolutions.{IsSeenAt}
+use Rattle.pcl_request.specs.Resolutions.{IsSeenAt}
 use Rattle.pcl_library.specs.Failures.{outcome_of}
 use Rattle.pcl_library.specs.declared.failure.Argument.TheVariants as wrong
 use Rattle.pcl_library.specs.declared.failure.CallFailure.{CallFailure}

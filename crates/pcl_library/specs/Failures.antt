@@ -7,9 +7,9 @@ use Rattle.pcl_same.specs.declared.fault.Which.{Which}
 use Rattle.pcl_same.specs.declared.fault.Which.TheVariants.{First, Second}
 use Rattle.pcl_same.specs.declared.fault.SameFault.{SameFault}
 use Rattle.pcl_same.specs.declared.fault.SameFault.TheVariants as same
-use Rattle.pcl_answers.specs.declared.comparisons.CompareFault.TheVariants as compare
-use Rattle.pcl_files.specs.Messages.{line_of}
-use Rattle.pcl_answers.specs.ComparisonLines.{compare_line_of}
+use Rattle.pcl_messages.specs.declared.compare_fault.CompareFault.TheVariants as compare
+use Rattle.pcl_messages.specs.Faults.{line_of}
+use Rattle.pcl_messages.specs.ComparisonLines.{compare_line_of}
 use Rattle.pcl_library.specs.declared.failure.Argument.{Argument}
 use Rattle.pcl_library.specs.declared.failure.Argument.TheVariants.{Resolution, Pages, Scale, Format}
 use Rattle.pcl_library.specs.declared.failure.CallFailure.{CallFailure}

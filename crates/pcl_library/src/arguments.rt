@@ -6,12 +6,11 @@ ghost use Rattle.pcl_library.specs.Arguments.{IsWithinLimit, IsResolutionOf, IsC
 ghost use Rattle.pcl_library.specs.Failures.{IsUnperformed};
 
 use crate::failure::{Argument, CallFailure};
-use pcl_answers::compared_at;
 use pcl_base::{Dpi, PAGE_LIMIT, Profile};
 use pcl_cert::Format;
-use pcl_files::resolve;
-use pcl_request::Resolution;
-use pcl_streams::{PageSet, Scale};
+use pcl_command::compared_at;
+use pcl_preview::{PageSet, Scale};
+use pcl_request::{Resolution, resolve};
 use pcl_tool::{Fault, INPUT_LIMIT, PageChoice};
 use std::alloc::Global;
 

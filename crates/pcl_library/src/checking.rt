@@ -7,7 +7,7 @@ ghost use Rattle.pcl_tool.specs.declared.job_verdict.JobVerdict.TheVariants.{Pro
 ghost use Rattle.pcl_tool.specs.declared.job_verdict.CheckAnswer.TheVariants.{Job};
 ghost use Rattle.pcl_request.specs.declared.request.Beside.TheVariants.{Input, Images};
 ghost use Rattle.pcl_request.specs.declared.request.Layout.TheVariants.{Text};
-ghost use Rattle.pcl_answers.specs.Verdicts.{answer_line_of};
+ghost use Rattle.pcl_messages.specs.Verdicts.{answer_line_of};
 ghost use Rattle.pcl_library.specs.Arguments.{IsSeen, IsNoResolution, IsTooLong, FailsBy, outcome_in};
 ghost use Rattle.pcl_library.specs.Failures.{IsUnperformed};
 ghost use Rattle.pcl_library.specs.Answers.{Answers, AnswersAt, HasVerdict, IsOutOfMemory};
@@ -16,10 +16,9 @@ ghost use Rattle.pcl_library.specs.Lines.{c_string};
 use crate::answer::Answer;
 use crate::arguments::{resolution_numbered, within_limit};
 use crate::failure::CallFailure;
-use pcl_answers::answer_line;
 use pcl_base::{Dpi, Profile};
-use pcl_files::resolve;
-use pcl_request::Layout;
+use pcl_messages::answer_line;
+use pcl_request::{Layout, resolve};
 use pcl_tool::{CheckAnswer, JobVerdict, Unwatched, check_images, check_job};
 use std::alloc::Global;
 

@@ -7,8 +7,9 @@ ghost use Rattle.pcl_library.specs.Answers.{Compares, ComparesAt};
 use crate::answer::Answer;
 use crate::arguments::both_seen_at;
 use crate::failure::CallFailure;
-use pcl_answers::{compare_jobs, comparison_line};
 use pcl_base::{Dpi, Profile};
+use pcl_command::compare_jobs;
+use pcl_messages::comparison_line;
 use pcl_request::Layout;
 use std::alloc::Global;
 

@@ -7,9 +7,8 @@ ghost use Rattle.pcl_library.specs.Failures.{argument_line, failure_line, failur
 ghost use Rattle.pcl_library.specs.Lines.{c_string};
 
 use crate::lines::ended;
-use pcl_answers::{CompareFault, compare_fault_line};
 use pcl_base::{JobFault, Refusal};
-use pcl_files::fault_line;
+use pcl_messages::{CompareFault, compare_fault_line, fault_line};
 use pcl_same::{SameFault, Which};
 use pcl_tool::Fault;
 use std::alloc::{AllocError, Global};

@@ -2,8 +2,8 @@
 
 ghost use Rattle.std.specs.Prelude.{◌⊎◌};
 ghost use Rattle.pcl_base.specs.declared.profile.Profile.TheVariants.{Drivers};
-ghost use Rattle.pcl_streams.specs.PageImages.{ArePageImages};
-ghost use Rattle.pcl_streams.specs.declared.form.ImageForm.TheVariants.{Bitmap};
+ghost use Rattle.pcl_preview.specs.PageImages.{ArePageImages};
+ghost use Rattle.pcl_preview.specs.declared.form.ImageForm.TheVariants.{Bitmap};
 ghost use Rattle.pcl_library.specs.Arguments.{IsNoResolution, AreNoPages, IsNoScale, IsTooLong, FailsBy};
 ghost use Rattle.pcl_library.specs.Answers.{Shows, ShowsAt, HasImages, HasGreys, HasChosenImages, LacksPages, LacksChosen};
 
@@ -11,7 +11,7 @@ use crate::answer::Answer;
 use crate::arguments::{pages_between, scale_numbered, seen_at};
 use crate::failure::CallFailure;
 use pcl_base::{Dpi, Profile};
-use pcl_streams::{ImageForm, preview_pages};
+use pcl_preview::{ImageForm, preview_pages};
 use pcl_tool::{Fault, PageChoice};
 use std::alloc::Global;
 

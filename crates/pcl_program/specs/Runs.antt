@@ -5,11 +5,11 @@ use Rattle.clap.specs.declared.error.Error.{Error}
 use Rattle.clap.specs.declared.error.kind.ErrorKind.TheVariants.{DisplayHelp, DisplayVersion, OutOfMemory}
 use Rattle.pcl_request.specs.Requests.{writes_raw}
 use Rattle.pcl_request.specs.declared.request.Request.{Request}
-use Rattle.pcl_answers.specs.declared.endings.Ending.{Ending}
-use Rattle.pcl_answers.specs.declared.endings.Ending.TheVariants.{Failed}
-use Rattle.pcl_answers.specs.Endings.{IsStatus}
-use Rattle.pcl_files.specs.declared.failures.Failure.TheVariants.{NoMemory}
-use Rattle.pcl_files.specs.Failures.{HasFailed, terminal_line}
+use Rattle.pcl_messages.specs.declared.endings.Ending.{Ending}
+use Rattle.pcl_messages.specs.declared.endings.Ending.TheVariants.{Failed}
+use Rattle.pcl_messages.specs.Endings.{IsStatus}
+use Rattle.pcl_messages.specs.declared.failures.Failure.TheVariants.{NoMemory}
+use Rattle.pcl_messages.specs.Failures.{HasFailed, terminal_line}
 use Rattle.pcl_files.specs.Files.{FileAct}
 use Rattle.pcl_command.specs.Runs.{HasEnded}
 use Rattle.pcl_command.specs.World.{World}

@@ -4,8 +4,8 @@ use crate::faults::print_fault;
 use crate::manner::Manner;
 use crate::running::{exit_status, run};
 use clap::Error;
-use pcl_answers::Ending;
-use pcl_files::{FILE_STATUS, Failure, USAGE_STATUS};
+use pcl_messages::{Ending, Failure, refuse_arguments};
+use pcl_streams::Fault;
 use pcl_system::{Input, OutputStream, SystemFiles, Troubles, Typed, Voice};
 use std::alloc::AllocError;
 use std::env;
@@ -17,17 +17,8 @@ use std::process::ExitCode;
 pub fn run_process(rt: &HostRuntime) -> ExitCode {
     let status = match arguments(rt) {
         Ok(Some(words)) => run_words(rt, &words),
-        Ok(None) => {
-            let _ = rt.eprint("pclmin: the arguments aren't text\n");
-            USAGE_STATUS
-        }
-        Err(AllocError) => end(
-            rt,
-            &Ok(Ending::Failed(Failure::NoMemory)),
-            &[],
-            Manner::plain(Typed::Job),
-            &Troubles::new(),
-        ),
+        Ok(None) => fail(rt, &refuse_arguments(rt.alloc())),
+        Err(AllocError) => fail(rt, &Failure::NoMemory),
     };
     ExitCode::from(status)
 }
@@ -67,20 +58,24 @@ fn end(
 ) -> u8 {
     match ended {
         Ok(Ending::Done | Ending::Checked(_) | Ending::Compared(_)) => {}
-        Ok(Ending::Failed(Failure::Said { line, .. })) => {
-            if let Ok(text) = std::str::from_utf8(line) {
-                print_fault(rt, text, words, manner, troubles);
+        Ok(Ending::Failed(failure)) => {
+            if let Ok(line) = std::str::from_utf8(failure.line()) {
+                print_fault(rt, line, words, manner, troubles);
             }
-        }
-        Ok(Ending::Failed(Failure::NoMemory)) => {
-            let _ = rt.eprint("pclmin: out of memory\n");
         }
         Err(error) => {
             if error.print(rt).is_err() && !error.use_stderr() {
-                let _ = rt.eprint("pclmin: cannot write\n");
-                return FILE_STATUS;
+                return fail(rt, &Failure::of(rt.alloc(), &Fault::WriteFault, 0));
             }
         }
     }
     exit_status(ended)
+}
+
+/// Prints the line of a run that failed before its words said how, and gives the status.
+fn fail(rt: &HostRuntime, failure: &Failure) -> u8 {
+    if let Ok(line) = std::str::from_utf8(failure.line()) {
+        let _ = rt.eprint(line);
+    }
+    failure.status()
 }

@@ -3,7 +3,7 @@
 use pcl_base::Dpi;
 use pcl_batch::{Rewriter, Rewritten};
 use pcl_command::rewrite;
-use pcl_files::Failure;
+use pcl_messages::Failure;
 use pcl_request::Rewriting;
 use std::alloc::Global;
 

@@ -7,11 +7,11 @@ ghost use Rattle.pcl_program.specs.Runs.{IsShown, HasRunAsked, HasRunWords, AskF
 use crate::rewriting::Filter;
 use clap::Error;
 use clap::error::ErrorKind;
-use pcl_answers::Ending;
 use pcl_arguments::{parse_batch, parse_request};
 use pcl_batch::run_named;
 use pcl_command::carry_out;
-use pcl_files::{Failure, JobFiles, Reporter, USAGE_STATUS, refuse_terminal};
+use pcl_files::{JobFiles, Reporter};
+use pcl_messages::{Ending, Failure, USAGE_STATUS, refuse_terminal};
 use pcl_request::Request;
 use std::alloc::Global;
 use std::convert::AsStr;

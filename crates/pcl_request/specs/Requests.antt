@@ -4,7 +4,7 @@ use Rattle.std.specs.Borrow.{Bor}
 use Rattle.pcl_base.specs.declared.dpi.Dpi.TheVariants.{Dpi300, Dpi600}
 use Rattle.pcl_base.specs.declared.profile.Profile.{Profile}
 use Rattle.pcl_base.specs.declared.profile.Profile.TheVariants.{Stated, Drivers}
-use Rattle.pcl_streams.specs.PageImages.{last_page}
+use Rattle.pcl_preview.specs.PageImages.{last_page}
 use Rattle.pcl_request.specs.declared.batch.Rewriting.{Rewriting}
 use Rattle.pcl_request.specs.declared.batch.Rewriting.TheVariants as rewriting
 use Rattle.pcl_request.specs.declared.request.Beside.{Beside}

@@ -4,6 +4,7 @@
 mod batch;
 mod profiles;
 mod request;
+mod resolutions;
 
 pub use batch::{Batch, Destination, Rewriting};
 pub use profiles::{Profiles, Shrinking};
@@ -11,3 +12,4 @@ pub use request::{
     Beside, Certificate, CheckedFiles, ComparedFiles, Layout, Request, Resolution, Run, Source,
     Target, Task, Work, resolution_named,
 };
+pub use resolutions::{are_accepted, resolve, resolve_both};

@@ -7,7 +7,7 @@ ghost use Rattle.pcl_request.specs.declared.request.Resolution.{Resolution};
 use crate::profiles::Shrinking;
 use pcl_base::{Dpi, Kind, Profile};
 use pcl_cert::Format;
-use pcl_streams::{ImageForm, PageChoice};
+use pcl_preview::{ImageForm, PageChoice};
 
 /// What a run makes of its job.
 #[derive(Clone, Copy)]

@@ -16,7 +16,8 @@ pub use Rattle.pcl_cert.specs.declared.{check.Verdict.Verdict, check.Verdict.The
 pub use Rattle.pcl_meaning.proofs.{Jobs.job_fits, SamePages.AreSame, SamePages.least_job, SamePages.moved, SamePages.pages_same}
 pub use Rattle.pcl_meaning.proofs.Names.{IsJobOf, IsLeastJobText, PrintEach, PrintsShortest}
 pub use Rattle.pcl_tool.specs.{Certified.AreProved, Certified.IsAnswered, Headline.IsLeastSameJob, Headline.TheClaim, JobVerdicts.AreCompared, JobVerdicts.IsFirstFailure, JobVerdicts.IsFramed, JobVerdicts.IsJobVerdict, JobVerdicts.text_bytes, LeastJobs.IsCertifiedBy, LeastJobs.IsLeastJobOf, Minimizing.IsCertifiedJobOf, Minimizing.IsFiltered, Minimizing.IsFilteredCert, Minimizing.IsOutputWritten, Minimizing.IsRead, Minimizing.input_limit, Writing.IsJobWritten, Writing.IsWrittenJob}
-pub use Rattle.pcl_streams.specs.{Image.IsImageWritten, JobFaults.RefusedOrMemory, JobFaults.fault_of, PageImages.IsPagesPreview, Preview.HasNoPage, Preview.HasPage, Preview.IsPageDots, Transfer.AppendsFront, Transfer.IsReadAll, Transfer.IsWritten, Watching.HasTaken}
+pub use Rattle.pcl_preview.specs.{Image.IsImageWritten, PageImages.IsPagesPreview, Preview.HasNoPage, Preview.HasPage, Preview.IsPageDots}
+pub use Rattle.pcl_streams.specs.{JobFaults.RefusedOrMemory, JobFaults.fault_of, Transfer.AppendsFront, Transfer.IsReadAll, Transfer.IsWritten, Watching.HasTaken}
 pub use Rattle.pcl_streams.specs.declared.{fault.Fault.Fault, fault.Fault.TheVariants.CertificateTooLong, fault.Fault.TheVariants.Memory, fault.Fault.TheVariants.ReadFault, fault.Fault.TheVariants.Refused, fault.Fault.TheVariants.TooLong, fault.Fault.TheVariants.WriteFault}
 pub use Rattle.pcl_tool.specs.declared.{job_verdict.JobVerdict.JobVerdict, minimizing.Output.Output, page_checks.Checker.Checker}
 pub use Rattle.pcl_tool.specs.inner.{CheckerSteps.BeginsWith, CheckerSteps.FindsNext, CheckerSteps.IsBegun, CheckerSteps.TakesPage, CheckerSteps.answer, CheckerSteps.proofs_left, PageChecks.IsFound, WrittenJobs.IsOutput, WrittenJobs.IsProvedIn, WrittenJobs.Proves, WrittenJobs.SoFar, WrittenJobs.TakesText}

@@ -5,9 +5,9 @@ use Rattle.pcl_page.specs.Delivering.{IsRefusal}
 use Rattle.pcl_streams.specs.declared.fault.Fault.{Fault}
 use Rattle.pcl_tool.specs.declared.job_verdict.CheckAnswer.{CheckAnswer}
 use Rattle.pcl_tool.specs.declared.job_verdict.CheckAnswer.TheVariants.{OtherImages, Job}
-use Rattle.pcl_streams.specs.declared.page_images.PageChoice.TheVariants.{All}
+use Rattle.pcl_preview.specs.declared.page_images.PageChoice.TheVariants.{All}
 use Rattle.pcl_base.specs.declared.profile.Profile.TheVariants.{Stated}
-use Rattle.pcl_streams.specs.PageImages.{AreImagesOf}
+use Rattle.pcl_preview.specs.PageImages.{AreImagesOf}
 use Rattle.pcl_streams.specs.JobFaults.{RefusedOrMemory}
 use Rattle.pcl_tool.specs.JobVerdicts.{IsJobVerdict}
 

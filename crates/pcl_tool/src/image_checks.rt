@@ -5,7 +5,8 @@ ghost use Rattle.pcl_tool.specs.ImageVerdicts.{IsCheckedByImages};
 use crate::CheckAnswer;
 use crate::checking::check_job_watched;
 use pcl_base::{Dpi, Profile};
-use pcl_streams::{Fault, Watcher, are_images_of};
+use pcl_preview::are_images_of;
+use pcl_streams::{Fault, Watcher};
 use std::alloc::Global;
 
 /// Checks by a certificate that an output prints the pages of PBM images and is a shortest such job text. The images stand one

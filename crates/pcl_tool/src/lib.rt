@@ -20,7 +20,7 @@ pub use minimizing::{
 };
 pub use pcl_base::INPUT_LIMIT;
 pub use pcl_meaning::{page_texts_mean_their_pages, written_jobs_say_copies_and_sizes};
+pub use pcl_preview::{PageChoice, page_dots, preview, preview_pages, write_image};
 pub use pcl_streams::{
-    Fault, PageChoice, Unwatched, Watcher, page_dots, perform_watched, preview, preview_pages,
-    read_all, write_all, write_bytes, write_image,
+    Fault, Unwatched, Watcher, perform_watched, read_all, write_all, write_bytes,
 };

@@ -3,7 +3,7 @@ use Rattle.std.specs.Prelude.{◌≡◌, ◌≢◌, ◌↔◌, ℕ, Result, Ok, 
 use Rattle.pcl_base.specs.declared.fault.JobFault.{JobFault}
 use Rattle.pcl_base.specs.declared.fault.JobFault.TheVariants.{Refused, Memory}
 use Rattle.pcl_streams.specs.declared.fault.Fault.TheVariants as run
-use Rattle.pcl_files.specs.Messages.{status_for}
+use Rattle.pcl_messages.specs.Faults.{status_for}
 use Rattle.pcl_batch.specs.inner.Reports.{HasNoFailure}
 use Rattle.pcl_batch.specs.declared.report.Outcome.TheVariants as report
 use Rattle.pcl_batch.specs.declared.report.ReportEntry.{ReportEntry}

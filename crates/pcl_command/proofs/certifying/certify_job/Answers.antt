@@ -3,7 +3,7 @@ use Rattle.pcl_base.specs.Limits.{input_limit}
 use Rattle.pcl_cert.specs.declared.format.Format.{Format}
 use Rattle.pcl_streams.specs.declared.fault.Fault.TheVariants.{CertificateTooLong}
 use Rattle.pcl_tool.specs.Minimizing.{IsCertifiedJobOf, IsOutputWritten}
-use Rattle.pcl_files.specs.Resolutions.{IsSeenAt}
+use Rattle.pcl_request.specs.Resolutions.{IsSeenAt}
 use Rattle.pcl_request.specs.declared.request.Resolution.{Resolution}
 use Rattle.pcl_command.proofs.Names.{List, ℕ, Err, Dpi, Stated, Fault, WriteFault}
 use Rattle.pcl_command.specs.Certifying.{IsCertified}

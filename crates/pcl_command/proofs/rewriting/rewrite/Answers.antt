@@ -5,7 +5,7 @@ use Rattle.pcl_base.specs.declared.fault.JobFault.TheVariants as fault
 use Rattle.pcl_streams.specs.declared.fault.Fault.TheVariants as run
 use Rattle.pcl_request.specs.declared.batch.Rewriting.TheVariants.{Shrink, ShrinkEverywhere}
 use Rattle.pcl_request.specs.declared.profiles.Shrinking.{Shrinking}
-use Rattle.pcl_files.specs.declared.failures.Failure.{Failure}
+use Rattle.pcl_messages.specs.declared.failures.Failure.{Failure}
 use Rattle.pcl_command.proofs.Names.{Dpi, JobFault, IsShrunkUnder, IsShrunkEverywhereUnder, IsWrittenUnder, IsWrittenEverywhereUnder, Shrunk}
 use Rattle.pcl_command.proofs.Written.{unshrunk, unshrunk_everywhere, written_under, written_everywhere_under}
 use Rattle.pcl_command.specs.declared.rewriting.Again.{Again}

@@ -1,6 +1,0 @@
-pub mod Names
-pub mod Appended
-pub mod SamePages
-pub mod Drawn
-pub mod ComparedFor
-mod Finest

@@ -1,0 +1,68 @@
+//! A check: a written job beside its input, by a certificate, each from a file.
+
+ghost use Rattle.pcl_command.specs.Checks.{IsCheckRun, IsCheckedBeside};
+
+use pcl_base::{Dpi, Profile};
+use pcl_files::{JobFiles, read_file};
+use pcl_messages::answer_line;
+use pcl_request::{Beside, CheckedFiles, resolve};
+use pcl_streams::{Fault, Watcher, write_all};
+use pcl_tool::{CheckAnswer, check_images, check_job_watched};
+use std::alloc::Global;
+use std::io::Write;
+
+/// Reads the files, checks the job, and writes the line of the verdict. The input or the images are read first; the watcher is called
+/// for each page that is done, and at the end, before the line is written. Nothing is written after any fault but of a write, and
+/// then a prefix of the line.
+pub fn check<F: JobFiles, W: Write, P: Watcher>(
+    files: &F,
+    alloc: Global,
+    asked: CheckedFiles<'_>,
+    out: &mut W,
+    watcher: P,
+) -> Result<CheckAnswer, Fault>
+    ensures { IsCheckRun F.acts files.now asked.entry (W.contents out.old) (W.contents out.new) result }
+{
+    let input = read_file(files, alloc, asked.input)?;
+    let output = read_file(files, alloc, asked.output)?;
+    let certificate = read_file(files, alloc, asked.certificate)?;
+    let dpi = resolve(
+        alloc,
+        asked.resolution,
+        Profile::Stated,
+        asked.beside.performed(&input, &output),
+    )?;
+    let answer = answer(
+        alloc,
+        asked.beside,
+        &input,
+        &output,
+        &certificate,
+        dpi,
+        watcher,
+    )?;
+    let line = answer_line(alloc, asked.layout, &answer)?;
+    write_all(out, &line)?;
+    Ok(answer)
+}
+
+/// The verdict on a written job beside its input, or beside images of its pages.
+fn answer<P: Watcher>(
+    alloc: Global,
+    beside: Beside,
+    input: &[u8],
+    output: &[u8],
+    certificate: &[u8],
+    dpi: Dpi,
+    watcher: P,
+) -> Result<CheckAnswer, Fault>
+    ensures { IsCheckedBeside beside dpi input.now output.now certificate.now result }
+{
+    match beside {
+        Beside::Input => {
+            let verdict = check_job_watched(alloc, input, output, certificate, dpi, watcher)?;
+            Ok(CheckAnswer::Job(verdict))
+        }
+        Beside::Images => check_images(alloc, input, output, certificate, dpi, watcher),
+    }
+}

@@ -1,4 +1,0 @@
-use Rattle.pcl_files.proofs.failures.Failure.of.Goals as goal
-
-pub returns-in-Ok : goal.returns-in-Ok
-returns-in-Ok c = (c.in-Ok.ensures, c.status_of.ensures)

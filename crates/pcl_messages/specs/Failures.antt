@@ -1,0 +1,53 @@
+-- What is to be said of a run that failed, and its status.
+use Rattle.std.specs.Prelude.{◌≡◌, ℕ, List, Result, Ok, Err, codes}
+use Rattle.pcl_streams.specs.declared.fault.Fault.{Fault}
+use Rattle.pcl_messages.specs.Faults.{line_of, status_for}
+use Rattle.pcl_streams.specs.declared.fault.Fault.TheVariants as run
+use Rattle.pcl_files.specs.declared.files.FileFault.{FileFault}
+use Rattle.pcl_files.specs.declared.files.FileFault.TheVariants.{Memory, Folder, Owner, System}
+use Rattle.pcl_messages.specs.declared.failures.Failure.{Failure}
+use Rattle.pcl_messages.specs.declared.failures.Failure.TheVariants.{Said, NoMemory}
+use Rattle.pcl_request.specs.declared.request.Request.{Request}
+use Rattle.pcl_request.specs.declared.request.Request.TheVariants as asked
+
+-- this line and this status, unless memory ran out for the line
+abbrev pub HasFailed : List ℕ → ℕ → Failure → Type 0
+HasFailed said code (Said line status) = (line.items ≡ said) × (status ≡ code)
+HasFailed said code NoMemory = Unit {0}
+
+-- of a file that can't be begun
+abbrev pub HasFailedFile : FileFault → Failure → Type 0
+HasFailedFile Memory failure = failure ≡ NoMemory
+HasFailedFile Folder failure =
+    HasFailed (codes "pclmin: cannot write: the file's folder takes no new file, which would be put in its place\n") 3 failure
+HasFailedFile Owner failure = HasFailed (codes "pclmin: cannot write: the file is another user's, and would become this one's\n") 3 failure
+HasFailedFile System failure = HasFailed (codes "pclmin: cannot write\n") 3 failure
+
+-- how a run ended that was asked for a page, by what became of it
+abbrev pub IsOutcome : (page : ℕ) → Result (Unit {0}) Fault → Result (Unit {0}) Failure → Type 0
+IsOutcome page (Ok unit) (Ok ended) = Unit {0}
+IsOutcome page (Err fault) (Err failure) = HasFailed (line_of fault page) (status_for fault) failure
+IsOutcome page done ended = ⊥
+
+-- what is said where a job or an image would be written to a terminal
+abbrev pub terminal_line : List ℕ
+terminal_line = codes "pclmin: nothing is written to a terminal: send standard output to a file, or give -o FILE\n"
+
+-- what is said where the file of a certificate or of an image is that of a job
+abbrev pub clash_line : Request → List ℕ
+clash_line (asked.Compare files) = codes "pclmin: --image names the file of a job: give it a file of its own\n"
+clash_line other = codes "pclmin: --cert names the file of a job: give it a file of its own\n"
+
+-- what is said where an argument isn't text
+abbrev pub arguments_line : List ℕ
+arguments_line = codes "pclmin: the arguments aren't text\n"
+
+-- the line for standard error
+abbrev pub line_said : Failure → List ℕ
+line_said (Said line status) = line.items
+line_said NoMemory = line_of run.Memory 0
+
+-- 3 where memory ran out
+abbrev pub IsFailureStatus : Failure → ℕ → Type 0
+IsFailureStatus (Said line code) status = status ≡ code
+IsFailureStatus NoMemory status = status ≡ 3

@@ -1,0 +1,53 @@
+//! How a run ends.
+
+ghost use Rattle.pcl_messages.specs.ComparisonLines.{compare_line_of, compare_status_for};
+ghost use Rattle.pcl_messages.specs.Endings.{IsStatus};
+ghost use Rattle.pcl_messages.specs.Failures.{HasFailed};
+
+use crate::compare_fault::CompareFault;
+use crate::comparison_lines::{compare_fault_line, compare_status_of, comparison_status};
+use crate::failures::Failure;
+use crate::verdicts::answer_status;
+use pcl_same::AskedComparison;
+use pcl_tool::CheckAnswer;
+use std::alloc::Global;
+
+/// How a run ended, and what is left to be printed.
+#[derive(Drop)]
+pub enum Ending {
+    /// The run that was asked for is done.
+    Done,
+    /// A job was checked, and the line of this answer was written.
+    Checked(CheckAnswer),
+    /// Two jobs were compared, and the line of this comparison was written.
+    Compared(AskedComparison),
+    /// It failed, and this is to be said of it.
+    Failed(Failure),
+}
+
+impl Ending {
+    /// The status of the program.
+    pub fn status(&self) -> u8
+        ensures { IsStatus self.now result }
+    {
+        match self {
+            Ending::Done => 0,
+            Ending::Checked(answer) => answer_status(answer),
+            Ending::Compared(comparison) => comparison_status(comparison),
+            Ending::Failed(failure) => failure.status(),
+        }
+    }
+}
+
+/// What is to be said of a comparison that failed.
+pub fn not_compared(alloc: Global, fault: &CompareFault) -> Failure
+    ensures { HasFailed (compare_line_of fault.now) (compare_status_for fault.now) result }
+{
+    match compare_fault_line(alloc, fault) {
+        Ok(line) => Failure::Said {
+            line,
+            status: compare_status_of(fault),
+        },
+        Err(_) => Failure::NoMemory,
+    }
+}

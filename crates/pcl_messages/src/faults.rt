@@ -1,0 +1,56 @@
+//! What the program says of a fault.
+
+ghost use Rattle.std.specs.Prelude.{◌≡◌, IfOk};
+ghost use Rattle.pcl_messages.specs.Faults.{line_of, status_for};
+
+use itoa::Buffer;
+use pcl_streams::Fault;
+use std::alloc::{AllocError, Global};
+
+/// The line where memory runs out.
+pub(crate) const NO_MEMORY: &[u8] = b"pclmin: out of memory\n";
+
+/// The status where memory runs out.
+pub(crate) const MEMORY_STATUS: u8 = 3;
+
+/// The status where a file can't be read or written.
+pub const FILE_STATUS: u8 = 3;
+
+/// The status of a usage fault.
+pub const USAGE_STATUS: u8 = 2;
+
+/// The line for a fault of a run that was asked for a page, with its line feed.
+pub fn fault_line(alloc: Global, fault: &Fault, page: usize) -> Result<Vec<u8>, AllocError>
+    ensures { IfOk result (λ line. line.items ≡ line_of fault.now page) }
+{
+    let mut line = Vec::from_slice(alloc, b"pclmin: ")?;
+    match fault {
+        Fault::Refused(refusal) => {
+            line.extend_from_slice(b"refused: ")?;
+            refusal.write_text(&mut line)?;
+        }
+        Fault::NoSuchPage => {
+            line.extend_from_slice(b"no page ")?;
+            line.extend_from_slice(Buffer::new().format(page).as_bytes())?;
+        }
+        Fault::ReadFault => line.extend_from_slice(b"cannot read")?,
+        Fault::TooLong => line.extend_from_slice(b"input too long")?,
+        Fault::CertificateTooLong => line.extend_from_slice(b"certificate too long")?,
+        Fault::WriteFault => line.extend_from_slice(b"cannot write")?,
+        Fault::Memory => line.extend_from_slice(b"out of memory")?,
+    }
+    line.extend_from_slice(b"\n")?;
+    Ok(line)
+}
+
+/// The status of a run that failed so.
+pub fn status_of(fault: &Fault) -> u8
+    ensures { result ≡ status_for fault.now }
+{
+    match fault {
+        Fault::Refused(_) | Fault::NoSuchPage => 1,
+        Fault::ReadFault | Fault::TooLong | Fault::WriteFault => FILE_STATUS,
+        Fault::CertificateTooLong => FILE_STATUS,
+        Fault::Memory => MEMORY_STATUS,
+    }
+}

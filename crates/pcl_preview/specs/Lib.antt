@@ -1,0 +1,5 @@
+pub mod Image
+pub mod Greymap
+pub mod Preview
+pub mod PageImages
+pub mod inner
