@@ -3,7 +3,7 @@ use Rattle.std.specs.Prelude.{ℕ, ◌==◌, if◌then◌else◌, List, ◌++◌
 use Rattle.pcl_page.specs.declared.doubts.Doubt.{Doubt}
 use Rattle.pcl_page.specs.declared.doubts.Doubt.TheVariants.{BetweenDots, ShortRaster, FirstLine, SeedRow, RasterSize, Advance, Code}
 use Rattle.pcl_page.specs.declared.doubts.Doubt.TheVariants.{EmptyMark, ColumnWidth, PastEnd, PartOfUnit, Ejection, Edge, OpenRaster}
-use Rattle.pcl_page.specs.declared.doubts.Doubt.TheVariants.{RowStart, TextScale, Back}
+use Rattle.pcl_page.specs.declared.doubts.Doubt.TheVariants.{RowStart, TextScale, Back, JobLine}
 use Rattle.pcl_shrink.specs.declared.candidate.Candidate.{Candidate}
 use Rattle.pcl_shrink.specs.declared.candidate.Candidate.TheVariants.{Input, Raster, Coarse, Glyphs}
 use Rattle.pcl_shrink.specs.declared.candidate.Shrunk.{Shrunk}
@@ -36,6 +36,7 @@ doubt_text OpenRaster = codes "where a raster ends"
 doubt_text RowStart = codes "where a row begins, after a raster away from the left edge"
 doubt_text TextScale = codes "a text scale that isn't 0"
 doubt_text Back = codes "the side of a sheet after a page that is moved"
+doubt_text JobLine = codes "where a line of @PJL ends"
 
 -- what follows the number of its pages
 abbrev pub pages_word : ℕ → List ℕ

@@ -55,6 +55,8 @@ pub enum Doubt {
     TextScale,
     /// Sides, the side of the sheet or a paper source that is asked for after a page of a sheet that may have a back, with an offset.
     Back,
+    /// A control code in a line of the printer's job language, which may end it; or a line feed after the lines, which may be one of them.
+    JobLine,
 }
 
 /// What printers may read otherwise in what was performed.
@@ -73,6 +75,8 @@ pub struct Doubts {
     raster: Option<Doubt>,
     /// Whether the last command was a reset or a universal exit.
     is_reset: bool,
+    /// Whether it was a universal exit, or a CR after one.
+    is_exit: bool,
     /// Whether the page was moved on its sheet since a reset.
     has_offset: bool,
     /// Whether a page was ejected since a reset whose sheet may have a back.
@@ -119,6 +123,7 @@ impl Doubts {
             stack: None,
             raster: None,
             is_reset: false,
+            is_exit: false,
             has_offset: false,
             has_back: false,
             has_raster: false,
@@ -174,6 +179,7 @@ impl Doubts {
         self.note_parts(operation, value, environment);
         self.note_width(operation, value, environment);
         self.note_spacing(operation, value, environment);
+        self.note_feed(operation);
         if !is_marked && ejects_marked(operation) {
             self.note_if(self.has_raster, Doubt::EmptyMark);
         }
@@ -256,6 +262,21 @@ impl Doubts {
             }
             _ => {}
         }
+    }
+
+    /// Looks at a line feed after a universal exit: it may be an empty line of the job language, so that the cursor stays.
+    fn note_feed(&mut self, operation: Operation) {
+        if self.is_exit && operation == Operation::LineFeed {
+            self.row = Some(Doubt::JobLine);
+        }
+        self.is_exit &= operation == Operation::CarriageReturn;
+        self.is_exit |= operation == Operation::UniversalExit;
+    }
+
+    /// Looks at the lines of the job language after a universal exit.
+    pub fn note_lines(&mut self, lines: &[u8]) {
+        let may_end = self.is_wanted && lines.iter().any(|byte| may_end_line(*byte));
+        self.note_if(may_end, Doubt::JobLine);
     }
 
     /// Looks at what a command does to the column width, or by it.
@@ -581,6 +602,11 @@ fn may_go_on(operation: Operation) -> bool {
             Asking::TextScale | Asking::PrintQuality | Asking::Depletion | Asking::RasterQuality
         )
     )
+}
+
+/// Whether a byte in a line of the job language may end it: a control code, but HT, LF, VT, FF and CR.
+fn may_end_line(byte: u8) -> bool {
+    matches!(byte, 0..=8 | 14..=31)
 }
 
 /// Whether a command ejects a page that is marked.

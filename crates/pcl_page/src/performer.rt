@@ -332,6 +332,7 @@ impl<'a> Performer<'a> {
         ensures { (dpi : Dpi) (s : Situation) → IsIn dpi s self.old
             → OnOk result (IsIn dpi (put_back (exited lines.now s)) self.new) }
     {
+        self.doubts.note_lines(lines);
         self.asks.push_exit(self.ejected, lines)?;
         self.put_back();
         Ok(())
