@@ -103,24 +103,19 @@ pub next_above : (p : Picture) (y : ℕ) {n : ℕ} {row copied : List ℕ} (rest
 next_above p y {n} {row} {copied} rest is same long = rw (← long, ← same, add-one) (take-append_seam copied rest ∙ same ∙ is)
 
 -- what row data makes over the front of a buffer
-pub made_over : (p : Picture) (y : ℕ) {n : ℕ} (buffer row : List ℕ) {bytes made : List ℕ} → take n buffer ≡ row_above p y
-    → length row ≡ n → Decodes Delta (take (length row) buffer) bytes made → Decodes Delta (row_above p y) bytes made
-made_over p y buffer row above long d = rw (← above, ← long) d
-
--- data for a row over the front of a buffer
-pub data_over : (p : Picture) (y : ℕ) {n : ℕ} (buffer row bytes : List ℕ) → take n buffer ≡ row_above p y → length row ≡ n
-    → row ≡ decoded Delta (take (length row) buffer) bytes → row ≡ decoded Delta (row_above p y) bytes
-data_over p y buffer row bytes above long d = d ∙ ap (λ (old : List ℕ). decoded Delta old bytes) (rw (← long) at above)
+pub made_over : (p : Picture) (y : ℕ) {n : ℕ} (buffer row bytes : List ℕ) {made : List ℕ} → take n buffer ≡ row_above p y
+    → length row ≡ n → made ≡ decoded Delta (take (length row) buffer) bytes → made ≡ decoded Delta (row_above p y) bytes
+made_over p y buffer row bytes above long d = rw (← above, ← long) d
 
 -- ---- two bitmaps beside the same row data
 
 -- one row more is made
-pub makes_more : (p : Picture) (held : KeptBitmap) {y : ℕ} {made : List ℕ} → ((k : ℕ) → k < y → MakesRow p k (data_of held k))
-    → Decodes Delta (row_above p y) (data_of held y) made → made ≡ row_of p y → (k : ℕ) → k < y + 1 → MakesRow p k (data_of held k)
-makes_more p held {y} {made} before d is k lt =
+pub makes_more : (p : Picture) (held : KeptBitmap) {y : ℕ} → ((k : ℕ) → k < y → MakesRow p k (data_of held k))
+    → MakesRow p y (data_of held y) → (k : ℕ) → k < y + 1 → MakesRow p k (data_of held k)
+makes_more p held {y} before makes k lt =
     elim (cases_lt k y) [
       | inl less ↦ before k less
-      | inr at ↦ let here : y ≡ k = omega arith in rw (← here) (sym is ∙ decoded_is Delta _ _ made d)
+      | inr at ↦ let here : y ≡ k = omega arith in rw (← here) makes
     ]
 
 -- two bitmaps of one size and resolution, and row data that makes the rows of the one, and the first rows of the other
@@ -150,12 +145,12 @@ module _ {kept : Picture} (other : Picture) {held : KeptBitmap} {count : ℕ} (i
 
   -- a row is found to differ
   pub row_differs : {x : ℕ} {made row : List ℕ} → count < page_height other.size other.dpi
-      → Decodes Delta (row_above other count) (data_of held count) made → row ≡ row_of other count
+      → made ≡ decoded Delta (row_above other count) (data_of held count) → row ≡ row_of other count
       → ((px : ℕ) → page_width other.size other.dpi ≤ px → dot_of_row row px ≡ false) → IsFirstDotOfRow made row x
       → IsFirstDot (page_width kept.size kept.dpi) (page_height kept.size kept.dpi) (dot kept) (dot other) x count
   row_differs {x} {made} {row} down read row_is pads first =
       let made_is : row_of kept count ≡ made =
-      rw (above_same count (omega arith)) at (keeps.rows count (omega (arith, heights))) ∙ sym (decoded_is Delta _ _ made read) in
+      rw (above_same count (omega arith)) at (keeps.rows count (omega (arith, heights))) ∙ sym read in
       let found = rw (← made_is, row_is) at first in
       let width : page_width kept.size kept.dpi ≡ page_width other.size other.dpi = rw (sizes, resolutions) refl in
       record {

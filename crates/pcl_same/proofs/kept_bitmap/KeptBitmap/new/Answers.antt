@@ -1,6 +1,6 @@
 use Rattle.std.proofs.Common.{◌≡◌, ◌∙◌, ℕ, List, [], ◌++◌, ◌∷◌, length, drop, ap, arith}
 use Rattle.pcl_same.proofs.Names.{page_height}
-use Rattle.pcl_same.proofs.KeptRows.{none_kept, more_kept, height_is, white_above, next_above, data_over}
+use Rattle.pcl_same.proofs.KeptRows.{none_kept, more_kept, height_is, white_above, next_above, made_over}
 use Rattle.pcl_same.proofs.kept_bitmap.KeptBitmap.new.Goals as goal
 
 pub loop-y-init : goal.loop-y-init
@@ -19,7 +19,7 @@ loop-y-preserved c =
     record {
       keeps = more_kept written.bytes c.loop-y.invariant.keeps written.joined
           (c.in_ok-push-2.ensures.items ∙ ap (λ (n : ℕ). c.loop-y.starts.items ++ n ∷ []) end)
-          (rw (← c.row-row.ensures.bytes) (data_over bitmap y c.loop-y.above c.row-row.result.now written.bytes
+          (rw (← c.row-row.ensures.bytes) (made_over bitmap y c.loop-y.above c.row-row.result.now written.bytes
           c.loop-y.invariant.above c.row-row.ensures.len written.decodes));
       above = next_above bitmap y (drop (length c.row-row.result.now) c.loop-y.above) c.row-row.ensures.bytes
           c.copy_from_slice.ensures.after c.row-row.ensures.len;
