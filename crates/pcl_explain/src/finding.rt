@@ -3,6 +3,8 @@
 ghost use Rattle.std.specs.Prelude.{◌≡◌};
 
 use pcl_base::{Kind, Refusal, Value};
+use std::alloc::{AllocError, Global};
+use std::iter::once;
 
 /// Something in a job that the rules refuse.
 #[derive(Clone, Copy, Debug)]
@@ -50,4 +52,32 @@ pub struct Findings {
     pub first: Finding,
     /// What is found after it, in the order in which it comes to light.
     pub later: Vec<Finding>,
+}
+
+impl Findings {
+    /// A first finding, and nothing after it.
+    pub(crate) fn of(alloc: Global, first: Finding) -> Findings {
+        Findings {
+            first,
+            later: Vec::new(alloc),
+        }
+    }
+
+    /// Adds a finding, or counts its commands with those of the same thing.
+    pub(crate) fn add(&mut self, finding: Finding) -> Result<(), AllocError> {
+        let mut all = once(&mut self.first).chain(self.later.iter_mut());
+        match all.find(|other| finding.is_same_thing(**other)) {
+            Some(other) => other.times = other.times.saturating_add(finding.times),
+            None => self.later.push(finding)?,
+        }
+        Ok(())
+    }
+
+    /// Adds findings.
+    pub(crate) fn add_all(&mut self, findings: &[Finding]) -> Result<(), AllocError> {
+        for finding in findings {
+            self.add(*finding)?;
+        }
+        Ok(())
+    }
 }

@@ -65,88 +65,32 @@ fn findings_from(
 ) -> Result<Findings, AllocError>
     ensures { IfOk result (λ findings. findings.first.refusal ≡ refusal) }
 {
-    match read_job(alloc, read_as.profile, job) {
-        Ok(mut commands) => {
-            let first = leave_out(&mut commands, refusal);
-            let found = found_after(alloc, commands, job.len(), read_as, first)?;
-            Ok(Findings {
-                first: Finding {
-                    refusal,
-                    value: first.value,
-                    times: found.times,
-                },
-                later: found.later,
-            })
-        }
-        Err(JobFault::Refused(_)) => {
-            let found = read_on(alloc, job, refusal, read_as)?;
-            Ok(Findings {
-                first: Finding {
-                    refusal,
-                    value: None,
-                    times: found.times,
-                },
-                later: found.later,
-            })
-        }
-        Err(JobFault::Memory) => Err(AllocError),
-    }
+    let mut found = match read_job(alloc, read_as.profile, job) {
+        Ok(commands) => found_in(alloc, commands, job.len(), read_as, refusal)?,
+        Err(JobFault::Refused(_)) => read_on(alloc, job, refusal, read_as)?,
+        Err(JobFault::Memory) => return Err(AllocError),
+    };
+    // The first finding has that refusal already. Here the proof sees it.
+    found.first.refusal = refusal;
+    Ok(found)
 }
 
-/// What is found after the first refusal of a job.
-#[derive(Drop)]
-struct FoundAfter {
-    /// How many commands or sequences are refused as the first is, which is one of them.
-    times: usize,
-    later: Vec<Finding>,
-}
-
-impl FoundAfter {
-    /// Adds a finding, or counts its commands with those of the same thing.
-    fn add(&mut self, first: Finding, finding: Finding) -> Result<(), AllocError> {
-        if finding.is_same_thing(first) {
-            self.times = self.times.saturating_add(finding.times);
-            return Ok(());
-        }
-        for other in self.later.iter_mut() {
-            if finding.is_same_thing(*other) {
-                other.times = other.times.saturating_add(finding.times);
-                return Ok(());
-            }
-        }
-        self.later.push(finding)?;
-        Ok(())
-    }
-
-    /// Adds findings.
-    fn add_all(&mut self, first: Finding, findings: &[Finding]) -> Result<(), AllocError> {
-        for finding in findings {
-            self.add(first, *finding)?;
-        }
-        Ok(())
-    }
-}
-
-/// What is found in commands from which the first that is refused was left out, with those like it. At the job's end no command is refused,
-/// and nothing more is found.
-fn found_after(
+/// What is found in commands whose first refusal is known. At the job's end no command is refused, and nothing more is found.
+fn found_in(
     alloc: Global,
-    commands: Vec<Command<'_>>,
+    mut commands: Vec<Command<'_>>,
     end: usize,
     read_as: ReadAs,
-    first: Finding,
-) -> Result<FoundAfter, AllocError> {
-    let mut left = commands;
-    let mut found = FoundAfter {
-        times: first.times,
-        later: Vec::new(alloc),
-    };
+    refusal: Refusal,
+) -> Result<Findings, AllocError> {
+    let first = leave_out(&mut commands, refusal);
+    let mut found = Findings::of(alloc, first);
     if first.value.is_none() {
         return Ok(found);
     }
-    let values = leave_out_values(alloc, &mut left, &first, read_as)?;
-    found.add_all(first, &values)?;
-    later_findings(alloc, left, end, read_as, first, found)
+    let values = leave_out_values(alloc, &mut commands, &first, read_as)?;
+    found.add_all(&values)?;
+    later_findings(alloc, commands, end, read_as, found)
 }
 
 /// Reads a job on after a sequence that can't be read, with it and later ones left out, as long as it is known where they end.
@@ -155,13 +99,9 @@ fn read_on(
     job: &[u8],
     first: Refusal,
     read_as: ReadAs,
-) -> Result<FoundAfter, AllocError> {
+) -> Result<Findings, AllocError> {
     let mut bytes = Vec::from_slice(alloc, job)?;
-    let unread = Finding::without_command(first);
-    let mut found = FoundAfter {
-        times: 1,
-        later: Vec::new(alloc),
-    };
+    let mut found = Findings::of(alloc, Finding::without_command(first));
     let mut refused = first;
     for _ in 0..job.len() {
         if !is_of_one_sequence(refused.kind) {
@@ -170,9 +110,9 @@ fn read_on(
         let start = blank_sequence(&mut bytes, refused.at);
         match next_fault(alloc, &bytes, start, read_as.profile)? {
             Some(refusal) => refused = refusal,
-            None => return findings_of(alloc, &bytes, read_as, unread, found),
+            None => return findings_of(alloc, &bytes, read_as, found),
         }
-        found.add(unread, Finding::without_command(refused))?;
+        found.add(Finding::without_command(refused))?;
     }
     Ok(found)
 }
@@ -199,11 +139,10 @@ fn findings_of(
     alloc: Global,
     job: &[u8],
     read_as: ReadAs,
-    first: Finding,
-    before: FoundAfter,
-) -> Result<FoundAfter, AllocError> {
+    before: Findings,
+) -> Result<Findings, AllocError> {
     match read_job(alloc, read_as.profile, job) {
-        Ok(commands) => later_findings(alloc, commands, job.len(), read_as, first, before),
+        Ok(commands) => later_findings(alloc, commands, job.len(), read_as, before),
         Err(JobFault::Refused(_)) => Ok(before),
         Err(JobFault::Memory) => Err(AllocError),
     }
@@ -217,28 +156,25 @@ fn is_of_one_sequence(kind: Kind) -> bool {
 /// What is found in commands, one after the other, each without those that were found before.
 fn later_findings(
     alloc: Global,
-    commands: Vec<Command<'_>>,
+    mut commands: Vec<Command<'_>>,
     end: usize,
     read_as: ReadAs,
-    first: Finding,
-    before: FoundAfter,
-) -> Result<FoundAfter, AllocError> {
-    let mut left = commands;
-    let mut found = before;
+    mut found: Findings,
+) -> Result<Findings, AllocError> {
     for _ in 0..PERFORMING_LIMIT {
         if found.later.len() >= FINDING_LIMIT {
             break;
         }
-        let Some(refusal) = refusal_of(alloc, &left, end, read_as)? else {
+        let Some(refusal) = refusal_of(alloc, &commands, end, read_as)? else {
             break;
         };
-        let finding = leave_out(&mut left, refusal);
-        found.add(first, finding)?;
+        let finding = leave_out(&mut commands, refusal);
+        found.add(finding)?;
         if finding.value.is_none() {
             break;
         }
-        let values = leave_out_values(alloc, &mut left, &finding, read_as)?;
-        found.add_all(first, &values)?;
+        let values = leave_out_values(alloc, &mut commands, &finding, read_as)?;
+        found.add_all(&values)?;
     }
     found.later.truncate(FINDING_LIMIT - 1);
     Ok(found)
@@ -289,11 +225,13 @@ fn leave_out(commands: &mut Vec<Command<'_>>, refusal: Refusal) -> Finding
     let Some(refused) = refused_command(commands, refusal) else {
         return Finding::without_command(refusal);
     };
-    let times = count_like(refusal, &refused, commands);
+    let times = commands
+        .iter()
+        .filter(|command| is_like(refusal, &refused, command))
+        .count();
     let is_too_many = matches!(refusal.kind, Kind::TooManyPages | Kind::TooManyCommands);
     commands.retain(|command| {
-        let is_reached = is_too_many || command.at >= refusal.at;
-        !(is_reached && is_like(refusal.kind, &refused, command))
+        !(is_too_many && command.name == refused.name || is_like(refusal, &refused, command))
     });
     Finding {
         refusal,
@@ -302,32 +240,20 @@ fn leave_out(commands: &mut Vec<Command<'_>>, refusal: Refusal) -> Finding
     }
 }
 
-/// How many commands from the one that is refused on are like it.
-fn count_like(refusal: Refusal, refused: &Command<'_>, commands: &[Command<'_>]) -> usize {
-    let mut count: usize = 0;
-    for command in commands {
-        if command.at >= refusal.at && is_like(refusal.kind, refused, command) {
-            count = count.saturating_add(1);
-        }
-    }
-    count
-}
-
 /// The command that a refusal names.
 fn refused_command<'a>(commands: &[Command<'a>], refusal: Refusal) -> Option<Command<'a>> {
-    for command in commands {
-        if command.at == refusal.at && command.name == refusal.name {
-            return Some(*command);
-        }
-    }
-    None
+    commands
+        .iter()
+        .find(|command| command.at == refusal.at && command.name == refusal.name)
+        .copied()
 }
 
-/// Whether a command would be refused as another is: one of its name, of its value or with its data where these are what is refused. Of
-/// those that begin, end or run macros each counts alone.
-fn is_like(kind: Kind, refused: &Command<'_>, command: &Command<'_>) -> bool {
-    command.name == refused.name
-        && match kind {
+/// Whether a command stands where one was refused or after it, and would be refused as that one is. It has its name, and its value or its
+/// data where these are what is refused. Of those that begin, end or run macros each counts alone.
+fn is_like(refusal: Refusal, refused: &Command<'_>, command: &Command<'_>) -> bool {
+    command.at >= refusal.at
+        && command.name == refused.name
+        && match refusal.kind {
             Kind::UnsupportedValue => command.value == refused.value,
             Kind::FontHeader | Kind::CharacterData => command.bytes == refused.bytes,
             Kind::MacroControl | Kind::MacroOpen | Kind::MacroDepth => command.at == refused.at,
