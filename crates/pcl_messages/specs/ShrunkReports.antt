@@ -36,7 +36,7 @@ doubt_text OpenRaster = codes "where a raster ends"
 doubt_text RowStart = codes "where a row begins, after a raster away from the left edge"
 doubt_text TextScale = codes "a text scale that isn't 0"
 doubt_text Back = codes "the side of a sheet after a page that is moved"
-doubt_text JobLine = codes "where a line of @PJL ends"
+doubt_text JobLine = codes "a line of @PJL"
 
 -- what follows the number of its pages
 abbrev pub pages_word : ℕ → List ℕ

@@ -171,6 +171,6 @@ fn doubt_name(doubt: Doubt) -> &'static [u8]
         Doubt::RowStart => b"where a row begins, after a raster away from the left edge",
         Doubt::TextScale => b"a text scale that isn't 0",
         Doubt::Back => b"the side of a sheet after a page that is moved",
-        Doubt::JobLine => b"where a line of @PJL ends",
+        Doubt::JobLine => b"a line of @PJL",
     }
 }

@@ -55,7 +55,8 @@ pub enum Doubt {
     TextScale,
     /// Sides, the side of the sheet or a paper source that is asked for after a page of a sheet that may have a back, with an offset.
     Back,
-    /// A control code in a line of the printer's job language, which may end it; or a line feed after the lines, which may be one of them.
+    /// A line of the printer's job language with a control code, which may end it, or one that may turn pages, set their lines or take what
+    /// follows as a file; or a line feed after the lines, which may be one of them.
     JobLine,
 }
 
@@ -275,8 +276,8 @@ impl Doubts {
 
     /// Looks at the lines of the job language after a universal exit.
     pub fn note_lines(&mut self, lines: &[u8]) {
-        let may_end = self.is_wanted && lines.iter().any(|byte| may_end_line(*byte));
-        self.note_if(may_end, Doubt::JobLine);
+        let is_open = self.is_wanted && (may_end_early(lines) || may_set_pages(lines));
+        self.note_if(is_open, Doubt::JobLine);
     }
 
     /// Looks at what a command does to the column width, or by it.
@@ -604,9 +605,26 @@ fn may_go_on(operation: Operation) -> bool {
     )
 }
 
-/// Whether a byte in a line of the job language may end it: a control code, but HT, LF, VT, FF and CR.
-fn may_end_line(byte: u8) -> bool {
-    matches!(byte, 0..=8 | 14..=31)
+/// Whether lines of the job language have a control code, but HT, LF, VT, FF and CR: it may end its line.
+fn may_end_early(lines: &[u8]) -> bool {
+    lines.iter().any(|byte| matches!(byte, 0..=8 | 14..=31))
+}
+
+/// Whether lines of the job language may turn pages, set how many lines they have, or take what follows as a file.
+fn may_set_pages(lines: &[u8]) -> bool {
+    has_word(lines, b"LANDSCAPE")
+        || has_word(lines, b"FORMLINES")
+        || has_word(lines, b"FSDOWNLOAD")
+        || has_word(lines, b"FSAPPEND")
+}
+
+/// Whether bytes have a word in them, in letters of either case.
+fn has_word(bytes: &[u8], word: &[u8]) -> bool {
+    (0..bytes.len()).any(|start| {
+        bytes
+            .get(start..start.saturating_add(word.len()))
+            .is_some_and(|part| part.eq_ignore_ascii_case(word))
+    })
 }
 
 /// Whether a command ejects a page that is marked.
