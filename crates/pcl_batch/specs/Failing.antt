@@ -5,5 +5,5 @@ use Rattle.pcl_messages.specs.declared.failures.Failure.TheVariants.{Said, NoMem
 
 -- a run that failed doesn't end with status 0
 abbrev pub HasFailingStatus : Failure → Type 0
-HasFailingStatus (Said line status) = status ≢ 0
+HasFailingStatus (Said line status fault) = status ≢ 0
 HasFailingStatus NoMemory = Unit {0}

@@ -182,7 +182,11 @@ fn ended(alloc: Global, tally: Tally) -> Result<Totals, Failure>
         return Ok(totals);
     }
     match failed_line(alloc, totals) {
-        Ok(line) => Err(Failure::Said { line, status }),
+        Ok(line) => Err(Failure::Said {
+            line,
+            status,
+            fault: None,
+        }),
         Err(_) => Err(Failure::NoMemory),
     }
 }

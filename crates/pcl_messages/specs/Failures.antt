@@ -12,7 +12,7 @@ use Rattle.pcl_request.specs.declared.request.Request.TheVariants as asked
 
 -- this line and this status, unless memory ran out for the line
 abbrev pub HasFailed : List ℕ → ℕ → Failure → Type 0
-HasFailed said code (Said line status) = (line.items ≡ said) × (status ≡ code)
+HasFailed said code (Said line status fault) = (line.items ≡ said) × (status ≡ code)
 HasFailed said code NoMemory = Unit {0}
 
 -- of a file that can't be begun
@@ -44,10 +44,10 @@ arguments_line = codes "pclmin: the arguments aren't text\n"
 
 -- the line for standard error
 abbrev pub line_said : Failure → List ℕ
-line_said (Said line status) = line.items
+line_said (Said line status fault) = line.items
 line_said NoMemory = line_of run.Memory 0
 
 -- 3 where memory ran out
 abbrev pub IsFailureStatus : Failure → ℕ → Type 0
-IsFailureStatus (Said line code) status = status ≡ code
+IsFailureStatus (Said line code fault) status = status ≡ code
 IsFailureStatus NoMemory status = status ≡ 3

@@ -19,6 +19,16 @@ pub enum CompareFault {
     Failed(Fault),
 }
 
+impl CompareFault {
+    /// The fault of the run, where neither job is refused.
+    pub(crate) fn of_run(&self) -> Option<Fault> {
+        match self {
+            CompareFault::Refused { .. } => None,
+            CompareFault::Failed(fault) => Some(*fault),
+        }
+    }
+}
+
 impl From<SameFault> for CompareFault {
     ghost from_gives = { λ fault e. e ≡ compare_fault_of fault };
 

@@ -47,6 +47,7 @@ pub fn not_compared(alloc: Global, fault: &CompareFault) -> Failure
         Ok(line) => Failure::Said {
             line,
             status: compare_status_of(fault),
+            fault: fault.of_run(),
         },
         Err(_) => Failure::NoMemory,
     }

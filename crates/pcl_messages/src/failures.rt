@@ -14,8 +14,12 @@ use std::alloc::Global;
 /// What is to be said of a run that failed.
 #[derive(Drop)]
 pub enum Failure {
-    /// The line for standard error, with its line feed, and the status.
-    Said { line: Vec<u8>, status: u8 },
+    /// The line for standard error, with its line feed, the status, and the fault that the line is of, where it is one of the run.
+    Said {
+        line: Vec<u8>,
+        status: u8,
+        fault: Option<Fault>,
+    },
     /// Memory ran out, for the line too.
     NoMemory,
 }
@@ -29,6 +33,7 @@ impl Failure {
             Ok(line) => Failure::Said {
                 line,
                 status: status_of(fault),
+                fault: Some(*fault),
             },
             Err(_) => Failure::NoMemory,
         }
@@ -40,17 +45,15 @@ impl Failure {
     {
         match why {
             FileFault::Memory => Failure::NoMemory,
-            FileFault::Folder => Failure::said(
+            FileFault::Folder => Failure::unwritten(
                 alloc,
                 b"pclmin: cannot write: the file's folder takes no new file, which would be put in its place\n",
-                FILE_STATUS,
             ),
-            FileFault::Owner => Failure::said(
+            FileFault::Owner => Failure::unwritten(
                 alloc,
                 b"pclmin: cannot write: the file is another user's, and would become this one's\n",
-                FILE_STATUS,
             ),
-            FileFault::System => Failure::said(alloc, b"pclmin: cannot write\n", FILE_STATUS),
+            FileFault::System => Failure::unwritten(alloc, b"pclmin: cannot write\n"),
         }
     }
 
@@ -58,15 +61,26 @@ impl Failure {
     pub fn usage(alloc: Global, said: &[u8]) -> Failure
         ensures { HasFailed said.now 2 result }
     {
-        Failure::said(alloc, said, USAGE_STATUS)
+        Failure::said(alloc, said, USAGE_STATUS, None)
     }
 
-    /// With this line and this status.
-    fn said(alloc: Global, said: &[u8], status: u8) -> Failure
+    /// The failure for a file that can't be written, with its line.
+    fn unwritten(alloc: Global, said: &[u8]) -> Failure
+        ensures { HasFailed said.now 3 result }
+    {
+        Failure::said(alloc, said, FILE_STATUS, Some(Fault::WriteFault))
+    }
+
+    /// With this line and this status, of this fault.
+    fn said(alloc: Global, said: &[u8], status: u8, fault: Option<Fault>) -> Failure
         ensures { HasFailed said.now status result }
     {
         match Vec::from_slice(alloc, said) {
-            Ok(line) => Failure::Said { line, status },
+            Ok(line) => Failure::Said {
+                line,
+                status,
+                fault,
+            },
             Err(_) => Failure::NoMemory,
         }
     }
@@ -88,6 +102,14 @@ impl Failure {
         match self {
             Failure::Said { status, .. } => *status,
             Failure::NoMemory => MEMORY_STATUS,
+        }
+    }
+
+    /// The fault of the run that it is, if it is one.
+    pub fn fault(&self) -> Option<Fault> {
+        match self {
+            Failure::Said { fault, .. } => *fault,
+            Failure::NoMemory => Some(Fault::Memory),
         }
     }
 }

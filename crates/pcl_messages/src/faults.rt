@@ -10,6 +10,12 @@ use std::alloc::{AllocError, Global};
 /// The line where memory runs out.
 pub(crate) const NO_MEMORY: &[u8] = b"pclmin: out of memory\n";
 
+/// What is said of what can't be read. The name of a file may follow.
+pub const UNREAD: &str = "cannot read";
+
+/// What is said of what can't be written. The name of a file may follow.
+pub const UNWRITTEN: &str = "cannot write";
+
 /// The status where memory runs out.
 pub(crate) const MEMORY_STATUS: u8 = 3;
 
@@ -33,10 +39,10 @@ pub fn fault_line(alloc: Global, fault: &Fault, page: usize) -> Result<Vec<u8>, 
             line.extend_from_slice(b"no page ")?;
             line.extend_from_slice(Buffer::new().format(page).as_bytes())?;
         }
-        Fault::ReadFault => line.extend_from_slice(b"cannot read")?,
+        Fault::ReadFault => line.extend_from_slice(UNREAD.as_bytes())?,
         Fault::TooLong => line.extend_from_slice(b"input too long")?,
         Fault::CertificateTooLong => line.extend_from_slice(b"certificate too long")?,
-        Fault::WriteFault => line.extend_from_slice(b"cannot write")?,
+        Fault::WriteFault => line.extend_from_slice(UNWRITTEN.as_bytes())?,
         Fault::Memory => line.extend_from_slice(b"out of memory")?,
     }
     line.extend_from_slice(b"\n")?;

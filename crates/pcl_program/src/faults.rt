@@ -1,64 +1,68 @@
 //! What the process prints of a run that failed: its line, with the file that stood in the way, and on a terminal what helps.
 
 use crate::manner::Manner;
-use pcl_base::Kind;
+use pcl_base::{Kind, Name, Refusal};
 use pcl_explain::{language_of, nearest_kind};
+use pcl_messages::{Failure, UNREAD, UNWRITTEN};
+use pcl_streams::Fault;
 use pcl_system::{Access, Trouble, Troubles};
 use std::io::IsTerminal;
 
-/// What the line of a file that can't be read begins with.
-const UNREAD: &str = "pclmin: cannot read";
-
-/// What the line of a file that can't be written begins with.
-const UNWRITTEN: &str = "pclmin: cannot write";
-
-/// What the line of a refused job begins with.
-const REFUSED: &str = "pclmin: refused: ";
-
-/// How the line ends of a raster whose resolution isn't known at the run's.
-const RESOLUTION: &str = " *tR\n";
+/// The command whose refusal asks for another resolution.
+const RESOLUTION: Name = Name::Three(b'*', b't', b'R');
 
 /// Prints the line of a run that failed, which these words asked for: none where standard output isn't read to its end. What standard
 /// error doesn't take is lost.
-pub(crate) fn print_fault(
+pub(crate) fn print_failure(
     rt: &HostRuntime,
-    line: &str,
+    failure: &Failure,
     words: &[String],
     manner: Manner,
     troubles: &Troubles,
 ) {
-    match troubles.take() {
-        Some(trouble) => print_trouble(rt, line, words, &trouble),
-        None if troubles.is_unread() && line.starts_with(UNWRITTEN) => {}
-        None => {
-            let _ = rt.eprint(line);
+    match (failure.fault(), troubles.take()) {
+        (Some(Fault::ReadFault), Some(trouble)) if trouble.access == Access::Reading => {
+            print_trouble(rt, failure, words, &trouble);
         }
-    }
-    if line.starts_with(REFUSED) && !manner.is_quiet && rt.stderr().is_terminal() {
-        let hint = hint(line, manner.is_auto, &troubles.start());
-        let _ = eprint!(rt; "pclmin: {hint}\n");
+        (Some(Fault::WriteFault), Some(trouble)) if trouble.access == Access::Writing => {
+            print_trouble(rt, failure, words, &trouble);
+        }
+        (Some(Fault::WriteFault), None) if troubles.is_unread() => {}
+        (Some(Fault::Refused(refusal)), _) if !manner.is_quiet && rt.stderr().is_terminal() => {
+            print_line(rt, failure);
+            let hint = hint(refusal, manner.is_auto, &troubles.start());
+            let _ = eprint!(rt; "pclmin: {hint}\n");
+        }
+        _ => print_line(rt, failure),
     }
 }
 
-/// Prints a line, with the file that stood in the way if the line is of one.
-fn print_trouble(rt: &HostRuntime, line: &str, words: &[String], trouble: &Trouble) {
+/// Prints the line of a run that failed.
+pub(crate) fn print_line(rt: &HostRuntime, failure: &Failure) {
+    if let Ok(line) = std::str::from_utf8(failure.line()) {
+        let _ = rt.eprint(line);
+    }
+}
+
+/// Prints the line of a file that couldn't be read or written, with its name, and why where the line doesn't say so.
+fn print_trouble(rt: &HostRuntime, failure: &Failure, words: &[String], trouble: &Trouble) {
     let begun = match trouble.access {
         Access::Reading => UNREAD,
         Access::Writing => UNWRITTEN,
     };
+    let said = std::str::from_utf8(failure.line()).unwrap_or("");
+    let said = said.strip_prefix("pclmin: ").unwrap_or(said);
+    let rest = said.strip_prefix(begun).unwrap_or(said);
     let name = trouble.name.as_str();
-    let _ = match (
-        line.strip_prefix(begun),
-        trouble.why(),
-        meant(rt, words, trouble),
-    ) {
-        (None, _, _) => rt.eprint(line),
-        (Some("\n"), Some(why), None) => eprint!(rt; "{begun} {name}: {why}\n"),
-        (Some("\n"), Some(why), Some(kind)) => {
+    let _ = match (rest, trouble.why(), meant(rt, words, trouble)) {
+        ("\n", Some(why), None) => eprint!(rt; "pclmin: {begun} {name}: {why}\n"),
+        ("\n", Some(why), Some(kind)) => {
             let kind = kind.name();
-            eprint!(rt; "{begun} {name}: {why}, and no kind of refusal: the nearest is {kind}\n")
+            eprint!(rt;
+                "pclmin: {begun} {name}: {why}, and no kind of refusal: the nearest is {kind}\n"
+            )
         }
-        (Some(rest), _, _) => eprint!(rt; "{begun} {name}{rest}"),
+        _ => eprint!(rt; "pclmin: {begun} {name}{rest}"),
     };
 }
 
@@ -73,11 +77,11 @@ fn meant(rt: &HostRuntime, words: &[String], trouble: &Trouble) -> Option<Kind> 
     }
 }
 
-/// What helps where a run refuses a job by this line, which begins so; whether its resolution was left to the job is known.
-fn hint(line: &str, is_auto: bool, start: &[u8]) -> &'static str {
+/// What helps where a run refuses a job, which begins so; whether its resolution was left to the job is known.
+fn hint(refusal: Refusal, is_auto: bool, start: &[u8]) -> &'static str {
     match language_of(start) {
         Some(language) => language.text(),
-        None if line.ends_with(RESOLUTION) && !is_auto => "try --dpi auto",
+        None if refusal.name == RESOLUTION && !is_auto => "try --dpi auto",
         None => "pclmin explain says what to set instead",
     }
 }

@@ -1,6 +1,6 @@
 //! The process of `pclmin`: its words, its standard streams, the files of the system, its line and its status.
 
-use crate::faults::print_fault;
+use crate::faults::{print_failure, print_line};
 use crate::manner::Manner;
 use crate::running::{exit_status, run};
 use clap::Error;
@@ -59,9 +59,7 @@ fn end(
     match ended {
         Ok(Ending::Done | Ending::Checked(_) | Ending::Compared(_)) => {}
         Ok(Ending::Failed(failure)) => {
-            if let Ok(line) = std::str::from_utf8(failure.line()) {
-                print_fault(rt, line, words, manner, troubles);
-            }
+            print_failure(rt, failure, words, manner, troubles);
         }
         Err(error) => {
             if error.print(rt).is_err() && !error.use_stderr() {
@@ -74,8 +72,6 @@ fn end(
 
 /// Prints the line of a run that failed before its words said how, and gives the status.
 fn fail(rt: &HostRuntime, failure: &Failure) -> u8 {
-    if let Ok(line) = std::str::from_utf8(failure.line()) {
-        let _ = rt.eprint(line);
-    }
+    print_line(rt, failure);
     failure.status()
 }
