@@ -26,9 +26,9 @@
 use crate::folder::{Folder, Held};
 use case_tables::{CasesOfLines, TableFault, bytes_of, number};
 use clap::Error;
-use pcl_files::Reporter;
 use pcl_messages::Ending;
 use pcl_program::{exit_status, run};
+use pcl_streams::Reporter;
 use pcl_tool::Watcher;
 use std::alloc::{AllocError, Global};
 use std::cell::Cell;

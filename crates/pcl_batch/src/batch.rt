@@ -12,11 +12,10 @@ use crate::reasons::{Obstacle, Reason};
 use crate::report::{ReportEntry, Totals, header};
 use crate::rewriter::Rewriter;
 use indexmap::IndexSet;
-use itoa::Buffer;
-use pcl_files::{FileFault, JobFiles, Reporter};
+use pcl_files::{FileFault, JobFiles};
 use pcl_messages::Failure;
 use pcl_request::{Batch, Destination, Rewriting};
-use pcl_streams::{Fault, write_all};
+use pcl_streams::{Fault, Reporter, write_all};
 use std::alloc::{AllocError, Global};
 use std::io::Write;
 
@@ -181,22 +180,5 @@ fn ended(alloc: Global, tally: Tally) -> Result<Totals, Failure>
     if status == 0 {
         return Ok(totals);
     }
-    match failed_line(alloc, totals) {
-        Ok(line) => Err(Failure::Said {
-            line,
-            status,
-            fault: None,
-        }),
-        Err(_) => Err(Failure::NoMemory),
-    }
-}
-
-/// What is said where some jobs failed, with its line feed.
-fn failed_line(alloc: Global, totals: Totals) -> Result<Vec<u8>, AllocError> {
-    let mut line = Vec::from_slice(alloc, b"pclmin: ")?;
-    line.extend_from_slice(Buffer::new().format(totals.failed).as_bytes())?;
-    line.extend_from_slice(b" of ")?;
-    line.extend_from_slice(Buffer::new().format(totals.jobs).as_bytes())?;
-    line.extend_from_slice(b" jobs failed\n")?;
-    Ok(line)
+    Err(Failure::of_jobs(alloc, totals.failed, totals.jobs, status))
 }

@@ -1,5 +1,5 @@
-//! Many jobs, one after the other: each is written again into a folder, beside the digests of both, and a report says what came of
-//! it (docs/BATCH.md). What writes one again is given. Nothing is promised of the report's text.
+//! Many jobs, one after the other: each is written again, beside the digests of both, and a report says what came of it
+//! (docs/BATCH.md). What writes one again is given. Nothing is promised of the report's text.
 #![tactic(auto)]
 
 mod batch;
@@ -13,4 +13,4 @@ mod sums;
 mod writing;
 
 pub use names::run_named;
-pub use rewriter::{Rewriter, Rewritten};
+pub use rewriter::Rewriter;

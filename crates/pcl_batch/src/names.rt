@@ -9,10 +9,10 @@ use crate::report::Totals;
 use crate::rewriter::Rewriter;
 use bstr::ByteSlice;
 use pcl_base::INPUT_LIMIT;
-use pcl_files::{JobFiles, Reporter};
+use pcl_files::JobFiles;
 use pcl_messages::Failure;
 use pcl_request::Batch;
-use pcl_streams::read_all;
+use pcl_streams::{Reporter, read_all};
 use std::alloc::{AllocError, Global};
 use std::io::{Read, Write};
 

@@ -5,7 +5,7 @@ ghost use Rattle.pcl_messages.specs.Faults.{status_for};
 ghost use Rattle.pcl_batch.specs.Failing.{HasFailingStatus};
 ghost use Rattle.pcl_batch.specs.inner.Jobs.{IsFailing};
 
-use pcl_messages::{FILE_STATUS, Failure, USAGE_STATUS, fault_line, status_of};
+use pcl_messages::{Failure, TROUBLE_STATUS, USAGE_STATUS, fault_line, fault_status, text_in};
 use pcl_streams::Fault;
 use std::alloc::{AllocError, Global};
 
@@ -40,7 +40,7 @@ impl Obstacle {
         ensures { result ≢ 0 }
     {
         match self {
-            Obstacle::NoFile => FILE_STATUS,
+            Obstacle::NoFile => TROUBLE_STATUS,
             _ => USAGE_STATUS,
         }
     }
@@ -76,7 +76,7 @@ impl Reason {
         ensures { IfOk result IsFailing }
     {
         Ok(Reason {
-            status: FILE_STATUS,
+            status: TROUBLE_STATUS,
             said: format!(in alloc; "cannot read: the name on line {line} isn't text")?,
         })
     }
@@ -88,8 +88,8 @@ impl Reason {
     {
         let line = fault_line(alloc, fault, 0)?;
         Ok(Reason {
-            status: status_of(fault),
-            said: said_in(alloc, &line)?,
+            status: fault_status(fault),
+            said: String::from_str(alloc, text_in(&line))?,
         })
     }
 
@@ -99,7 +99,7 @@ impl Reason {
     {
         Ok(Reason {
             status: failure.status(),
-            said: said_in(alloc, failure.line())?,
+            said: String::from_str(alloc, text_in(failure.line()))?,
         })
     }
 
@@ -111,11 +111,4 @@ impl Reason {
             .push_str("; what an earlier batch wrote is still there")?;
         Ok(self)
     }
-}
-
-/// What a line says, without the program's name and the line feed.
-fn said_in(alloc: Global, line: &[u8]) -> Result<String, AllocError> {
-    let said = std::str::from_utf8(line).unwrap_or("");
-    let said = said.strip_prefix("pclmin: ").unwrap_or(said);
-    String::from_str(alloc, said.trim_end())
 }

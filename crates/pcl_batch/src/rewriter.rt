@@ -2,16 +2,8 @@
 
 use pcl_base::Dpi;
 use pcl_messages::Failure;
-use pcl_request::Rewriting;
+use pcl_request::{Rewriting, Rewritten};
 use std::alloc::Global;
-
-/// A job that was written again.
-#[derive(Drop)]
-pub struct Rewritten {
-    pub job: Vec<u8>,
-    /// Where one is asked for.
-    pub certificate: Option<Vec<u8>>,
-}
 
 /// Writes jobs again. A batch works over whatever does so.
 pub trait Rewriter: Copy {

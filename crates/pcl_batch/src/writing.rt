@@ -7,10 +7,11 @@ ghost use Rattle.pcl_batch.specs.inner.Jobs.{FailsByReason};
 use crate::job::{Came, Found, Job, find};
 use crate::reasons::{Obstacle, Reason};
 use crate::report::Outcome;
-use crate::rewriter::{Rewriter, Rewritten};
+use crate::rewriter::Rewriter;
 use crate::sums::{FileSum, sums_text};
 use pcl_files::{JobFiles, settle, settle_both, write_file};
 use pcl_messages::Failure;
+use pcl_request::Rewritten;
 use pcl_streams::{Fault, write_all};
 use std::alloc::{AllocError, Global};
 

@@ -9,15 +9,14 @@ use Rattle.pcl_cert.specs.declared.format.Format.TheVariants.{One}
 use Rattle.pcl_streams.specs.declared.fault.Fault.{Fault}
 use Rattle.pcl_streams.specs.JobFaults.{RefusedOrMemory, fault_of}
 use Rattle.pcl_tool.specs.Minimizing.{IsCertifiedJobOf}
-use Rattle.pcl_messages.specs.Failures.{HasFailed}
-use Rattle.pcl_messages.specs.Faults.{line_of, status_for}
+use Rattle.pcl_messages.specs.Failures.{IsFailureOf}
 use Rattle.pcl_messages.specs.declared.failures.Failure.{Failure}
 use Rattle.pcl_request.specs.Requests.{widest_of}
 use Rattle.pcl_request.specs.declared.batch.Rewriting.{Rewriting}
 use Rattle.pcl_request.specs.declared.batch.Rewriting.TheVariants.{Shrink, ShrinkEverywhere, Certify}
 use Rattle.pcl_shrink.specs.declared.candidate.Shrunk.{Shrunk}
 use Rattle.pcl_command.specs.Profiles.{IsWrittenUnder, IsWrittenEverywhereUnder, IsRefusedEverywhereUnder}
-use Rattle.pcl_command.specs.declared.rewriting.Again.{Again}
+use Rattle.pcl_request.specs.declared.batch.Rewritten.{Rewritten}
 
 -- the smallest job that is found, alone, or the least raster job and its certificate
 abbrev pub IsRewrittenTo : Rewriting → Dpi → (job again : List ℕ) → Option (Vec ℕ) → Type 0
@@ -35,15 +34,15 @@ RefusesAgain (Shrink how) dpi job refusal = IsRefusalBy (widest_of how.profiles)
 RefusesAgain Certify dpi job refusal = IsRefusal dpi job refusal
 
 -- where it isn't written again it is refused so, or memory ran out
-abbrev pub IsRewritten : Rewriting → Dpi → List ℕ → Result Again Failure → Type 0
+abbrev pub IsRewritten : Rewriting → Dpi → List ℕ → Result Rewritten Failure → Type 0
 IsRewritten rewriting dpi job (Ok again) = IsRewrittenTo rewriting dpi job again.job.items again.certificate
 IsRewritten rewriting dpi job (Err failure) =
-    (fault : Fault) × RefusedOrMemory (RefusesAgain rewriting dpi job) fault × HasFailed (line_of fault 0) (status_for fault) failure
+    (fault : Fault) × RefusedOrMemory (RefusesAgain rewriting dpi job) fault × IsFailureOf fault 0 failure
 
 -- ---- of the code
 
 -- what was shrunk is written again without a certificate; or why it wasn't is what failed
-abbrev pub IsShrunkAgain : Result Shrunk JobFault → Result Again Failure → Type 0
+abbrev pub IsShrunkAgain : Result Shrunk JobFault → Result Rewritten Failure → Type 0
 IsShrunkAgain (Ok shrunk) (Ok again) = (again.job.items ≡ shrunk.job.items) × (again.certificate ≡ None)
-IsShrunkAgain (Err why) (Err failure) = HasFailed (line_of (fault_of why) 0) (status_for (fault_of why)) failure
+IsShrunkAgain (Err why) (Err failure) = IsFailureOf (fault_of why) 0 failure
 IsShrunkAgain shrunk again = ⊥

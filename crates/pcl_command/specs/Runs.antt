@@ -5,14 +5,13 @@ use Rattle.pcl_base.specs.Limits.{input_limit}
 use Rattle.pcl_streams.specs.declared.fault.Fault.{Fault}
 use Rattle.pcl_streams.specs.declared.fault.Fault.TheVariants.{ReadFault}
 use Rattle.pcl_streams.specs.Transfer.{IsReadAll}
-use Rattle.pcl_messages.specs.Failures.{HasFailed, HasFailedFile, IsOutcome}
+use Rattle.pcl_messages.specs.Failures.{HasFailedFile, IsFailureOf, IsOutcome, IsUsageFailure, clash_line}
 use Rattle.pcl_files.specs.Files.{FileAct, Opened, Unopened, Begun, Unbegun}
-use Rattle.pcl_messages.specs.Faults.{line_of, status_for}
 use Rattle.pcl_files.specs.WholeFiles.{IsSettled}
 use Rattle.pcl_messages.specs.declared.failures.Failure.{Failure}
 use Rattle.pcl_files.specs.declared.files.FileFault.{FileFault}
 use Rattle.pcl_command.specs.Checks.{IsCheckRun}
-use Rattle.pcl_messages.specs.ComparisonLines.{compare_line_of, compare_status_for}
+use Rattle.pcl_messages.specs.Endings.{IsComparisonFailure}
 use Rattle.pcl_command.specs.Comparisons.{IsCompareRun}
 use Rattle.pcl_messages.specs.declared.compare_fault.CompareFault.{CompareFault}
 use Rattle.pcl_messages.specs.declared.endings.Ending.{Ending}
@@ -34,7 +33,6 @@ use Rattle.pcl_request.specs.declared.request.Request.{Request}
 use Rattle.pcl_request.specs.declared.request.Request.TheVariants as asked
 use Rattle.pcl_command.specs.Certifying.{HasCertified}
 use Rattle.pcl_command.specs.Clashes.{SayIfClash}
-use Rattle.pcl_messages.specs.Failures.{clash_line}
 use Rattle.pcl_command.specs.Tasks.{IsDoneSeen}
 use Rattle.pcl_command.specs.World.{World}
 
@@ -97,7 +95,7 @@ HasChecked acts asked before after (Checked answer) =
     × IsCheckRun acts before.files asked before.written after.written (Ok answer)
 HasChecked acts asked before after (Failed failure) =
     (fault : Fault) × (after.files ≡ before.files) × (after.given ≡ before.given)
-    × IsCheckRun acts before.files asked before.written after.written (Err fault) × HasFailed (line_of fault 0) (status_for fault) failure
+    × IsCheckRun acts before.files asked before.written after.written (Err fault) × IsFailureOf fault 0 failure
 HasChecked acts asked before after other = ⊥
 
 -- how a comparison ends: nothing was read of the reader
@@ -107,7 +105,7 @@ HasCompared acts asked before after (Compared comparison) =
 HasCompared acts asked before after (Failed failure) =
     (fault : CompareFault) × (after.given ≡ before.given)
     × IsCompareRun acts asked before.files after.files before.written after.written (Err fault)
-    × HasFailed (compare_line_of fault) (compare_status_for fault) failure
+    × IsComparisonFailure fault failure
 HasCompared acts asked before after other = ⊥
 
 -- how what was asked for ends, by what it did with files, read and wrote
@@ -118,7 +116,7 @@ HasCarriedOut acts (asked.Compare files_asked) before after ending = HasCompared
 
 -- where the file of a certificate or of an image is that of a job, nothing is done, and that is said
 abbrev pub HasRefusedClash : {F : Type 0} → Request → (before after : World F) → Ending → Type 0
-HasRefusedClash request before after (Failed failure) = (after ≡ before) × HasFailed (clash_line request) 2 failure
+HasRefusedClash request before after (Failed failure) = (after ≡ before) × IsUsageFailure (clash_line request) failure
 HasRefusedClash request before after other = ⊥
 
 abbrev pub HasEnded : {F : Type 0} → (F → FileAct → F → Type 0) → Request → (before after : World F) → Ending → Type 0

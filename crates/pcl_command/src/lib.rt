@@ -1,4 +1,4 @@
-//! What `pclmin` is asked for, done over any files, reader and writer.
+//! What `pclmin` is asked for, done over any files, reader and writer; and jobs in memory compared and written again.
 #![tactic(auto)]
 
 mod certifying;
@@ -13,5 +13,5 @@ mod rewriting;
 mod running;
 
 pub use comparisons::{compare_jobs, compared_at};
-pub use rewriting::{Again, rewrite};
+pub use rewriting::rewrite;
 pub use running::carry_out;

@@ -4,10 +4,10 @@ ghost use Rattle.pcl_command.specs.Profiles.{IsShrunkUnder, IsShrunkEverywhereUn
 
 use crate::profiles::{shrink_everywhere_under, shrink_under};
 use pcl_base::{Dpi, JobFault};
-use pcl_files::Reporter;
 use pcl_messages::pass_name;
 use pcl_request::Shrinking;
 use pcl_shrink::{Pass, ShrinkWatcher, Shrunk};
+use pcl_streams::Reporter;
 use std::alloc::Global;
 
 /// Reports how far each pass over the pages of a job has come.

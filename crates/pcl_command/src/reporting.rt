@@ -4,11 +4,11 @@ ghost use Rattle.std.specs.Prelude.{◌≡◌, IfOk};
 ghost use Rattle.pcl_command.specs.Reporting.{IsCountUnlessRefused, says_no_page};
 
 use pcl_base::{Dpi, JobFault, Profile};
-use pcl_files::Reporter;
 use pcl_messages::{NO_PAGE, shrunk_report};
 use pcl_page::page_count;
 use pcl_request::Layout;
 use pcl_shrink::Shrunk;
+use pcl_streams::Reporter;
 use std::alloc::{AllocError, Global};
 
 /// Reports that a job has no page by a profile, if that is so.

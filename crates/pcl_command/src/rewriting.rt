@@ -6,22 +6,19 @@ use crate::profiles::{shrink_everywhere_under, shrink_under};
 use pcl_base::{Dpi, JobFault};
 use pcl_cert::Format;
 use pcl_messages::Failure;
-use pcl_request::Rewriting;
+use pcl_request::{Rewriting, Rewritten};
 use pcl_shrink::{NoWatcher, Shrunk};
 use pcl_streams::Fault;
 use pcl_tool::minimize;
 use std::alloc::Global;
 
-/// A job that was written again.
-#[derive(Drop)]
-pub struct Again {
-    pub job: Vec<u8>,
-    /// Where one is asked for, of the first format.
-    pub certificate: Option<Vec<u8>>,
-}
-
 /// Writes a job again as the smallest that is found, or as the least raster job with its certificate.
-pub fn rewrite(alloc: Global, job: &[u8], dpi: Dpi, rewriting: Rewriting) -> Result<Again, Failure>
+pub fn rewrite(
+    alloc: Global,
+    job: &[u8],
+    dpi: Dpi,
+    rewriting: Rewriting,
+) -> Result<Rewritten, Failure>
     ensures { IsRewritten rewriting dpi job.now result }
 {
     match rewriting {
@@ -34,7 +31,7 @@ pub fn rewrite(alloc: Global, job: &[u8], dpi: Dpi, rewriting: Rewriting) -> Res
             shrunk_again(alloc, shrunk)
         }
         Rewriting::Certify => match minimize(alloc, job, dpi, Format::One) {
-            Ok(output) => Ok(Again {
+            Ok(output) => Ok(Rewritten {
                 job: output.job,
                 certificate: Some(output.certificate),
             }),
@@ -44,11 +41,11 @@ pub fn rewrite(alloc: Global, job: &[u8], dpi: Dpi, rewriting: Rewriting) -> Res
 }
 
 /// A job that was shrunk, or why it wasn't.
-fn shrunk_again(alloc: Global, shrunk: Result<Shrunk, JobFault>) -> Result<Again, Failure>
+fn shrunk_again(alloc: Global, shrunk: Result<Shrunk, JobFault>) -> Result<Rewritten, Failure>
     ensures { IsShrunkAgain shrunk result }
 {
     match shrunk {
-        Ok(shrunk) => Ok(Again {
+        Ok(shrunk) => Ok(Rewritten {
             job: shrunk.job,
             certificate: None,
         }),

@@ -2,6 +2,7 @@
 
 ghost use Rattle.std.specs.Prelude.{◌≡◌};
 ghost use Rattle.pcl_files.specs.Files.{write_fault_of};
+ghost use Rattle.pcl_files.specs.declared.files.FileFault.TheVariants.{Memory};
 
 use pcl_streams::Fault;
 use std::alloc::AllocError;
@@ -30,6 +31,8 @@ impl From<io::Error> for FileFault {
 }
 
 impl From<AllocError> for FileFault {
+    ghost from_gives = { λ _ e. e ≡ Memory };
+
     fn from(_e: AllocError) -> FileFault {
         FileFault::Memory
     }

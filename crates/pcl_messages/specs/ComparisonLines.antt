@@ -25,11 +25,12 @@ use Rattle.pcl_same.specs.declared.fault.SameFault.{SameFault}
 use Rattle.pcl_same.specs.declared.fault.SameFault.TheVariants as same
 use Rattle.pcl_same.specs.declared.fault.Which.{Which}
 use Rattle.pcl_same.specs.declared.fault.Which.TheVariants.{First, Second}
+use Rattle.pcl_streams.specs.declared.fault.Fault.{Fault}
 use Rattle.pcl_streams.specs.declared.fault.Fault.TheVariants as run
 use Rattle.pcl_messages.specs.declared.compare_fault.CompareFault.{CompareFault}
 use Rattle.pcl_messages.specs.declared.compare_fault.CompareFault.TheVariants.{Refused, Failed}
 use Rattle.pcl_messages.specs.Faults.{line_of, status_for}
-use Rattle.pcl_messages.specs.Verdicts.{page_text}
+use Rattle.pcl_messages.specs.Texts.{subject_text}
 
 -- what is said of the first job, and of the second
 abbrev pub pair_text : List ℕ → List ℕ → List ℕ → List ℕ
@@ -42,7 +43,7 @@ difference_text (difference.Dot x y) = pair_text (codes "dot ") (decimal x) (dec
 
 abbrev pub pages_text : PagesDifference → List ℕ
 pages_text (pages.Count first second) = pair_text (codes "not the same: page count ") (decimal first) (decimal second)
-pages_text (pages.Page number difference) = page_text (codes "not the same: page ") number ++ difference_text difference
+pages_text (pages.Page number difference) = subject_text (codes "not the same: page ") number ++ difference_text difference
 
 -- ---- what is asked
 
@@ -87,9 +88,9 @@ exit_text (exit.Place first second) = pair_text (codes "pages before ") (decimal
 exit_text exit.Lines = codes "lines"
 
 abbrev pub asks_text : AsksDifference → List ℕ
-asks_text (asks.Page number difference) = page_text (codes "not the same: page ") number ++ asked_text difference
+asks_text (asks.Page number difference) = subject_text (codes "not the same: page ") number ++ asked_text difference
 asks_text (asks.ExitCount first second) = pair_text (codes "not the same: exit count ") (decimal first) (decimal second)
-asks_text (asks.Exit number difference) = page_text (codes "not the same: exit ") number ++ exit_text difference
+asks_text (asks.Exit number difference) = subject_text (codes "not the same: exit ") number ++ exit_text difference
 asks_text asks.Separation = codes "not the same: job separation"
 asks_text asks.Lasting = codes "not the same: what the printer keeps or ejects"
 
@@ -132,3 +133,8 @@ compare_line_of (Failed fault) = line_of fault 0
 abbrev pub compare_status_for : CompareFault → ℕ
 compare_status_for (Refused which refusal) = 1
 compare_status_for (Failed fault) = status_for fault
+
+-- the fault of the run, where neither job is refused
+abbrev pub run_fault : CompareFault → Option Fault
+run_fault (Refused which refusal) = None
+run_fault (Failed fault) = Some fault

@@ -1,5 +1,5 @@
 -- What is to be said of a run that failed, and its status.
-use Rattle.std.specs.Prelude.{◌≡◌, ℕ, List, Result, Ok, Err, codes}
+use Rattle.std.specs.Prelude.{◌≡◌, ℕ, List, ◌++◌, Option, None, Some, Result, Ok, Err, codes, decimal}
 use Rattle.pcl_streams.specs.declared.fault.Fault.{Fault}
 use Rattle.pcl_messages.specs.Faults.{line_of, status_for}
 use Rattle.pcl_streams.specs.declared.fault.Fault.TheVariants as run
@@ -10,23 +10,36 @@ use Rattle.pcl_messages.specs.declared.failures.Failure.TheVariants.{Said, NoMem
 use Rattle.pcl_request.specs.declared.request.Request.{Request}
 use Rattle.pcl_request.specs.declared.request.Request.TheVariants as asked
 
--- this line and this status, unless memory ran out for the line
-abbrev pub HasFailed : List ℕ → ℕ → Failure → Type 0
-HasFailed said code (Said line status fault) = (line.items ≡ said) × (status ≡ code)
-HasFailed said code NoMemory = Unit {0}
+-- this line, this status, and this fault of the run, if it is one; unless memory ran out for the line
+abbrev pub HasFailed : List ℕ → ℕ → Option Fault → Failure → Type 0
+HasFailed said code cause (Said line status fault) = (line.items ≡ said) × (status ≡ code) × (fault ≡ cause)
+HasFailed said code cause NoMemory = Unit {0}
 
--- of a file that can't be begun
+-- a fault of a run that was asked for a page
+abbrev pub IsFailureOf : Fault → ℕ → Failure → Type 0
+IsFailureOf fault page failure = HasFailed (line_of fault page) (status_for fault) (Some fault) failure
+
+-- a usage fault
+abbrev pub IsUsageFailure : List ℕ → Failure → Type 0
+IsUsageFailure said failure = HasFailed said 2 None failure
+
+-- a file that can't be begun
 abbrev pub HasFailedFile : FileFault → Failure → Type 0
 HasFailedFile Memory failure = failure ≡ NoMemory
 HasFailedFile Folder failure =
-    HasFailed (codes "pclmin: cannot write: the file's folder takes no new file, which would be put in its place\n") 3 failure
-HasFailedFile Owner failure = HasFailed (codes "pclmin: cannot write: the file is another user's, and would become this one's\n") 3 failure
-HasFailedFile System failure = HasFailed (codes "pclmin: cannot write\n") 3 failure
+    HasFailed (codes "pclmin: cannot write: the file's folder takes no new file, which would be put in its place\n") 3 (Some run.WriteFault) failure
+HasFailedFile Owner failure =
+    HasFailed (codes "pclmin: cannot write: the file is another user's, and would become this one's\n") 3 (Some run.WriteFault) failure
+HasFailedFile System failure = HasFailed (codes "pclmin: cannot write\n") 3 (Some run.WriteFault) failure
+
+-- what is said where some jobs of a batch failed
+abbrev pub jobs_line : ℕ → ℕ → List ℕ
+jobs_line failed jobs = codes "pclmin: " ++ decimal failed ++ codes " of " ++ decimal jobs ++ codes " jobs failed\n"
 
 -- how a run ended that was asked for a page, by what became of it
 abbrev pub IsOutcome : (page : ℕ) → Result (Unit {0}) Fault → Result (Unit {0}) Failure → Type 0
 IsOutcome page (Ok unit) (Ok ended) = Unit {0}
-IsOutcome page (Err fault) (Err failure) = HasFailed (line_of fault page) (status_for fault) failure
+IsOutcome page (Err fault) (Err failure) = IsFailureOf fault page failure
 IsOutcome page done ended = ⊥
 
 -- what is said where a job or an image would be written to a terminal
@@ -46,6 +59,11 @@ arguments_line = codes "pclmin: the arguments aren't text\n"
 abbrev pub line_said : Failure → List ℕ
 line_said (Said line status fault) = line.items
 line_said NoMemory = line_of run.Memory 0
+
+-- the fault of the run, if it is one
+abbrev pub failed_fault : Failure → Option Fault
+failed_fault (Said line status fault) = fault
+failed_fault NoMemory = Some run.Memory
 
 -- 3 where memory ran out
 abbrev pub IsFailureStatus : Failure → ℕ → Type 0

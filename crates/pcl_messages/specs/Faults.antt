@@ -19,8 +19,4 @@ line_of fault page = codes "pclmin: " ++ text_of fault page ++ codes "\n"
 abbrev pub status_for : Fault → ℕ
 status_for (Refused refusal) = 1
 status_for NoSuchPage = 1
-status_for ReadFault = 3
-status_for TooLong = 3
-status_for CertificateTooLong = 3
-status_for WriteFault = 3
-status_for Memory = 3
+status_for other = 3

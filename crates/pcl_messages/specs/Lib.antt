@@ -1,7 +1,9 @@
+pub mod Texts
 pub mod Faults
 pub mod Failures
 pub mod Layouts
 pub mod Verdicts
 pub mod ComparisonLines
 pub mod ShrunkReports
+pub mod Passes
 pub mod Endings

@@ -1,5 +1,5 @@
 -- What is said of a job that is shrunk.
-use Rattle.std.specs.Prelude.{ℕ, ◌==◌, if◌then◌else◌, List, ◌++◌, codes, decimal, vec_len, Option, Some, None}
+use Rattle.std.specs.Prelude.{ℕ, ◌==◌, if◌then◌else◌, List, ◌++◌, codes, vec_len, Option, Some, None}
 use Rattle.pcl_page.specs.declared.doubts.Doubt.{Doubt}
 use Rattle.pcl_page.specs.declared.doubts.Doubt.TheVariants.{BetweenDots, ShortRaster, FirstLine, SeedRow, RasterSize, Advance, Code}
 use Rattle.pcl_page.specs.declared.doubts.Doubt.TheVariants.{EmptyMark, ColumnWidth, PastEnd, PartOfUnit, Ejection, Edge, OpenRaster}
@@ -9,6 +9,7 @@ use Rattle.pcl_shrink.specs.declared.candidate.Candidate.TheVariants.{Input, Ras
 use Rattle.pcl_shrink.specs.declared.candidate.Shrunk.{Shrunk}
 use Rattle.pcl_request.specs.declared.request.Layout.{Layout}
 use Rattle.pcl_request.specs.declared.request.Layout.TheVariants.{Text, Json}
+use Rattle.pcl_messages.specs.Texts.{labelled_number}
 
 -- how its pages are written
 abbrev pub candidate_text : Candidate → List ℕ
@@ -41,10 +42,6 @@ doubt_text JobLine = codes "a line of @PJL"
 -- what follows the number of its pages
 abbrev pub pages_word : ℕ → List ℕ
 pages_word pages = if pages == 1 then codes " page, " else codes " pages, "
-
--- a label and a number
-abbrev pub labelled_number : List ℕ → ℕ → List ℕ
-labelled_number label number = label ++ decimal number
 
 -- how many bytes came in and go out, and how many pages there are
 abbrev pub counts_text : ℕ → Shrunk → List ℕ

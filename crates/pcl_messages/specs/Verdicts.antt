@@ -8,6 +8,7 @@ use Rattle.pcl_cert.specs.declared.fault.CertFault.{CertFault}
 use Rattle.pcl_cert.specs.declared.fault.CertFault.TheVariants as faults
 use Rattle.pcl_request.specs.declared.request.Layout.{Layout}
 use Rattle.pcl_messages.specs.Layouts.{laid_out}
+use Rattle.pcl_messages.specs.Texts.{subject_text}
 use Rattle.pcl_tool.specs.declared.job_verdict.JobVerdict.{JobVerdict}
 use Rattle.pcl_tool.specs.declared.job_verdict.JobVerdict.TheVariants as job
 use Rattle.pcl_tool.specs.declared.job_verdict.CheckAnswer.{CheckAnswer}
@@ -39,15 +40,11 @@ verdict_text (Edge row method inside) = codes "Edge" ++ numbers_text row method 
 verdict_text Length = codes "Length"
 verdict_text Proved = codes "Proved"
 
--- the page of a number, counted from 1, of which something is said
-abbrev pub page_text : List ℕ → ℕ → List ℕ
-page_text label number = label ++ decimal number ++ codes ": "
-
 abbrev pub job_text : JobVerdict → List ℕ
 job_text (job.Certificate fault) = codes "not proved: certificate " ++ fault_text fault
 job_text job.PageCount = codes "not proved: page count"
 job_text job.Frame = codes "not proved: frame"
-job_text (job.Page page verdict) = page_text (codes "not proved: page ") page ++ verdict_text verdict
+job_text (job.Page page verdict) = subject_text (codes "not proved: page ") page ++ verdict_text verdict
 job_text job.Proved = codes "proved"
 
 abbrev pub answer_text : CheckAnswer → List ℕ

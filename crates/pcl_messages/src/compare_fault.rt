@@ -3,7 +3,7 @@
 ghost use Rattle.std.specs.Prelude.{◌≡◌};
 ghost use Rattle.pcl_streams.specs.declared.fault.Fault.TheVariants.{Memory};
 ghost use Rattle.pcl_messages.specs.declared.compare_fault.CompareFault.TheVariants.{Failed};
-ghost use Rattle.pcl_messages.specs.ComparisonLines.{compare_fault_of};
+ghost use Rattle.pcl_messages.specs.ComparisonLines.{compare_fault_of, run_fault};
 
 use pcl_base::Refusal;
 use pcl_same::{SameFault, Which};
@@ -21,7 +21,9 @@ pub enum CompareFault {
 
 impl CompareFault {
     /// The fault of the run, where neither job is refused.
-    pub(crate) fn of_run(&self) -> Option<Fault> {
+    pub(crate) fn run_fault(&self) -> Option<Fault>
+        ensures { result ≡ run_fault self.now }
+    {
         match self {
             CompareFault::Refused { .. } => None,
             CompareFault::Failed(fault) => Some(*fault),

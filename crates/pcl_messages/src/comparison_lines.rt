@@ -6,9 +6,9 @@ ghost use Rattle.pcl_messages.specs.ComparisonLines.{setting_label, setting_text
 ghost use Rattle.pcl_messages.specs.ComparisonLines.{comparison_status_for, refused_job_text, compare_line_of, compare_status_for};
 
 use crate::compare_fault::CompareFault;
-use crate::faults::{fault_line, status_of};
+use crate::faults::{fault_line, fault_status};
 use crate::layouts::laid_out;
-use crate::verdicts::append_page;
+use crate::texts::append_subject;
 use itoa::Buffer;
 use pcl_env::append_offset;
 use pcl_request::Layout;
@@ -61,7 +61,7 @@ fn append_pages(difference: PagesDifference, line: &mut Vec<u8>) -> Result<(), A
             line,
         ),
         PagesDifference::Page { number, difference } => {
-            append_page(b"not the same: page ", number, line)?;
+            append_subject(b"not the same: page ", number, line)?;
             append_difference(difference, line)
         }
     }
@@ -73,7 +73,7 @@ fn append_asks(difference: AsksDifference, line: &mut Vec<u8>) -> Result<(), All
 {
     match difference {
         AsksDifference::Page { number, difference } => {
-            append_page(b"not the same: page ", number, line)?;
+            append_subject(b"not the same: page ", number, line)?;
             append_asked(difference, line)
         }
         AsksDifference::ExitCount { first, second } => append_pair(
@@ -83,7 +83,7 @@ fn append_asks(difference: AsksDifference, line: &mut Vec<u8>) -> Result<(), All
             line,
         ),
         AsksDifference::Exit { number, difference } => {
-            append_page(b"not the same: exit ", number, line)?;
+            append_subject(b"not the same: exit ", number, line)?;
             append_exit(difference, line)
         }
         AsksDifference::Separation => line.extend_from_slice(b"not the same: job separation"),
@@ -227,7 +227,7 @@ fn append_pair(
 }
 
 /// The status of a run that compared two jobs so.
-pub fn comparison_status(comparison: &AskedComparison) -> u8
+pub(crate) fn comparison_status(comparison: &AskedComparison) -> u8
     ensures { result ≡ comparison_status_for comparison.now }
 {
     match comparison {
@@ -263,11 +263,11 @@ fn refused_job(which: Which) -> &'static [u8]
 }
 
 /// The status of a comparison that failed so.
-pub fn compare_status_of(fault: &CompareFault) -> u8
+pub(crate) fn compare_fault_status(fault: &CompareFault) -> u8
     ensures { result ≡ compare_status_for fault.now }
 {
     match fault {
         CompareFault::Refused { .. } => 1,
-        CompareFault::Failed(fault) => status_of(fault),
+        CompareFault::Failed(fault) => fault_status(fault),
     }
 }

@@ -1,11 +1,9 @@
 //! How a run ends.
 
-ghost use Rattle.pcl_messages.specs.ComparisonLines.{compare_line_of, compare_status_for};
-ghost use Rattle.pcl_messages.specs.Endings.{IsStatus};
-ghost use Rattle.pcl_messages.specs.Failures.{HasFailed};
+ghost use Rattle.pcl_messages.specs.Endings.{IsComparisonFailure, IsStatus};
 
 use crate::compare_fault::CompareFault;
-use crate::comparison_lines::{compare_fault_line, compare_status_of, comparison_status};
+use crate::comparison_lines::{compare_fault_line, compare_fault_status, comparison_status};
 use crate::failures::Failure;
 use crate::verdicts::answer_status;
 use pcl_same::AskedComparison;
@@ -41,13 +39,13 @@ impl Ending {
 
 /// What is to be said of a comparison that failed.
 pub fn not_compared(alloc: Global, fault: &CompareFault) -> Failure
-    ensures { HasFailed (compare_line_of fault.now) (compare_status_for fault.now) result }
+    ensures { IsComparisonFailure fault.now result }
 {
     match compare_fault_line(alloc, fault) {
         Ok(line) => Failure::Said {
             line,
-            status: compare_status_of(fault),
-            fault: fault.of_run(),
+            status: compare_fault_status(fault),
+            fault: fault.run_fault(),
         },
         Err(_) => Failure::NoMemory,
     }

@@ -1,15 +1,16 @@
 //! What is to be said of a run that failed.
 
-ghost use Rattle.std.specs.Prelude.{◌≡◌};
-ghost use Rattle.pcl_messages.specs.Failures.{HasFailed, HasFailedFile, IsFailureStatus, IsOutcome, line_said};
-ghost use Rattle.pcl_messages.specs.Failures.{arguments_line, clash_line, terminal_line};
-ghost use Rattle.pcl_messages.specs.Faults.{line_of, status_for};
+ghost use Rattle.std.specs.Prelude.{◌≡◌, Option, None, Some, IfOk};
+ghost use Rattle.pcl_streams.specs.declared.fault.Fault.TheVariants.{WriteFault};
+ghost use Rattle.pcl_messages.specs.Failures.{HasFailed, HasFailedFile, IsFailureOf, IsFailureStatus, IsOutcome, IsUsageFailure};
+ghost use Rattle.pcl_messages.specs.Failures.{arguments_line, clash_line, failed_fault, jobs_line, line_said, terminal_line};
 
-use crate::faults::{FILE_STATUS, MEMORY_STATUS, NO_MEMORY, USAGE_STATUS, fault_line, status_of};
+use crate::faults::{NO_MEMORY, TROUBLE_STATUS, USAGE_STATUS, fault_line, fault_status};
+use crate::texts::append_labelled;
 use pcl_files::FileFault;
 use pcl_request::Request;
 use pcl_streams::Fault;
-use std::alloc::Global;
+use std::alloc::{AllocError, Global};
 
 /// What is to be said of a run that failed.
 #[derive(Drop)]
@@ -27,12 +28,12 @@ pub enum Failure {
 impl Failure {
     /// The failure for a fault of a run that was asked for a page.
     pub fn of(alloc: Global, fault: &Fault, page: usize) -> Failure
-        ensures { HasFailed (line_of fault.now page) (status_for fault.now) result }
+        ensures { IsFailureOf fault.now page result }
     {
         match fault_line(alloc, fault, page) {
             Ok(line) => Failure::Said {
                 line,
-                status: status_of(fault),
+                status: fault_status(fault),
                 fault: Some(*fault),
             },
             Err(_) => Failure::NoMemory,
@@ -57,23 +58,37 @@ impl Failure {
         }
     }
 
+    /// The failure of a batch in which as many of the jobs failed, with the status of the first of these.
+    pub fn of_jobs(alloc: Global, failed: usize, jobs: usize, status: u8) -> Failure
+        ensures { HasFailed (jobs_line failed jobs) status None result }
+    {
+        match jobs_failed(alloc, failed, jobs) {
+            Ok(line) => Failure::Said {
+                line,
+                status,
+                fault: None,
+            },
+            Err(_) => Failure::NoMemory,
+        }
+    }
+
     /// The failure for a usage fault, with its line.
-    pub fn usage(alloc: Global, said: &[u8]) -> Failure
-        ensures { HasFailed said.now 2 result }
+    fn usage(alloc: Global, said: &[u8]) -> Failure
+        ensures { IsUsageFailure said.now result }
     {
         Failure::said(alloc, said, USAGE_STATUS, None)
     }
 
     /// The failure for a file that can't be written, with its line.
     fn unwritten(alloc: Global, said: &[u8]) -> Failure
-        ensures { HasFailed said.now 3 result }
+        ensures { HasFailed said.now 3 (Some WriteFault) result }
     {
-        Failure::said(alloc, said, FILE_STATUS, Some(Fault::WriteFault))
+        Failure::said(alloc, said, TROUBLE_STATUS, Some(Fault::WriteFault))
     }
 
     /// With this line and this status, of this fault.
     fn said(alloc: Global, said: &[u8], status: u8, fault: Option<Fault>) -> Failure
-        ensures { HasFailed said.now status result }
+        ensures { HasFailed said.now status fault result }
     {
         match Vec::from_slice(alloc, said) {
             Ok(line) => Failure::Said {
@@ -101,17 +116,30 @@ impl Failure {
     {
         match self {
             Failure::Said { status, .. } => *status,
-            Failure::NoMemory => MEMORY_STATUS,
+            Failure::NoMemory => TROUBLE_STATUS,
         }
     }
 
     /// The fault of the run that it is, if it is one.
-    pub fn fault(&self) -> Option<Fault> {
+    pub fn fault(&self) -> Option<Fault>
+        ensures { result ≡ failed_fault self.now }
+    {
         match self {
             Failure::Said { fault, .. } => *fault,
             Failure::NoMemory => Some(Fault::Memory),
         }
     }
+}
+
+/// The line of a batch in which as many of the jobs failed, with its line feed.
+fn jobs_failed(alloc: Global, failed: usize, jobs: usize) -> Result<Vec<u8>, AllocError>
+    ensures { IfOk result (λ line. line.items ≡ jobs_line failed jobs) }
+{
+    let mut line = Vec::new(alloc);
+    append_labelled(b"pclmin: ", failed, &mut line)?;
+    append_labelled(b" of ", jobs, &mut line)?;
+    line.extend_from_slice(b" jobs failed\n")?;
+    Ok(line)
 }
 
 /// How a run ended, by what became of it. It was asked for a page.
@@ -126,7 +154,7 @@ pub fn outcome(alloc: Global, done: Result<(), Fault>, page: usize) -> Result<()
 
 /// What is said where a job or an image would be written to a terminal.
 pub fn refuse_terminal(alloc: Global) -> Failure
-    ensures { HasFailed terminal_line 2 result }
+    ensures { IsUsageFailure terminal_line result }
 {
     Failure::usage(
         alloc,
@@ -136,7 +164,7 @@ pub fn refuse_terminal(alloc: Global) -> Failure
 
 /// What is said where the file of a certificate or of an image is that of a job.
 pub fn refuse_clash(alloc: Global, request: Request<'_>) -> Failure
-    ensures { HasFailed (clash_line request.entry) 2 result }
+    ensures { IsUsageFailure (clash_line request.entry) result }
 {
     match request {
         Request::Compare(_) => Failure::usage(
@@ -152,7 +180,7 @@ pub fn refuse_clash(alloc: Global, request: Request<'_>) -> Failure
 
 /// What is said where an argument isn't text.
 pub fn refuse_arguments(alloc: Global) -> Failure
-    ensures { HasFailed arguments_line 2 result }
+    ensures { IsUsageFailure arguments_line result }
 {
     Failure::usage(alloc, b"pclmin: the arguments aren't text\n")
 }

@@ -16,11 +16,11 @@ pub const UNREAD: &str = "cannot read";
 /// What is said of what can't be written. The name of a file may follow.
 pub const UNWRITTEN: &str = "cannot write";
 
-/// The status where memory runs out.
-pub(crate) const MEMORY_STATUS: u8 = 3;
+/// The status where the rules refuse a job, or it has no page of a number.
+const REFUSED_STATUS: u8 = 1;
 
-/// The status where a file can't be read or written.
-pub const FILE_STATUS: u8 = 3;
+/// The status where a job can't be read, is too long or can't be written, and where memory runs out.
+pub const TROUBLE_STATUS: u8 = 3;
 
 /// The status of a usage fault.
 pub const USAGE_STATUS: u8 = 2;
@@ -49,14 +49,22 @@ pub fn fault_line(alloc: Global, fault: &Fault, page: usize) -> Result<Vec<u8>, 
     Ok(line)
 }
 
+/// What a line says, without the program's name and the line feed.
+pub fn text_in(line: &[u8]) -> &str {
+    let said = std::str::from_utf8(line).unwrap_or("");
+    said.strip_prefix("pclmin: ").unwrap_or(said).trim_end()
+}
+
 /// The status of a run that failed so.
-pub fn status_of(fault: &Fault) -> u8
+pub fn fault_status(fault: &Fault) -> u8
     ensures { result ≡ status_for fault.now }
 {
     match fault {
-        Fault::Refused(_) | Fault::NoSuchPage => 1,
-        Fault::ReadFault | Fault::TooLong | Fault::WriteFault => FILE_STATUS,
-        Fault::CertificateTooLong => FILE_STATUS,
-        Fault::Memory => MEMORY_STATUS,
+        Fault::Refused(_) | Fault::NoSuchPage => REFUSED_STATUS,
+        Fault::ReadFault
+        | Fault::TooLong
+        | Fault::CertificateTooLong
+        | Fault::WriteFault
+        | Fault::Memory => TROUBLE_STATUS,
     }
 }

@@ -6,7 +6,7 @@ ghost use Rattle.pcl_messages.specs.Layouts.{laid_out, truth_text};
 use pcl_request::Layout;
 use std::alloc::{AllocError, Global};
 
-/// A text in a layout: as a line, or as the `line` of an object of JSON in which a member of this name says whether it is as one hopes.
+/// A text in a layout: as a line, or as the `line` of an object of JSON in which a member of this name says whether it holds.
 pub(crate) fn laid_out(
     alloc: Global,
     layout: Layout,

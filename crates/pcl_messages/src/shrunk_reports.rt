@@ -1,28 +1,18 @@
 //! What is said of a job that is shrunk.
 
 ghost use Rattle.std.specs.Prelude.{◌≡◌, ◌++◌, IfOk, OnOk};
-ghost use Rattle.pcl_messages.specs.ShrunkReports.{candidate_text, doubt_text, pages_word, labelled_number};
+ghost use Rattle.pcl_messages.specs.ShrunkReports.{candidate_text, doubt_text, pages_word};
 ghost use Rattle.pcl_messages.specs.ShrunkReports.{counts_text, reason_text, shrunk_text};
 ghost use Rattle.pcl_messages.specs.ShrunkReports.{count_members, quoted_text, written_member, doubt_member, shrunk_object_text};
 ghost use Rattle.pcl_messages.specs.ShrunkReports.{shrunk_report_in};
 
-use itoa::Buffer;
+use crate::texts::append_labelled;
 use pcl_request::Layout;
-use pcl_shrink::{Candidate, Doubt, Pass, Shrunk};
+use pcl_shrink::{Candidate, Doubt, Shrunk};
 use std::alloc::{AllocError, Global};
 
 /// What is said of a job without pages.
 pub const NO_PAGE: &[u8] = b"pclmin: no page\n";
-
-/// What a pass does.
-pub fn pass_name(pass: Pass) -> &'static str {
-    match pass {
-        Pass::Paint => "pages painted at 600 dots per inch",
-        Pass::Read => "pages read",
-        Pass::Write => "pages written",
-        Pass::Compare => "pages to compare",
-    }
-}
 
 /// What is reported of a job of this many bytes that was shrunk, in a layout.
 pub fn shrunk_report(
@@ -55,9 +45,9 @@ fn append_shrunk_line(len: usize, shrunk: &Shrunk, line: &mut Vec<u8>) -> Result
 fn append_counts(len: usize, shrunk: &Shrunk, line: &mut Vec<u8>) -> Result<(), AllocError>
     ensures { OnOk result (line.new.items ≡ line.old.items ++ counts_text len shrunk.now) }
 {
-    append_number(b"pclmin: ", len, line)?;
-    append_number(b" bytes in, ", shrunk.job.len(), line)?;
-    append_number(b" out, ", shrunk.pages, line)?;
+    append_labelled(b"pclmin: ", len, line)?;
+    append_labelled(b" bytes in, ", shrunk.job.len(), line)?;
+    append_labelled(b" out, ", shrunk.pages, line)?;
     line.extend_from_slice(after_pages(shrunk.pages))
 }
 
@@ -88,9 +78,9 @@ fn append_shrunk_object(len: usize, shrunk: &Shrunk, line: &mut Vec<u8>) -> Resu
 fn append_count_members(len: usize, shrunk: &Shrunk, line: &mut Vec<u8>) -> Result<(), AllocError>
     ensures { OnOk result (line.new.items ≡ line.old.items ++ count_members len shrunk.now) }
 {
-    append_number(b"{\"bytes_in\":", len, line)?;
-    append_number(b",\"bytes_out\":", shrunk.job.len(), line)?;
-    append_number(b",\"pages\":", shrunk.pages, line)
+    append_labelled(b"{\"bytes_in\":", len, line)?;
+    append_labelled(b",\"bytes_out\":", shrunk.job.len(), line)?;
+    append_labelled(b",\"pages\":", shrunk.pages, line)
 }
 
 /// Appends its member that says how the pages are written.
@@ -117,14 +107,6 @@ fn append_quoted(label: &[u8], text: &[u8], line: &mut Vec<u8>) -> Result<(), Al
     line.extend_from_slice(label)?;
     line.extend_from_slice(text)?;
     line.extend_from_slice(b"\"")
-}
-
-/// Appends a label and a number in decimal.
-fn append_number(label: &[u8], number: usize, line: &mut Vec<u8>) -> Result<(), AllocError>
-    ensures { OnOk result (line.new.items ≡ line.old.items ++ labelled_number label.now number) }
-{
-    line.extend_from_slice(label)?;
-    line.extend_from_slice(Buffer::new().format(number).as_bytes())
 }
 
 /// What stands after a number of pages.

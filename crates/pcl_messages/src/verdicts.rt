@@ -1,10 +1,11 @@
 //! What the program says of a checked job.
 
 ghost use Rattle.std.specs.Prelude.{◌≡◌, ◌++◌, IfOk, OnOk};
-ghost use Rattle.pcl_messages.specs.Verdicts.{fault_text, numbers_text, verdict_text, page_text, job_text, answer_text, answer_line_of, is_proved};
+ghost use Rattle.pcl_messages.specs.Verdicts.{fault_text, numbers_text, verdict_text, job_text, answer_text, answer_line_of, is_proved};
 ghost use Rattle.pcl_messages.specs.Verdicts.{answer_status_for, verdict_status_for};
 
 use crate::layouts::laid_out;
+use crate::texts::append_subject;
 use itoa::Buffer;
 use pcl_base::Method;
 use pcl_cert::{CertFault, Verdict};
@@ -54,20 +55,11 @@ fn append_job(verdict: JobVerdict, line: &mut Vec<u8>) -> Result<(), AllocError>
         JobVerdict::PageCount => line.extend_from_slice(b"not proved: page count"),
         JobVerdict::Frame => line.extend_from_slice(b"not proved: frame"),
         JobVerdict::Page { page, verdict } => {
-            append_page(b"not proved: page ", page, line)?;
+            append_subject(b"not proved: page ", page, line)?;
             append_verdict(verdict, line)
         }
         JobVerdict::Proved => line.extend_from_slice(b"proved"),
     }
-}
-
-/// Appends a label and the number of a page, of which something is said.
-pub fn append_page(label: &[u8], number: usize, line: &mut Vec<u8>) -> Result<(), AllocError>
-    ensures { OnOk result (line.new.items ≡ line.old.items ++ page_text label.now number) }
-{
-    line.extend_from_slice(label)?;
-    line.extend_from_slice(Buffer::new().format(number).as_bytes())?;
-    line.extend_from_slice(b": ")
 }
 
 /// Appends what is said of a page.
@@ -123,7 +115,7 @@ fn fault_name(fault: CertFault) -> &'static [u8]
 }
 
 /// The status of a check that answered so.
-pub fn answer_status(answer: &CheckAnswer) -> u8
+pub(crate) fn answer_status(answer: &CheckAnswer) -> u8
     ensures { result ≡ answer_status_for answer.now }
 {
     match answer {
@@ -133,7 +125,7 @@ pub fn answer_status(answer: &CheckAnswer) -> u8
 }
 
 /// The status of a run that answered so.
-pub fn verdict_status(verdict: &JobVerdict) -> u8
+fn verdict_status(verdict: &JobVerdict) -> u8
     ensures { result ≡ verdict_status_for verdict.now }
 {
     match verdict {

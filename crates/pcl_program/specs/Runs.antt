@@ -9,14 +9,14 @@ use Rattle.pcl_messages.specs.declared.endings.Ending.{Ending}
 use Rattle.pcl_messages.specs.declared.endings.Ending.TheVariants.{Failed}
 use Rattle.pcl_messages.specs.Endings.{IsStatus}
 use Rattle.pcl_messages.specs.declared.failures.Failure.TheVariants.{NoMemory}
-use Rattle.pcl_messages.specs.Failures.{HasFailed, terminal_line}
+use Rattle.pcl_messages.specs.Failures.{IsUsageFailure, terminal_line}
 use Rattle.pcl_files.specs.Files.{FileAct}
 use Rattle.pcl_command.specs.Runs.{HasEnded}
 use Rattle.pcl_command.specs.World.{World}
 
 -- nothing was done, so that no job and no image reaches a terminal, and that is said
 abbrev pub SparesTerminal : {F : Type 0} → (before after : World F) → Ending → Type 0
-SparesTerminal before after (Failed failure) = (after ≡ before) × HasFailed terminal_line 2 failure
+SparesTerminal before after (Failed failure) = (after ≡ before) × IsUsageFailure terminal_line failure
 SparesTerminal before after other = ⊥
 
 -- an error is shown, but for memory that ran out, which ends a run

@@ -3,7 +3,7 @@
 use crate::manner::Manner;
 use pcl_base::{Kind, Name, Refusal};
 use pcl_explain::{language_of, nearest_kind};
-use pcl_messages::{Failure, UNREAD, UNWRITTEN};
+use pcl_messages::{Failure, UNREAD, UNWRITTEN, text_in};
 use pcl_streams::Fault;
 use pcl_system::{Access, Trouble, Troubles};
 use std::io::IsTerminal;
@@ -50,19 +50,18 @@ fn print_trouble(rt: &HostRuntime, failure: &Failure, words: &[String], trouble:
         Access::Reading => UNREAD,
         Access::Writing => UNWRITTEN,
     };
-    let said = std::str::from_utf8(failure.line()).unwrap_or("");
-    let said = said.strip_prefix("pclmin: ").unwrap_or(said);
+    let said = text_in(failure.line());
     let rest = said.strip_prefix(begun).unwrap_or(said);
     let name = trouble.name.as_str();
     let _ = match (rest, trouble.why(), meant(rt, words, trouble)) {
-        ("\n", Some(why), None) => eprint!(rt; "pclmin: {begun} {name}: {why}\n"),
-        ("\n", Some(why), Some(kind)) => {
+        ("", Some(why), None) => eprint!(rt; "pclmin: {begun} {name}: {why}\n"),
+        ("", Some(why), Some(kind)) => {
             let kind = kind.name();
             eprint!(rt;
                 "pclmin: {begun} {name}: {why}, and no kind of refusal: the nearest is {kind}\n"
             )
         }
-        _ => eprint!(rt; "pclmin: {begun} {name}{rest}"),
+        _ => eprint!(rt; "pclmin: {begun} {name}{rest}\n"),
     };
 }
 

@@ -1,5 +1,6 @@
 //! How the process speaks where words ask for something, besides what a run writes.
 
+use crate::running::ask_for_batch;
 use pcl_arguments::{parse_batch, parse_request};
 use pcl_request::{Request, Resolution};
 use pcl_system::Typed;
@@ -18,7 +19,7 @@ pub(crate) struct Manner {
 
 impl Manner {
     /// Where nothing is known of what is asked for.
-    pub fn plain(typed: Typed) -> Manner {
+    fn plain(typed: Typed) -> Manner {
         Manner {
             typed,
             is_quiet: false,
@@ -28,9 +29,10 @@ impl Manner {
 
     /// Where the words of a command line ask for something.
     pub fn of(alloc: Global, words: &[String]) -> Manner {
-        match words {
-            [_, command, ..] if command.as_str() == "batch" => Manner::of_batch(alloc, words),
-            _ => Manner::of_request(alloc, words),
+        if ask_for_batch(words) {
+            Manner::of_batch(alloc, words)
+        } else {
+            Manner::of_request(alloc, words)
         }
     }
 

@@ -6,7 +6,7 @@ use crate::running::{exit_status, run};
 use clap::Error;
 use pcl_messages::{Ending, Failure, refuse_arguments};
 use pcl_streams::Fault;
-use pcl_system::{Input, OutputStream, SystemFiles, Troubles, Typed, Voice};
+use pcl_system::{Input, OutputStream, SystemFiles, Troubles, Voice};
 use std::alloc::AllocError;
 use std::env;
 use std::io::{self, ErrorKind, IsTerminal};
@@ -70,7 +70,7 @@ fn end(
     exit_status(ended)
 }
 
-/// Prints the line of a run that failed before its words said how, and gives the status.
+/// Prints the line of a failure, and gives the status.
 fn fail(rt: &HostRuntime, failure: &Failure) -> u8 {
     print_line(rt, failure);
     failure.status()

@@ -1,10 +1,10 @@
 //! The jobs of a batch.
 
 use pcl_base::Dpi;
-use pcl_batch::{Rewriter, Rewritten};
+use pcl_batch::Rewriter;
 use pcl_command::rewrite;
 use pcl_messages::Failure;
-use pcl_request::Rewriting;
+use pcl_request::{Rewriting, Rewritten};
 use std::alloc::Global;
 
 /// Writes each job of a batch again as the program does.
@@ -19,12 +19,6 @@ impl Rewriter for Filter {
         dpi: Dpi,
         rewriting: Rewriting,
     ) -> Result<Rewritten, Failure> {
-        match rewrite(alloc, job, dpi, rewriting) {
-            Ok(again) => Ok(Rewritten {
-                job: again.job,
-                certificate: again.certificate,
-            }),
-            Err(failure) => Err(failure),
-        }
+        rewrite(alloc, job, dpi, rewriting)
     }
 }

@@ -10,9 +10,10 @@ use clap::error::ErrorKind;
 use pcl_arguments::{parse_batch, parse_request};
 use pcl_batch::run_named;
 use pcl_command::carry_out;
-use pcl_files::{JobFiles, Reporter};
+use pcl_files::JobFiles;
 use pcl_messages::{Ending, Failure, USAGE_STATUS, refuse_terminal};
 use pcl_request::Request;
+use pcl_streams::Reporter;
 use std::alloc::Global;
 use std::convert::AsStr;
 use std::io::{Read, Write};
@@ -41,7 +42,7 @@ pub fn run<F: JobFiles, S: AsStr, R: Read, W: Write, P: Reporter + Copy>(
 }
 
 /// Whether the words of a command line ask for a batch.
-fn ask_for_batch<S: AsStr>(words: &[S]) -> bool
+pub(crate) fn ask_for_batch<S: AsStr>(words: &[S]) -> bool
     ensures { IsTrue result ↔ AskForBatch (map S.text words.now) }
 {
     match words {

@@ -30,6 +30,14 @@ impl Rewriting {
     }
 }
 
+/// A job that was written again.
+#[derive(Drop)]
+pub struct Rewritten {
+    pub job: Vec<u8>,
+    /// Where one is asked for, of the first format.
+    pub certificate: Option<Vec<u8>>,
+}
+
 /// Where what is written of a job goes. Of a job whose file is called `NAME` that is a file `NAME`, its digests `NAME.sha256`, and
 /// where it is asked for its certificate `NAME.cert`.
 #[derive(Clone, Copy)]

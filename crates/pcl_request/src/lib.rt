@@ -1,4 +1,4 @@
-//! What `pclmin` is asked for: runs, checks, comparisons and batches.
+//! What `pclmin` is asked for: runs, checks, comparisons and batches; and the resolution at which jobs are seen.
 #![tactic(auto)]
 
 mod batch;
@@ -6,7 +6,7 @@ mod profiles;
 mod request;
 mod resolutions;
 
-pub use batch::{Batch, Destination, Rewriting};
+pub use batch::{Batch, Destination, Rewriting, Rewritten};
 pub use profiles::{Profiles, Shrinking};
 pub use request::{
     Beside, Certificate, CheckedFiles, ComparedFiles, Layout, Request, Resolution, Run, Source,

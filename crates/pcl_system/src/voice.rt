@@ -1,7 +1,6 @@
 //! What is reported on standard error: how far a long run has come, and what there is to say of it.
 
-use pcl_files::Reporter;
-use pcl_streams::Watcher;
+use pcl_streams::{Reporter, Watcher};
 use std::io::IsTerminal;
 use std::time::Instant;
 

@@ -8,12 +8,12 @@ use Rattle.pcl_request.specs.declared.profiles.Shrinking.{Shrinking}
 use Rattle.pcl_messages.specs.declared.failures.Failure.{Failure}
 use Rattle.pcl_command.proofs.Names.{Dpi, JobFault, IsShrunkUnder, IsShrunkEverywhereUnder, IsWrittenUnder, IsWrittenEverywhereUnder, Shrunk}
 use Rattle.pcl_command.proofs.Written.{unshrunk, unshrunk_everywhere, written_under, written_everywhere_under}
-use Rattle.pcl_command.specs.declared.rewriting.Again.{Again}
+use Rattle.pcl_request.specs.declared.batch.Rewritten.{Rewritten}
 use Rattle.pcl_command.specs.Rewriting.{IsRewritten, IsRewrittenTo, IsShrunkAgain}
 use Rattle.pcl_command.proofs.rewriting.rewrite.Goals as goal
 
 shrunk_again : (how : Shrinking) (dpi : Dpi) (job : List ℕ) (shrunk : Result Shrunk JobFault)
-    (again : Result Again Failure) → IsShrunkEverywhereUnder how.readers how.profiles job shrunk → IsShrunkAgain shrunk again
+    (again : Result Rewritten Failure) → IsShrunkEverywhereUnder how.readers how.profiles job shrunk → IsShrunkAgain shrunk again
     → IsRewritten (ShrinkEverywhere how) dpi job again
 shrunk_again how dpi job (Ok shrunk) (Ok again) s a =
     let written = written_everywhere_under how.readers how.profiles job shrunk s in
@@ -27,7 +27,7 @@ shrunk_again how dpi job (Ok shrunk) (Err failure) s a = absurd a
 shrunk_again how dpi job (Err why) (Ok again) s a = absurd a
 
 shrunk_here : (how : Shrinking) (dpi : Dpi) (job : List ℕ) (shrunk : Result Shrunk JobFault)
-    (again : Result Again Failure) → IsShrunkUnder how.readers how.profiles dpi job shrunk → IsShrunkAgain shrunk again
+    (again : Result Rewritten Failure) → IsShrunkUnder how.readers how.profiles dpi job shrunk → IsShrunkAgain shrunk again
     → IsRewritten (Shrink how) dpi job again
 shrunk_here how dpi job (Ok shrunk) (Ok again) s a =
     let written = written_under how.readers how.profiles dpi job shrunk s in

@@ -28,6 +28,6 @@ returns-in_ok-extend_from_slice-in-Certificate c =
     (behind c.extend_from_slice-in-Certificate.result _ _ _ _ _ _ c.in_ok-extend_from_slice-in-Certificate.ensures.items
     c.extend_from_slice-in-Certificate.ensures.items c.fault_name.ensures)
 
-pub returns-in_ok-append_page-in-Page : goal.returns-in_ok-append_page-in-Page
-returns-in_ok-append_page-in-Page c =
-    rw c.in-Page.is (then_appended c.append_verdict.result _ _ _ _ c.in_ok-append_page-in-Page.ensures c.append_verdict.ensures)
+pub returns-in_ok-append_subject-in-Page : goal.returns-in_ok-append_subject-in-Page
+returns-in_ok-append_subject-in-Page c =
+    rw c.in-Page.is (then_appended c.append_verdict.result _ _ _ _ c.in_ok-append_subject-in-Page.ensures c.append_verdict.ensures)

@@ -1,6 +1,6 @@
 //! Reporters: what there is to say of a run, and how far it has come.
 
-use pcl_streams::Watcher;
+use crate::watching::Watcher;
 
 /// Reports what there is to say of a run besides what it writes, and how far it has come. No contract speaks of what it does
 /// then.
