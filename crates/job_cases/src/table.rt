@@ -181,7 +181,7 @@ fn row_number(text: &str) -> Result<u32, TableFault> {
 }
 
 fn size(name: &str) -> Result<Size, TableFault> {
-    [Size::Executive, Size::Letter, Size::Legal, Size::A4]
+    Size::ALL
         .into_iter()
         .find(|size| size.name() == name)
         .ok_or(TableFault::Number)

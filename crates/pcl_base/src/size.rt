@@ -16,6 +16,9 @@ pub enum Size {
 }
 
 impl Size {
+    /// All sizes.
+    pub const ALL: [Size; 4] = [Size::Executive, Size::Letter, Size::Legal, Size::A4];
+
     /// The size that a page size command asks for by its number.
     pub fn from_code(code: u32) -> Option<Size>
         ensures { result ≡ size_with_code code }
