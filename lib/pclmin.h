@@ -42,7 +42,7 @@ typedef struct pclmin_answer {
     size_t length;
     unsigned char *certificate; /* of pclmin_min; NULL where certificate_length is 0 */
     size_t certificate_length;
-    const char *line;           /* what the program says, with its line feed, ended by a zero byte; "" where it says nothing */
+    const char *line;           /* what is said, with its line feed, ended by a zero byte; "" where nothing is */
     size_t place;               /* of a refusal: where the refused command stands, in bytes from the job's start */
     size_t pages;               /* of pclmin_page_count */
     int fault;                  /* an enum pclmin_fault */

@@ -93,7 +93,7 @@ Tells (Run run.TooLong) page answer = TellsBy (c_string (line_of run.TooLong pag
 Tells (Wrong argument) page answer = TellsBy (c_string (argument_line argument)) (Wrong argument) answer
 Tells failure page answer = TellsBy (c_string (failure_line failure page)) failure answer ⊎ IsOutOfMemory answer
 
--- a number that is wrong, and an input that is too long, are reported by a line of the program
+-- a number that is wrong, and an input that is too long, are always said
 pub record TellsArguments (answer : Answer) : Type 0 where
   pub wrong : answer.outcome ≡ 3 → (argument : Argument) × (answer.line.now ≡ c_string (argument_line argument))
   pub too_long : answer.outcome ≡ 4 → answer.line.now ≡ c_string (line_of run.TooLong 0)

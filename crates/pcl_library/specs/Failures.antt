@@ -47,7 +47,7 @@ argument_line Pages = codes "pclmin: pages are 1 to 256, the last no earlier tha
 argument_line Scale = codes "pclmin: a scale is 1 to 32\n"
 argument_line Format = codes "pclmin: the format of a certificate is 1 or 2, or 0 for none\n"
 
--- what the program says of a failure of a call that was asked for pages up to this one
+-- what is said of a failure of a call that was asked for pages up to this one
 abbrev pub failure_line : CallFailure → ℕ → List ℕ
 failure_line (Wrong argument) page = argument_line argument
 failure_line (Run fault) page = line_of fault page

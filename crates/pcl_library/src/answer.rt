@@ -18,7 +18,7 @@ pub struct Answer {
     pub made: &'static [u8],
     /// The certificate of a job that was made with one.
     pub certificate: &'static [u8],
-    /// What the program says: of a failure, of two jobs, or of a job that was checked. Its line feed and a zero byte end it. It is
+    /// What is said: of a failure, of two jobs, or of a job that was checked. Its line feed and a zero byte end it. It is
     /// empty where a call that is done has nothing to say, and where memory ran out.
     pub line: &'static [u8],
     /// The place of the refused command, in bytes from the job's start.

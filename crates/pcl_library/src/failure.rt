@@ -68,7 +68,7 @@ impl CallFailure {
         }
     }
 
-    /// What the program says of it, with a line feed and a zero byte; `page` is the last page that was asked for. That an argument is
+    /// What is said of it, with a line feed and a zero byte; `page` is the last page that was asked for. That an argument is
     /// wrong or an input too long is always said, by a line that nobody frees. That memory ran out is left to C.
     pub fn line(&self, alloc: Global, page: usize) -> Result<&'static [u8], AllocError>
         ensures said { IfOk result (λ line. line.now ≡ c_string (failure_line self.now page)) }

@@ -43,11 +43,12 @@ task_profile (DescribePages layout profile) = profile
 task_profile (Shrink how report) = widest_of how.profiles
 task_profile other = Stated
 
+-- the page that work is asked for, 0 where it is none
 abbrev pub page_of : Work → ℕ
 page_of (work.Task task) = task_page task
 page_of (work.Certify certificate) = 0
 
--- the same of a job of a batch
+-- the profile by which a job of a batch is read, the widest where several are tried
 abbrev pub rewriting_profile : Rewriting → Profile
 rewriting_profile (rewriting.Shrink how) = widest_of how.profiles
 rewriting_profile (rewriting.ShrinkEverywhere how) = widest_of how.profiles
@@ -73,25 +74,28 @@ abbrev pub writes_raw : Request → Bool
 writes_raw (asked.Run run) = has_raw run.work && is_standard_output run.target
 writes_raw other = false
 
--- the file that is written beside the jobs: of a certificate, or of an image of the dots that differ
+-- the file of a certificate
 abbrev pub certificate_file : Work → Option (Bor (List ℕ))
 certificate_file (work.Task task) = None
 certificate_file (work.Certify certificate) = Some certificate.file
 
+-- the file that is written beside the jobs: of a certificate, or of an image of the dots that differ
 abbrev pub aside_of : Request → Option (Bor (List ℕ))
 aside_of (asked.Run run) = certificate_file run.work
 aside_of (asked.Check files) = None
 aside_of (asked.Compare files) = files.image
 
--- the files of the jobs: of one that is read and one that is written, of two that are checked or compared
+-- the file of a job that is read
 abbrev pub source_file : Source → Option (Bor (List ℕ))
 source_file source.StandardInput = None
 source_file (source.File name) = Some name
 
+-- the file that is written
 abbrev pub target_file : Target → Option (Bor (List ℕ))
 target_file target.StandardOutput = None
 target_file (target.File name) = Some name
 
+-- the files of the jobs: of one that is read and one that is written, of two that are checked or compared
 abbrev pub first_job : Request → Option (Bor (List ℕ))
 first_job (asked.Run run) = source_file run.source
 first_job (asked.Check files) = Some files.input
