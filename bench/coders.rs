@@ -32,7 +32,7 @@ fn run_len(row: &[u8]) -> usize {
     row.iter().take_while(|byte| **byte == row[0]).count()
 }
 
-// The length with the least sum of `head` bytes, `each` more a byte, and the number behind; the longest or the
+// The length with the least sum of `head` bytes, `each` more a byte, and the number after; the longest or the
 // shortest of several.
 fn best_len(numbers: &[u16], from: usize, to: usize, head: usize, each: usize, longest: bool) -> (usize, usize) {
     let mut best = (from, head + each * from + numbers[from] as usize);

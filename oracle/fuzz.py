@@ -10,7 +10,7 @@ program beside it.
 Each job is made of random commands of every part of docs/LANGUAGE.md, with values at and near their bounds, and every
 fourth one is then changed in some of its bytes, cut, or joined from two (random_jobs.py). At a resolution that is drawn too, both programs
 have to give the same status, the same bytes on standard output, and the same line on standard error: of a job that is
-refused once, of one that is accepted for a page of it, and of every fourth for the page behind its last one. Every
+refused once, of one that is accepted for a page of it, and of every fourth for the page after its last one. Every
 twentieth, where it is accepted, is also written again by both, and its pages are counted; every two hundredth is written with a
 certificate of each format, both have to write the same one, and both have to prove it.
 

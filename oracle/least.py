@@ -107,7 +107,7 @@ def least_body(rows, count, width):
         return min(closed(row, method), least[row, method] if row < last else 1)
 
     def parameters(row, method):
-        """What may stand in an open sequence: its cost with all behind it, the preferred first, and the parameter."""
+        """What may stand in an open sequence: its cost with all after it, the preferred first, and the parameter."""
         whites = 0
         while row + whites < count and is_white[row + whites]:
             whites += 1

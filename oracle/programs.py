@@ -68,7 +68,7 @@ class Program:
         return self.asked_of_files(["check", "--dpi", str(dpi)], job, output, certificate)
 
     def asked_of_files(self, words, *contents):
-        """The answer to the words of a command line and files behind them."""
+        """The answer to the words of a command line and files after them."""
         names = self.names[:len(contents)]
         for name, content in zip(names, contents):
             with open(name, "wb") as out:

@@ -11,7 +11,7 @@ MOST_COMMANDS = 100_000_000
 # The number of a page size, and its width and height in dots at 300 per inch.
 SIZES = [(1, 2025, 3150), (2, 2400, 3300), (3, 2400, 4200), (26, 2338, 3507)]
 
-# What stands behind ESC, by the part of the language; %s is a value.
+# What stands after ESC, by the part of the language; %s is a value.
 FORMS = {
     "settings": [b"&l%sA", b"&l%sX", b"&l%sC", b"&l%sD", b"&l%sE", b"&l%sF", b"&l%sL", b"&u%sD", b"&k%sH", b"&k%sG", b"&a%sL", b"9"],
     "moves": [b"*p%sX", b"*p%sY", b"&a%sH", b"&a%sV", b"&a%sC", b"&a%sR", b"=", b"&f%sS"],
@@ -385,7 +385,7 @@ def asks(draw, has_font):
 
 
 def seed_rows(draw):
-    """Rows of any method with the seed row source before, between and behind them, and what shows whether a raster went on."""
+    """Rows of any method with the seed row source before, between and after them, and what shows whether a raster went on."""
     row = [with_data(b"*b", b"W", data(draw, 5)) for _ in range(3)]
     sources = [seed_row_source(draw) for _ in range(3)]
     method = ESC + b"*b%dM" % draw.choice([0, 2, 3, 3, 3])
@@ -424,7 +424,7 @@ def header_with_resolution(draw, dpi):
 
 
 def font_with_resolution(draw, dpi):
-    """A font with a resolution of its own, its characters, and text in it; another of the same ID may come before it or behind it."""
+    """A font with a resolution of its own, its characters, and text in it; another of the same ID may come before it or after it."""
     number = draw.randint(0, 2)
     heads = [header_with_resolution(draw, dpi)]
     if draw.random() < 0.25:

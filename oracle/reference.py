@@ -43,7 +43,7 @@ NAMES = WITHOUT_EFFECT | {
 DRIVERS_ASKS = {b"&kW", b"*oM", b"*oQ", b"*oD", b"*rQ"}
 DRIVERS_NAMES = DRIVERS_ASKS | {b"&lT", b"*bS"}
 
-# Commands with as many bytes of data behind them as their values say.
+# Commands with as many bytes of data after them as their values say.
 WITH_DATA = {b"*bW", b")sW", b"(sW", b"&pX"}
 
 TEXT = b" "
@@ -130,7 +130,7 @@ def read(job, profile):
 
 
 def read_sequence(job, start, profile):
-    """The commands of the sequence at a place, and the place behind it."""
+    """The commands of the sequence at a place, and the place after it."""
     if start + 1 == len(job):
         raise Refused("Truncated", start, b"")
     first = job[start + 1]
@@ -150,7 +150,7 @@ def read_sequence(job, start, profile):
 
 
 def read_parameters(job, start, prefix, at, profile):
-    """The commands of the parameters at a place, and the place behind the sequence."""
+    """The commands of the parameters at a place, and the place after the sequence."""
     commands, place = [], start
     while True:
         value, at = read_value(job, at)
@@ -179,14 +179,14 @@ def read_parameters(job, start, prefix, at, profile):
 
 
 def read_value(job, at):
-    """The value field at a place, and the place behind it."""
+    """The value field at a place, and the place after it."""
     field = re.compile(rb"([+-]?)([0-9]*)(?:\.([0-9]*))?").match(job, at)
     sign, digits, decimals = field.group(1).decode(), field.group(2), field.group(3) or b""
     return Value(sign, int(digits or b"0") * 10000 + int((decimals + b"0000")[:4])), field.end()
 
 
 def read_data(job, command, goes_on, at):
-    """Gives a command its data; the place behind them."""
+    """Gives a command its data; the place after them."""
     count = command.value.whole()
     if count < 0:
         raise Refused("ValueRange", command.at, command.name)
@@ -199,7 +199,7 @@ def read_data(job, command, goes_on, at):
 
 
 def read_lines(job, at):
-    """The place behind the lines of a universal exit."""
+    """The place after the lines of a universal exit."""
     while job[at:at + 4] == b"@PJL":
         end = job.find(b"\n", at) + 1 or len(job)
         line = bytes(byte for byte in job[at:end] if byte not in b" \t\r\n").upper()
@@ -636,7 +636,7 @@ def asking(performer, command):
 
 
 def job_separation(performer, command):
-    """Separates the job from the next one, where a page stands between it and a reset before it, and none behind it."""
+    """Separates the job from the next one, where a page stands between it and a reset before it, and none after it."""
     performer.counts_whole |= performer.marked or performer.begins_sheet or performer.separation is not None
     performer.separation = command.value.whole()
 

@@ -221,7 +221,7 @@ def spoil_certificate(draw, triple, page):
 
 
 def spoiled(draw, content):
-    """Bytes cut, changed, put in or put behind."""
+    """Bytes cut, changed, put in or appended."""
     at = draw.choice([draw.randint(0, len(content)), draw.randint(0, min(60, len(content))), len(content) - 1 if content else 0])
     way = draw.randrange(5)
     if way == 0:
@@ -436,14 +436,14 @@ def two_swapped(draw, parameters, place, method):
 
 
 def sequence_ended(draw, parameters, place, method):
-    """A sequence ends behind a parameter that isn't its last, and another begins."""
+    """A sequence ends after a parameter that isn't its last, and another begins."""
     if parameters[place][2].islower() and place + 1 < len(parameters):
         parameters[place][2] = parameters[place][2].upper()
         parameters[place + 1][0] = OPEN
 
 
 def sequence_joined(draw, parameters, place, method):
-    """A sequence goes on behind what was its last parameter."""
+    """A sequence goes on after what was its last parameter."""
     if place + 1 < len(parameters) and parameters[place + 1][0]:
         parameters[place][2] = parameters[place][2].lower()
         parameters[place + 1][0] = b""

@@ -19,7 +19,7 @@ import sys
 ROOT = pathlib.Path(__file__).resolve().parent.parent.parent
 ROW = re.compile(r"^\| (`[^|]+`) \| ([^|]+) \|$", re.M)
 LINE = re.compile(r"(?P<kind>\w+) at \d+ (?P<name>\S+)(?: [+-]?\d+)?(?: \(\d+ times\))?: (?P<text>.*)")
-# A value that commands with numbers don't take, and data behind those that take some.
+# A value that commands with numbers don't take, and data after those that take some.
 VALUE, DATA = "5000", b"3W\0\0\0"
 ACCEPTED = "nothing is refused\n"
 # The longest line of a help.

@@ -108,13 +108,13 @@ fn read(alloc: Global, notation: &str, in_brackets: bool) -> Result<Vec<u8>, Not
 impl<'a> Reader<'a> {
     /// Reads what comes next, if anything.
     fn step(&mut self, alloc: Global) -> Result<(), NotationFault> {
-        if let Some((times, behind)) = repetition_at(self.rest, self.in_brackets) {
-            return self.begin(times, behind);
+        if let Some((times, after)) = repetition_at(self.rest, self.in_brackets) {
+            return self.begin(times, after);
         }
-        let Some((first, behind)) = self.rest.split_first() else {
+        let Some((first, after)) = self.rest.split_first() else {
             return Ok(());
         };
-        self.rest = behind;
+        self.rest = after;
         match (*first, self.in_brackets) {
             (b' ', _) => Ok(()),
             (b'<', _) => Err(NotationFault::Unopened),
@@ -138,11 +138,11 @@ impl<'a> Reader<'a> {
     }
 
     /// Begins a repetition of what stands after its count.
-    fn begin(&mut self, times: usize, behind: &'a [u8]) -> Result<(), NotationFault> {
-        let (repeated, rest) = match behind.split_first() {
+    fn begin(&mut self, times: usize, after: &'a [u8]) -> Result<(), NotationFault> {
+        let (repeated, rest) = match after.split_first() {
             Some((b'<', inside)) => (Repeated::Angles, inside),
-            Some((b'[', _)) => (Repeated::Brackets, behind),
-            _ => (Repeated::Byte, behind),
+            Some((b'[', _)) => (Repeated::Brackets, after),
+            _ => (Repeated::Byte, after),
         };
         self.open.push(Repetition {
             times,
@@ -172,10 +172,10 @@ impl<'a> Reader<'a> {
 
     /// Reads the second digit of a byte whose first was read.
     fn byte(&mut self, alloc: Global, high: u8) -> Result<(), NotationFault> {
-        let (low, behind) = self.rest.split_first().ok_or(NotationFault::Digits)?;
+        let (low, after) = self.rest.split_first().ok_or(NotationFault::Digits)?;
         let high = hex_digit(high).ok_or(NotationFault::Digits)?;
         let low = hex_digit(*low).ok_or(NotationFault::Digits)?;
-        self.rest = behind;
+        self.rest = after;
         self.bytes.push(high << 4 | low)?;
         self.end(alloc, Repeated::Byte)?;
         Ok(())
@@ -188,21 +188,21 @@ impl<'a> Reader<'a> {
             .iter()
             .position(|byte| *byte == b'}')
             .ok_or(NotationFault::Unclosed)?;
-        let (inside, behind) = self
+        let (inside, after) = self
             .rest
             .split_at_checked(len)
             .ok_or(NotationFault::Unclosed)?;
         self.bytes.extend_from_slice(inside)?;
-        self.rest = behind.strip_prefix(b"}").ok_or(NotationFault::Unclosed)?;
+        self.rest = after.strip_prefix(b"}").ok_or(NotationFault::Unclosed)?;
         Ok(())
     }
 
     /// Reads what begins with a character that was read: `ESC`, or the character alone.
     fn character(&mut self, character: u8) -> Result<(), NotationFault> {
         match (character, self.rest.strip_prefix(b"SC")) {
-            (b'E', Some(behind)) => {
+            (b'E', Some(after)) => {
                 self.bytes.push(ESC)?;
-                self.rest = behind;
+                self.rest = after;
             }
             _ => self.bytes.push(character)?,
         }
@@ -213,15 +213,15 @@ impl<'a> Reader<'a> {
 /// The count of a repetition that begins here, and what stands after its star.
 fn repetition_at(rest: &[u8], in_brackets: bool) -> Option<(usize, &[u8])> {
     let digits = rest.iter().take_while(|byte| byte.is_ascii_digit()).count();
-    let (count, behind) = rest.split_at_checked(digits)?;
-    let behind = behind.strip_prefix(b"*")?;
-    let is_repeated = match behind.first()? {
+    let (count, after) = rest.split_at_checked(digits)?;
+    let after = after.strip_prefix(b"*")?;
+    let is_repeated = match after.first()? {
         b'<' => true,
         b'[' => !in_brackets,
         other => in_brackets && hex_digit(*other).is_some(),
     };
     let times = std::str::from_utf8(count).ok()?.parse().ok()?;
-    is_repeated.then_some((times, behind))
+    is_repeated.then_some((times, after))
 }
 
 /// The value of a hexadecimal digit.

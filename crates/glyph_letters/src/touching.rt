@@ -127,7 +127,7 @@ pub fn divide_shapes(
     Ok(true)
 }
 
-/// Divides the shapes of these patterns. The right parts come behind all others.
+/// Divides the shapes of these patterns. The right parts come after all others.
 fn divide_once(
     collection: &mut Collection,
     divisions: &IndexMap<u32, Division>,

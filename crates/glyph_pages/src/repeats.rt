@@ -57,7 +57,7 @@ impl Repeats {
         let (_, page) = pages.split_at(start);
         let alloc = *self.passages.order.allocator();
         for segment in segments_of(alloc, page, self.may_run)?.iter() {
-            self.add_segment(pages, segment.behind(start))?;
+            self.add_segment(pages, segment.after(start))?;
         }
         self.len = pages.len();
         Ok(())
@@ -84,7 +84,7 @@ impl Repeats {
         }
     }
 
-    /// Writes the pages again, with what repeats as macros, and begins anew. What stands behind the last page stays there.
+    /// Writes the pages again, with what repeats as macros, and begins anew. What stands after the last page stays there.
     pub fn end(&mut self, out: &mut Vec<u8>) -> Result<(), AllocError> {
         let alloc = *out.allocator();
         let mut found = Repeats::new(alloc, self.first_id, self.may_run);

@@ -10,7 +10,7 @@ const ESCAPE: u8 = 27;
 pub struct Segment {
     pub start: usize,
     pub end: usize,
-    /// Whether macros are defined or run in it, or before it and behind it.
+    /// Whether macros are defined or run in it, or before and after it.
     pub has_macros: bool,
     /// Whether it stays where it is: a macro is defined there, or counts on an ID that is set before it.
     pub is_fixed: bool,
@@ -18,7 +18,7 @@ pub struct Segment {
 
 impl Segment {
     /// The same segment of a text in which another text stands before its own, of this many bytes.
-    pub fn behind(self, bytes: usize) -> Segment {
+    pub fn after(self, bytes: usize) -> Segment {
         Segment {
             start: self.start.saturating_add(bytes),
             end: self.end.saturating_add(bytes),
@@ -72,7 +72,7 @@ fn starts_with_id(parameters: &[u8]) -> bool {
     letter.is_some_and(|letter| *letter == b'y')
 }
 
-/// Whether a segment starts between two commands: behind a raster, before a form feed, and where a line or a rule starts, by a move to a
+/// Whether a segment starts between two commands: after a raster, before a form feed, and where a line or a rule starts, by a move to a
 /// row, by line feeds, or by a carriage return and a move.
 fn is_cut(before: Kind, next: Kind) -> bool {
     match (before, next) {
@@ -92,10 +92,10 @@ pub fn segments_of(alloc: Global, text: &[u8], may_run: bool) -> Result<Vec<Segm
         if rest.is_empty() {
             break;
         }
-        let (command, behind) = rest.split_at(command_len(rest).min(rest.len()));
+        let (command, after) = rest.split_at(command_len(rest).min(rest.len()));
         let start = text.len().saturating_sub(rest.len());
         cuts.add(start, kind_of(command))?;
-        rest = behind;
+        rest = after;
     }
     cuts.segments(alloc, text.len(), may_run)
 }
@@ -184,7 +184,7 @@ impl Cuts {
     }
 }
 
-/// Whether a place lies behind the first and not behind the last of the commands about macros.
+/// Whether a place lies after the first and not after the last of the commands about macros.
 fn is_between(place: usize, macros: Option<MacroRange>) -> bool {
     macros.is_some_and(|range| range.first < place && place <= range.last)
 }

@@ -96,5 +96,5 @@ impl RepeatedRows {
 /// Whether a row begins with some bytes and is white after them.
 fn is_row(row: &[u8], bytes: &[u8]) -> bool {
     row.strip_prefix(bytes)
-        .is_some_and(|behind| behind.iter().all(|byte| *byte == 0))
+        .is_some_and(|after| after.iter().all(|byte| *byte == 0))
 }

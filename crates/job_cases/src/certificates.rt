@@ -143,7 +143,7 @@ impl Certificates {
         }
         let separator = if word == "remove" { " " } else { ": " };
         let (place, what) = rest.split_once(separator).ok_or(TableFault::Unknown)?;
-        let (before, behind) = self
+        let (before, after) = self
             .certificate
             .split_at_checked(number(place)?)
             .ok_or(TableFault::Number)?;
@@ -156,7 +156,7 @@ impl Certificates {
                 if word == "put" { bytes.len() } else { 0 }
             }
         };
-        changed.extend_from_slice(behind.get(skipped..).ok_or(TableFault::Number)?)?;
+        changed.extend_from_slice(after.get(skipped..).ok_or(TableFault::Number)?)?;
         self.certificate = changed;
         Ok(())
     }

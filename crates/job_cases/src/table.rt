@@ -13,7 +13,7 @@
 //!     5-99 by 2: @31 FF @286 FF      rows 5, 7, 9 to 99: byte 31, byte 286; those between are white
 //!     100: dots 240 300-303          row 100 has these dots
 //!     written ESC*b1W[80]            the body of the page's text in the job that is written
-//!   2* page Letter                   two pages, white as each page whose rows aren't told
+//!   2* page Letter                   two pages, white as each page whose rows aren't given
 //!   length 48                        the bytes of the job that is written
 //! ```
 //!

@@ -93,9 +93,9 @@ pub first_of_run : (wanted : List ℕ) {count : ℕ} (byte : ℕ) → 0 < count 
     → take count wanted ≡ replicate count (slice_index wanted 0)
 first_of_run wanted {count} byte some alike = cc (get_or-replicate count 0 byte 0 some, get_or-take count wanted 0 0 some)
 
-pub run_behind : (wanted : List ℕ) {len : ℕ} (byte : ℕ) → 1 ≤ len → take (len + 1) wanted ≡ replicate (len + 1) byte
+pub run_from_rest : (wanted : List ℕ) {len : ℕ} (byte : ℕ) → 1 ≤ len → take (len + 1) wanted ≡ replicate (len + 1) byte
     → take len (drop 1 wanted) ≡ replicate len (slice_index (drop 1 wanted) 0)
-run_behind wanted {len} byte some alike = first_of_run (drop 1 wanted) byte some (rest_of_run wanted 0 len (rw add-one at alike))
+run_from_rest wanted {len} byte some alike = first_of_run (drop 1 wanted) byte some (rest_of_run wanted 0 len (rw add-one at alike))
 
 -- ---- each byte given so often
 

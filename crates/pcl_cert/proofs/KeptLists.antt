@@ -14,7 +14,7 @@ table_length n list = omega (arith, length-take {A = ℕ}, length-append {A = �
 pub table_number : {n : ℕ} (list : List ℕ) {k : ℕ} → k < n → get_or (table_of n list) k 0 ≡ get_or list k 0
 table_number {n} list {k} lt =
     let front = get_or_append_left list (replicate n 0) 0 k in
-    let behind = get_or-append_right list (replicate n 0) (length list) k 0 refl in
+    let after = get_or-append_right list (replicate n 0) (length list) k 0 refl in
     grind (arith, get_or-take n (list ++ replicate n 0) k 0 lt, get_or-replicate {A = ℕ} n (k - length list) 0 0, get_or_past list k 0)
 
 -- ---- numbers without the zeros at their end
@@ -170,8 +170,8 @@ one_row_more {width} {rows} {done} {old} {new} holds wide more =
         | inr le ↦
             let last : y ≡ done = omega arith in
             let place : 4 * y + method_code method - 4 * done ≡ method_code method = omega arith in
-            let behind = get_or-append_right (listed old) four (4 * done) (4 * y + method_code method) [] before (omega arith) in
-            rw (behind, place, last) (rw wide at (four_least more method))
+            let after = get_or-append_right (listed old) four (4 * done) (4 * y + method_code method) [] before (omega arith) in
+            rw (after, place, last) (rw wide at (four_least more method))
       ]);
     }
 

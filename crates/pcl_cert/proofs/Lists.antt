@@ -1,6 +1,6 @@
 -- Reading row tables: where the lists stand in the bytes.
 use Rattle.std.proofs.Common.{◌≡◌, ℕ, ◌+◌, ◌-◌, ◌*◌, ◌<◌, ◌≤◌, false, List, [], ◌∷◌, ◌++◌, length, take, drop, Result, Ok, Err, sym, ap, ◌∙◌, arith, nat_lt, if◌then◌else◌}
-use Rattle.pcl_cert.proofs.Names.{w16, AllByRecursion, numbers_from, count_of, list_from, lists_within, IsListAt, ltb-false, le-ltb, drop-drop, length-drop, length-append, map_push, CertFault, Short, Places, ends_in_zero, Fails, behind, uint_at, list_behind, lists_at}
+use Rattle.pcl_cert.proofs.Names.{w16, AllByRecursion, numbers_from, count_of, list_from, lists_within, IsListAt, ltb-false, le-ltb, drop-drop, length-drop, length-append, map_push, CertFault, Short, Places, ends_in_zero, FailsAs, beyond, uint_at, list_after, lists_at}
 use Rattle.pcl_cert.specs.ReadingCertificates.{list_at}
 use Rattle.pcl_cert.proofs.FieldsRead.{step_ok, passed, same_ok}
 use Rattle.pcl_cert.proofs.Numbers.{numbers_of_front}
@@ -17,18 +17,18 @@ pub record StandsInLists (count most done : ℕ) (bytes rest : List ℕ) (starts
 
 -- ---- one list
 
-pub behind_ok : {X : Type 0} (read : Result (X × List ℕ) CertFault) (rest : List ℕ) → behind read ≡ Ok rest
+pub after_ok : {X : Type 0} (read : Result (X × List ℕ) CertFault) (rest : List ℕ) → beyond read ≡ Ok rest
     → (x : X) × (read ≡ Ok (x, rest))
-behind_ok (Ok x) rest e = (x.0, ap (λ (bytes : List ℕ). Ok (x.0, bytes)) (same_ok e))
-behind_ok (Err fault) rest e = absurd cc
+after_ok (Ok x) rest e = (x.0, ap (λ (bytes : List ℕ). Ok (x.0, bytes)) (same_ok e))
+after_ok (Err fault) rest e = absurd cc
 
-pub behind_fails : {X : Type 0} (fault : CertFault) (read : Result (X × List ℕ) CertFault) → Fails fault (behind read) → Fails fault read
-behind_fails fault (Ok x) = fails_same fault (λ e. absurd cc)
-behind_fails fault (Err other) = fails_same fault (λ e. cc)
+pub after_fails : {X : Type 0} (fault : CertFault) (read : Result (X × List ℕ) CertFault) → FailsAs fault (beyond read) → FailsAs fault read
+after_fails fault (Ok x) = fails_same fault (λ e. absurd cc)
+after_fails fault (Err other) = fails_same fault (λ e. cc)
 
 -- what is found where the count is good and the numbers are there
 pub list_checked : {most : ℕ} (bytes : List ℕ) {count : ℕ} {rest : List ℕ} → uint_at w16 bytes ≡ Ok (count, rest)
-    → count ≤ most → 2 * count ≤ length rest → behind (list_at most bytes)
+    → count ≤ most → 2 * count ≤ length rest → beyond (list_at most bytes)
     ≡ (if ends_in_zero (numbers_from count (take (2 * count) rest)) then Err Places else Ok (drop (2 * count) rest))
 unfolding list_at
 list_checked {most} bytes {count} {rest} read few long =
@@ -48,7 +48,7 @@ pub list_found : {most : ℕ} {bytes numbers rest : List ℕ} → list_at most b
 unfolding list_at
 list_found {most} {bytes} {numbers} {rest} e =
     let long = (passed (nat_lt (length bytes) 2) Short (step_ok (uint_at w16 bytes) e).1).0 in
-    let read : list_behind most (count_of bytes, drop 2 bytes) ≡ Ok (numbers, rest) = rw long at e in
+    let read : list_after most (count_of bytes, drop 2 bytes) ≡ Ok (numbers, rest) = rw long at e in
     let few = passed (nat_lt most (count_of bytes)) Places read in
     let there = passed (nat_lt (length (drop 2 bytes)) (2 * count_of bytes)) Short few.1 in
     let ends = passed (ends_in_zero (list_from bytes)) Places there.1 in

@@ -1,7 +1,7 @@
 -- Reading several things one after the other, as loops do.
 use Rattle.std.proofs.Common.{◌≡◌, ℕ, suc, ◌+◌, ◌-◌, ◌<◌, ◌≤◌, List, [], ◌∷◌, ◌++◌, Result, Ok, Err, refl, sym, ap, ◌∙◌, append_assoc, arith}
 use Rattle.pcl_cert.proofs.Names.{append-nil, CertFault, Memory}
-use Rattle.pcl_cert.specs.ReadingCertificates.{◌>>=◌, Fails}
+use Rattle.pcl_cert.specs.ReadingCertificates.{◌>>=◌, FailsAs}
 
 -- what reads one thing
 abbrev pub Reader : Type 0 → Type 0
@@ -14,19 +14,19 @@ pub record IsMany {X : Type 0} (one : Reader X) (many : ℕ → Reader (List X))
       → many (suc n) bytes ≡ (one bytes >>= λ first. many n first.1 >>= λ others. Ok (first.0 ∷ others.0, others.1))
 
 -- what was read before, and what is still to be read
-abbrev pub behind_front : {X : Type 0} → List X → Result (List X × List ℕ) CertFault → Result (List X × List ℕ) CertFault
-behind_front front read = read >>= λ x. Ok (front ++ x.0, x.1)
+abbrev pub after_front : {X : Type 0} → List X → Result (List X × List ℕ) CertFault → Result (List X × List ℕ) CertFault
+after_front front read = read >>= λ x. Ok (front ++ x.0, x.1)
 
 -- where a loop stands that has read `front` of `count` things
 pub record Stands {X : Type 0} (many : ℕ → Reader (List X)) (count done : ℕ) (bytes rest : List ℕ) (front : List X) : Type 0 where
-  pub so_far : behind_front front (many (count - done) rest) ≡ many count bytes
+  pub so_far : after_front front (many (count - done) rest) ≡ many count bytes
 
 regrouped : {X : Type 0} (front : List X) (x : X) (read : Result (List X × List ℕ) CertFault)
-    → behind_front front (read >>= λ y. Ok (x ∷ y.0, y.1)) ≡ behind_front (front ++ x ∷ []) read
+    → after_front front (read >>= λ y. Ok (x ∷ y.0, y.1)) ≡ after_front (front ++ x ∷ []) read
 regrouped {X} front x (Ok y) = ap (λ (all : List X). Ok (all, y.1)) (sym (append_assoc front (x ∷ []) y.0))
 regrouped front x (Err fault) = refl
 
-unread : {X : Type 0} (read : Result (List X × List ℕ) CertFault) → behind_front [] read ≡ read
+unread : {X : Type 0} (read : Result (List X × List ℕ) CertFault) → after_front [] read ≡ read
 unread (Ok x) = refl
 unread (Err fault) = refl
 
@@ -37,7 +37,7 @@ begins {many} {count} {bytes} =
 
 -- what fails with a fault where another thing does, unless memory ran out
 pub fails_same : {X Y : Type 0} (fault : CertFault) {read : Result X CertFault} {later : Result Y CertFault}
-    → (read ≡ Err fault → later ≡ Err fault) → Fails fault read → Fails fault later
+    → (read ≡ Err fault → later ≡ Err fault) → FailsAs fault read → FailsAs fault later
 fails_same Memory same e = tt
 fails_same _ same e = same e
 
@@ -49,7 +49,7 @@ module _ {X : Type 0} {one : Reader X} {many : ℕ → Reader (List X)} {count d
       let left : count - done ≡ suc (count - (done + 1)) = omega arith in
       record { so_far = sym (regrouped front x (many (count - (done + 1)) after)) ∙ (rw (left, is.more, read) at stands.so_far) }
 
-  pub fails : (fault : CertFault) → done < count → Fails fault (one rest) → Fails fault (many count bytes)
+  pub fails : (fault : CertFault) → done < count → FailsAs fault (one rest) → FailsAs fault (many count bytes)
   fails fault lt =
       let left : count - done ≡ suc (count - (done + 1)) = omega arith in
       fails_same fault (λ read. sym (rw (left, is.more, read) at stands.so_far))

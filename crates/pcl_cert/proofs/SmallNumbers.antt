@@ -43,7 +43,7 @@ module _ {width : ℕ} {rows : List (List ℕ)} {number : Node → ℕ} (are : A
       let s = spelled_cost (method_code Plain) (omega (arith, method_small Plain)) in
       let opened = feasible.steps (node row current false) opening (node row current true) (refl, refl) in
       let set = feasible.steps (node row current true) (method (least_spelling 0) Plain false) (node row Plain true) (refl, s.0, refl) in
-      let behind = outside_small left (row + 1) Plain (omega (arith, all)) in
+      let after = outside_small left (row + 1) Plain (omega (arith, all)) in
       omega (arith, cost_opening, cost_method (least_spelling 0) Plain false, sent_plain row (omega (arith, all)))
 
   pub number_small : length rows ≤ 9999 → (row : ℕ) (current : Method) (is_open : Bool) → row ≤ length rows

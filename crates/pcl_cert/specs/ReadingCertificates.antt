@@ -22,21 +22,21 @@ abbrev pub ◌>>=◌ : {A B : Type 0} → Result A CertFault → (A → Result B
 (Err e) >>= f = Err e
 
 -- what a call returned, seen by view, is what reading gives, unless memory ran out
-abbrev pub Fails : {Y : Type 0} → CertFault → Result Y CertFault → Type 0
-Fails Memory read = Unit {0}
-Fails fault read = read ≡ Err fault
+abbrev pub FailsAs : {Y : Type 0} → CertFault → Result Y CertFault → Type 0
+FailsAs Memory read = Unit {0}
+FailsAs fault read = read ≡ Err fault
 
 abbrev pub Gives : {X Y : Type 0} → (X → Y) → Result X CertFault → Result Y CertFault → Type 0
 Gives view (Ok x) read = read ≡ Ok (view x)
-Gives view (Err fault) read = Fails fault read
+Gives view (Err fault) read = FailsAs fault read
 
 -- a format and pages that were read
 abbrev pub contents_of : Format × Vec PageProof → Format × List PageProof
 contents_of read = (read.0, read.1.items)
 
 -- the bytes after what is read
-abbrev pub behind : {X : Type 0} → Result (X × List ℕ) CertFault → Result (List ℕ) CertFault
-behind read = read >>= λ x. Ok x.1
+abbrev pub beyond : {X : Type 0} → Result (X × List ℕ) CertFault → Result (List ℕ) CertFault
+beyond read = read >>= λ x. Ok x.1
 
 -- ---- fields: a value, and the bytes after it
 
@@ -92,8 +92,8 @@ table_at (suc n) bytes = do
 -- ---- row tables
 
 -- a list of at most this many numbers: its count is looked at before they are read, and the last of them after all
-abbrev pub list_behind : ℕ → ℕ × List ℕ → Result (List ℕ × List ℕ) CertFault
-list_behind most count =
+abbrev pub list_after : ℕ → ℕ × List ℕ → Result (List ℕ × List ℕ) CertFault
+list_after most count =
     if nat_lt most count.0 then Err Places
     else (if nat_lt (length count.1) (2 * count.0) then Err Short
     else (if ends_in_zero (numbers_from count.0 count.1) then Err Places
@@ -101,7 +101,7 @@ list_behind most count =
 
 -- a list of at most this many numbers: their count, in two bytes, and then the numbers
 unfoldable pub list_at : ℕ → List ℕ → Result (List ℕ × List ℕ) CertFault
-list_at most bytes = uint_at w16 bytes >>= list_behind most
+list_at most bytes = uint_at w16 bytes >>= list_after most
 
 -- this many lists, one after the other, each of at most this many numbers
 unfoldable pub lists_at : ℕ → ℕ → List ℕ → Result (List (List ℕ) × List ℕ) CertFault

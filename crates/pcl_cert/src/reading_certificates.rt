@@ -7,7 +7,7 @@ ghost use Rattle.pcl_cert.specs.declared.page_proof.PageProof.{PageProof as Proo
 ghost use Rattle.pcl_cert.specs.Certificates.{AreProofs, certificate_bytes};
 ghost use Rattle.pcl_cert.specs.CertificateFields.{size_with_height, ends_in_zero};
 ghost use Rattle.pcl_cert.specs.RowTables.{numbers_from};
-ghost use Rattle.pcl_cert.specs.ReadingCertificates.{Gives, contents_of, sized, table_at, list_at, lists_at, places_at, proof_at, proofs_at, certificate_at, behind};
+ghost use Rattle.pcl_cert.specs.ReadingCertificates.{Gives, contents_of, sized, table_at, list_at, lists_at, places_at, proof_at, proofs_at, certificate_at, beyond};
 
 use crate::fault::CertFault;
 use crate::fields::{format_at, row_numbers_at, uint_at, word_at};
@@ -165,15 +165,15 @@ fn lists_at(
     let mut rest = bytes;
     for _ in 0..4 * rows {
         starts.push(bytes.len() - rest.len())?;
-        rest = behind_list(rest, most)?;
+        rest = after_list(rest, most)?;
     }
     Ok((RowTables::within(Bytes::Lent(bytes), starts), rest))
 }
 
 /// The bytes after a list of at most this many numbers.
 #[tactic(auto, unfolding(crate::specs::ReadingCertificates::list_at))]
-fn behind_list(bytes: &[u8], most: usize) -> Result<&[u8], CertFault>
-    ensures { Gives (λ rest. rest.now) result (behind (list_at most bytes.now)) }
+fn after_list(bytes: &[u8], most: usize) -> Result<&[u8], CertFault>
+    ensures { Gives (λ rest. rest.now) result (beyond (list_at most bytes.now)) }
 {
     let (count, rest) = word_at(bytes)?;
     let count = usize::from(count);

@@ -66,14 +66,14 @@ module _ {dpi : Dpi} {text : List ℕ} {copies : ℕ} {size : Size} {rest : List
       same_front 120 read.few (omega (arith, is.few)) refl (append_cancel_left first_bytes _ _ (sym read.text_is ∙ begins_as))
 
   pub no_code : {n : ℕ} {more : List ℕ} → IsCopies text n more
-      → ((code : ℕ) (behind : List ℕ) → code ≤ 65535 → more ≡ decimal code ++ 97 ∷ behind → ⊥) → ⊥
+      → ((code : ℕ) (after : List ℕ) → code ≤ 65535 → more ≡ decimal code ++ 97 ∷ after → ⊥) → ⊥
   no_code read none = none (code_of size) (raster_start size dpi ++ rest) (omega (arith, code_few size)) (copies_read read).1
 
   pub size_read : {n code : ℕ} {more : List ℕ} → IsSize text n code more
       → (n ≡ copies) × (code ≡ code_of size) × (more ≡ raster_start size dpi ++ rest)
   size_read read =
       let front = copies_read read.first in
-      let behind = same_front 97 read.small (omega (arith, code_few size)) refl front.1 in (front.0, behind.0, behind.1)
+      let after = same_front 97 read.small (omega (arith, code_few size)) refl front.1 in (front.0, after.0, after.1)
 
   pub no_size : {n code : ℕ} {more : List ℕ} → IsSize text n code more → size_with_code code ≡ None → ⊥
   no_size read none = let found = size_read read in let coded = size_coded size in absurd cc
@@ -82,7 +82,7 @@ module _ {dpi : Dpi} {text : List ℕ} {copies : ℕ} {size : Size} {rest : List
   same_size read some = let found = size_read read in let coded = size_coded size in cc
 
   pub no_raster : {n code : ℕ} {more : List ℕ} {found : Size} → IsSize text n code more → size_with_code code ≡ Some found
-      → ((behind : List ℕ) → more ≡ raster_start found dpi ++ behind → ⊥) → ⊥
+      → ((after : List ℕ) → more ≡ raster_start found dpi ++ after → ⊥) → ⊥
   no_raster read some none = let found = size_read read in let same = same_size read some in none rest cc
 
 pub begun : (dpi : Dpi) (text : List ℕ) (n code : ℕ) (more : List ℕ) (found : Size) (rest : List ℕ) → IsSize text n code more

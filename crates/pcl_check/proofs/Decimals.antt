@@ -4,9 +4,9 @@ use Rattle.pcl_check.proofs.Names.{decimal, prefix_len, append-nil, nil_from_len
 use Rattle.pcl_check.proofs.Splits.{one_split}
 
 -- nothing is after the digits
-pub all_digits : (text : List ℕ) {behind : List ℕ} → behind ≡ drop (prefix_len is_digit text) text → length behind ≡ 0 → AreDigits text
-all_digits text {behind} e none =
-    let no_more : drop (prefix_len is_digit text) text ≡ [] = sym e ∙ nil_from_length behind none in
+pub all_digits : (text : List ℕ) {after : List ℕ} → after ≡ drop (prefix_len is_digit text) text → length after ≡ 0 → AreDigits text
+all_digits text {after} e none =
+    let no_more : drop (prefix_len is_digit text) text ≡ [] = sym e ∙ nil_from_length after none in
     let front = front_split is_digit text in
     let all = append-nil (take (prefix_len is_digit text) text) in
     let whole : text ≡ take (prefix_len is_digit text) text = cc in rw whole front.pass

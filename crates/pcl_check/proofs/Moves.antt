@@ -93,7 +93,7 @@ module _ {size : Size} {dpi : Dpi} {left : LeftOver} {digits rest : List ℕ} {b
     splits = λ rows printed. elim (front_at told printed) [
       | is_method other last c m p ↦ absurd (grind arith)
       | is_skip last others c positive within r p ↦ absurd (grind arith)
-      | is_send sent behind painted others c m r positive f row row_data p ↦
+      | is_send sent after painted others c m r positive f row row_data p ↦
           let same = same_fronts sent bytes (sym m ∙ n) (sym r ∙ parts) in
           let one = row_data.decodes in
           let other = is_data.decodes in

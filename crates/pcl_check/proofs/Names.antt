@@ -17,4 +17,4 @@ pub use Rattle.pcl_output.proofs.Names.{AreWhite, Ends, IsPageText, IsRowOf, IsS
 pub use Rattle.pcl_output.specs.declared.{node.Node.Node, table.RowNumbers.RowNumbers}
 pub use Rattle.pcl_check.specs.{Edges.AreGoodNumbers, Edges.AreGoodSwitches, Edges.BoundData, Edges.FindsBad, Edges.IsFirstBad, Edges.IsGiven, Edges.IsGoodNumber, Edges.IsLeastOfRow, Edges.inside_code, Edges.number_at, Edges.place_of, Places.FindsBadPlace, Places.FindsPlace, Places.IsFirstPlace, Places.IsGoodPlace}
 pub use Rattle.pcl_check.specs.declared.{reading.body.Place.Place, reading.parameter.Parameter.Parameter, reading.start.Start.Start}
-pub use Rattle.pcl_check.specs.inner.{EdgePasses.AreEnds, EdgePasses.AreGoodSkipsOf, EdgePasses.AreGoodSkipsTo, EdgePasses.AreRunEnds, EdgePasses.At, EdgePasses.Both, EdgePasses.IsGoodBy, EdgePasses.IsGoodIn, EdgePasses.IsGoodSending, EdgePasses.IsGoodStart, EdgePasses.first_found, EdgePasses.found_place, EdgePasses.rests, EdgePasses.values, PlacePasses.AreBehindStarts, PlacePasses.AreGoodLiterals, PlacePasses.AreGoodReplacements, PlacePasses.AreGoodRuns, PlacePasses.AreGoodSteps, PlacePasses.ArePlaced, PlacePasses.AreRunStops, PlacePasses.AreStartEnds, PlacePasses.IsGoodByte, PlacePasses.IsGoodEnd, PlacePasses.IsNotUndercut, PlacePasses.first_found_place, Reading.Advances, Reading.AreRowsAt, Reading.GivesRows, Reading.IsBodyVerdict, Reading.IsOnlyPrinted, Reading.IsPaintedRow, Reading.IsParameter, Reading.IsStart, Reading.LeftOver, Reading.RestPrints, Reading.body_of, Reading.left_at, Reading.raster_start, SteadyNumbers.AreLeastSums, SteadyNumbers.FallsByRun, SteadyNumbers.FallsByStart, SteadyNumbers.IsGoodFor, SteadyNumbers.IsKeptBefore, SteadyNumbers.IsNeedEnd, SteadyNumbers.IsSteady, SteadyNumbers.TakesBehind, SteadyNumbers.most_number}
+pub use Rattle.pcl_check.specs.inner.{EdgePasses.AreEnds, EdgePasses.AreGoodSkipsOf, EdgePasses.AreGoodSkipsTo, EdgePasses.AreRunEnds, EdgePasses.At, EdgePasses.Both, EdgePasses.IsGoodBy, EdgePasses.IsGoodIn, EdgePasses.IsGoodSending, EdgePasses.IsGoodStart, EdgePasses.first_found, EdgePasses.found_place, EdgePasses.rests, EdgePasses.values, PlacePasses.AreAfterStarts, PlacePasses.AreGoodLiterals, PlacePasses.AreGoodReplacements, PlacePasses.AreGoodRuns, PlacePasses.AreGoodSteps, PlacePasses.ArePlaced, PlacePasses.AreRunStops, PlacePasses.AreStartEnds, PlacePasses.IsGoodByte, PlacePasses.IsGoodEnd, PlacePasses.IsNotUndercut, PlacePasses.first_found_place, Reading.Advances, Reading.AreRowsAt, Reading.GivesRows, Reading.IsBodyVerdict, Reading.IsOnlyPrinted, Reading.IsPaintedRow, Reading.IsParameter, Reading.IsStart, Reading.LeftOver, Reading.RestPrints, Reading.body_of, Reading.left_at, Reading.raster_start, SteadyNumbers.AreLeastSums, SteadyNumbers.FallsByRun, SteadyNumbers.FallsByStart, SteadyNumbers.IsGoodFor, SteadyNumbers.IsKeptBefore, SteadyNumbers.IsNeedEnd, SteadyNumbers.IsSteady, SteadyNumbers.TakesLater, SteadyNumbers.most_number}

@@ -1,6 +1,6 @@
 -- Elements of each kind by windows.
 use Rattle.std.proofs.Common.{◌≡◌, ℕ, ◌+◌, ◌-◌, ◌<◌, ◌≤◌, List, length, length-take, take, drop, arith}
-use Rattle.pcl_check.proofs.Names.{slice_index, ext_get_or, get_or-take, get_or-drop, length-drop, run_part, start_within, row_limit, replacement_bytes, run_len_of, near_bytes, far_bytes, IsNotUndercut, AreGoodRuns, AreGoodLiterals, AreGoodReplacements, AreRunStops, AreStartEnds, ArePlaced, AreBehindStarts}
+use Rattle.pcl_check.proofs.Names.{slice_index, ext_get_or, get_or-take, get_or-drop, length-drop, run_part, start_within, row_limit, replacement_bytes, run_len_of, near_bytes, far_bytes, IsNotUndercut, AreGoodRuns, AreGoodLiterals, AreGoodReplacements, AreRunStops, AreStartEnds, ArePlaced, AreAfterStarts}
 use Rattle.pcl_check.proofs.PlacesFound.{And}
 
 -- ---- runs
@@ -69,11 +69,11 @@ start_cost numbers sums ends {place} offset kept small within =
     grind (arith, kept.0.0 stop, kept.0.1 stop, kept.1.0 stop, kept.1.1 stop, near_bytes offset, far_bytes offset)
 
 module _ {old row numbers : List ℕ} (sums : List ℕ) {ends : List ℕ} {place : ℕ} (size : length numbers ≡ length row + 1)
-    (are : AreStartEnds old row ends 0) (behind : AreBehindStarts numbers sums) where
+    (are : AreStartEnds old row ends 0) (beyond : AreAfterStarts numbers sums) where
   pub replacements_by_windows : length row ≤ row_limit → AreKeptStarts numbers sums ends place → AreGoodReplacements old row numbers place
   replacements_by_windows small kept = λ offset len some few within alike.
       let start : ℕ = place + offset in
-      let least = (behind start (omega (arith, size))).1.least len (omega arith) (omega (arith, size)) in
+      let least = (beyond start (omega (arith, size))).1.least len (omega arith) (omega (arith, size)) in
       let cost = start_cost numbers sums ends offset kept (omega arith) (start_reached place offset are some within alike) in
       grind (arith, cost, least, get_or-drop start numbers len 0)
 
@@ -84,7 +84,7 @@ module _ {old row numbers : List ℕ} (sums : List ℕ) {ends : List ℕ} {place
       let inside : place < length row = grind (arith, are.last) in
       let is = are.starts place (omega arith) inside in
       let offset : ℕ = stop - 1 - place in
-      let b = behind (place + offset) (omega (arith, is.within, size)) in
+      let b = beyond (place + offset) (omega (arith, is.within, size)) in
       let alike = same_before_start offset same are inside (omega arith) in
       let kept = good offset b.0 (omega (arith, b.1.above)) (omega (arith, b.1.below)) (omega (arith, b.1.below, size, is.within)) alike in
       grind (arith, kept, b.1.sum_is, get_or-drop (place + offset) numbers b.0 0, spelled offset)

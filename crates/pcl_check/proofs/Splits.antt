@@ -1,4 +1,4 @@
--- Bytes that pass a test with another one after them: they can be told in one way.
+-- Bytes that pass a test with another one after them: they can be divided in one way.
 use Rattle.std.proofs.Common.{◌≡◌, ℕ, Bool, false, List, [], ◌∷◌, ◌++◌, refl}
 use Rattle.pcl_check.proofs.Names.{Pass}
 

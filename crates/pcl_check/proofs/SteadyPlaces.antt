@@ -1,6 +1,6 @@
 -- Places of rows whose numbers never grow.
 use Rattle.std.proofs.Common.{◌≡◌, ◌≢◌, ℕ, zero, suc, ◌+◌, ◌-◌, ◌<◌, ◌≤◌, min, List, length, take, refl, arith}
-use Rattle.pcl_check.proofs.Names.{slice_index, get_or-take, length-take-le, alike_at, rest_of_alike, run_byte, rest_of_run, falls_on, start_within, replacement_bytes, ends_at, near_bytes, far_bytes, IsGoodEnd, AreGoodRuns, AreGoodLiterals, AreGoodReplacements, most_number, IsSteady, IsNeedEnd, FallsByRun, FallsByStart, AreLeastSums, TakesBehind, IsKeptBefore}
+use Rattle.pcl_check.proofs.Names.{slice_index, get_or-take, length-take-le, alike_at, rest_of_alike, run_byte, rest_of_run, falls_on, start_within, replacement_bytes, ends_at, near_bytes, far_bytes, IsGoodEnd, AreGoodRuns, AreGoodLiterals, AreGoodReplacements, most_number, IsSteady, IsNeedEnd, FallsByRun, FallsByStart, AreLeastSums, TakesLater, IsKeptBefore}
 
 -- ---- steady numbers
 
@@ -29,16 +29,16 @@ runs_by_stop row {numbers} {most} {end} stop {place} steady none after within br
 
 -- ---- literals
 
--- sums of one count, and of twice as many with what was taken from behind
+-- sums of one count, and of twice as many with what was taken from later places
 abbrev pub Sums : List ℕ → ℕ → List ℕ → Type 0
 Sums numbers count least = (length least ≡ length numbers) × AreLeastSums numbers count least
 
-pub sums_more : (numbers : List ℕ) {old new : List ℕ} (count : ℕ) → Sums numbers count old → TakesBehind count old new
+pub sums_more : (numbers : List ℕ) {old new : List ℕ} (count : ℕ) → Sums numbers count old → TakesLater count old new
     → Sums numbers (count + count) new
 sums_more numbers count sums takes = (
   omega (arith, takes.size, sums.0),
   λ place stop after before inside.
-      grind (arith, takes.here place, takes.behind place, sums.1 place stop, sums.1 (place + count) stop, sums.0),
+      grind (arith, takes.here place, takes.beyond place, sums.1 place stop, sums.1 (place + count) stop, sums.0),
 )
 
 -- a literal that goes on where no more is needed

@@ -31,7 +31,7 @@ pub no_values : (value : ℕ → ℕ) (from : ℕ) {count : ℕ} → count ≡ 0
 unfolding values
 no_values value from none = rw none
 
--- values put behind others, one after the other
+-- values appended to others, one after the other
 pub put_none : (value : ℕ → ℕ) (before : List ℕ) (from : ℕ) → before ≡ before ++ values value from (from - from)
 put_none value before from = rw (no_values value from {count = from - from} (omega arith)) (sym (append-nil before))
 

@@ -26,7 +26,7 @@ agrees_gives {method} old {wanted} {e} size is agrees =
     let left : length (take offset old) ≡ offset = length-take-le offset old (omega arith) in
     let rest : List ℕ = given e ++ drop (stop e) wanted in
     let front = take_at (take offset old) rest offset left in
-    let behind = drop_at (take offset old) rest offset left in
+    let after = drop_at (take offset old) rest offset left in
     (within, cc, cc (take_at (given e) (drop (stop e) wanted) (length (given e)) refl))
 
 -- ---- steps

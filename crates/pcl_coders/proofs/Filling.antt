@@ -16,8 +16,8 @@ one_byte Delta old wanted some =
 -- ---- the numbers of a table
 
 -- a number after the place that is set
-pub number_behind : (table : List ℕ) (at number place : ℕ) → at < place → slice_index (set table at number) place ≡ slice_index table place
-number_behind table at number place behind = let other : place ≢ at = omega arith in get_or-set_other table at place number 0 other
+pub number_after : (table : List ℕ) (at number place : ℕ) → at < place → slice_index (set table at number) place ≡ slice_index table place
+number_after table at number place after = let other : place ≢ at = omega arith in get_or-set_other table at place number 0 other
 
 -- where more data is needed
 pub number_of_choice : {method : Method} {old row : List ℕ} (table : List ℕ) {place : ℕ} {shape : Shape} {sum : ℕ} → place < length row
@@ -25,7 +25,7 @@ pub number_of_choice : {method : Method} {old row : List ℕ} (table : List ℕ)
     → IsShapeChoice method (drop place old) (drop place row) (drop place table) shape sum → sum ≤ 2 * (length row - place)
     → IsPlaceNumber method old row (set table place sum) place
 number_of_choice {row} table {place} {shape} {sum} inside size more c small =
-    grind (arith, c.choice.least, get_or-set_same, get_or-drop, number_behind table place sum)
+    grind (arith, c.choice.least, get_or-set_same, get_or-drop, number_after table place sum)
 
 -- the best element has no more than two bytes for each byte of the row, where that holds after it
 pub choice_small : {method : Method} (old row table : List ℕ) {place : ℕ} {shape : Shape} {sum : ℕ} → place < length row
@@ -41,16 +41,16 @@ pub ends_here : (old row : List ℕ) {place : ℕ} → length old ≡ length row
     → Ends old row (place + 1) → Ends old row place
 ends_here old row {place} size inside same end = cc (drop_more row place 0 inside, drop_more old place 0 (omega arith))
 
-pub ends_behind : (old row : List ℕ) (place : ℕ) → Ends old row place → Ends old row (place + 1)
-ends_behind old row place end = cc (drop-drop 1 place row, drop-drop 1 place old)
+pub ends_after : (old row : List ℕ) (place : ℕ) → Ends old row place → Ends old row (place + 1)
+ends_after old row place end = cc (drop-drop 1 place row, drop-drop 1 place old)
 
 -- one more number
 pub right_more : {method : Method} {old row table : List ℕ} {place : ℕ} (number : ℕ) → AreRightFrom method old row table (place + 1)
     → IsPlaceNumber method old row (set table place number) place → AreRightFrom method old row (set table place number) place
-right_more {method} {old} {row} {table} {place} number behind here q low high =
+right_more {method} {old} {row} {table} {place} number after here q low high =
     elim (cases_lt place q) [
       | inl above ↦
-          let is = behind q (omega arith) high in grind (arith, is.steps, is.attained, number_behind table place number)
+          let is = after q (omega arith) high in grind (arith, is.steps, is.attained, number_after table place number)
       | inr same ↦ let at : q ≡ place = omega arith in rw at here
     ]
 

@@ -22,7 +22,7 @@ pub record IsLiteral (h : Head) (bytes : List ℕ) (most head : ℕ) : Type 0 wh
   pub below : length (given_by h bytes) ≤ most
   pub bytes_are : length (head_bytes h ++ bytes) ≡ head + length (given_by h bytes)
 
--- copies of the one byte behind a head of one byte
+-- copies of the one byte after a head of one byte
 repeats : (h : Head) {bytes : List ℕ} {least most : ℕ} → length (head_bytes h) ≡ 1 → length bytes ≡ 1 → least ≤ copies_of h
     → copies_of h ≤ most → IsRepeat h bytes least most
 repeats h {bytes} one alone low high =

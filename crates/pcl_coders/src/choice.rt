@@ -44,7 +44,7 @@ impl Choice {
             }
             Method::Delta => {
                 let start = first_difference(old, wanted);
-                Choice::behind(start, wanted.len(), numbers)
+                Choice::after(start, wanted.len(), numbers)
             }
             Method::Packed => {
                 let sum = usize::from(numbers[0]);
@@ -63,7 +63,7 @@ impl Choice {
     }
 
     /// The replacement after an offset that begins least data.
-    fn behind(offset: usize, row_bytes: usize, numbers: &[u16]) -> Choice
+    fn after(offset: usize, row_bytes: usize, numbers: &[u16]) -> Choice
         requires inside { offset < row_bytes }
         requires size { length numbers.now ≡ row_bytes + 1 }
         requires small { row_bytes ≤ row_limit }

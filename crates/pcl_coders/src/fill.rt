@@ -5,7 +5,7 @@ ghost use Rattle.pcl_base.specs.declared.method.Method.TheVariants as methods;
 ghost use Rattle.pcl_rows.specs.Decoding.{base};
 ghost use Rattle.pcl_coders.specs.Coding.{IsCodable};
 ghost use Rattle.pcl_coders.specs.inner.Choosing.{IsLeastLen};
-ghost use Rattle.pcl_coders.specs.inner.Filling.{AreRightFrom, IsFirstEnd, IsBegun, IsLiteralEnd, HasLiteralEnd, white_like};
+ghost use Rattle.pcl_coders.specs.inner.Filling.{AreRightFrom, IsFirstEnd, HasZeros, IsLiteralEnd, HasLiteralEnd, white_like};
 
 use crate::choice::{command_bytes, least_after};
 use pcl_base::Method;
@@ -66,7 +66,7 @@ fn clear_from(out: &mut [u16], end: usize)
 
 /// Method 0: a byte for each place.
 fn fill_plain(row: &[u8], end: usize, out: &mut [u16])
-    requires { IsBegun (white_like row.now) row.now out.old end }
+    requires { HasZeros (white_like row.now) row.now out.old end }
     ensures { AreRightFrom methods.Plain (white_like row.now) row.now out.new 0 }
 {
     for place in (0..end).rev() {
@@ -76,7 +76,7 @@ fn fill_plain(row: &[u8], end: usize, out: &mut [u16])
 
 /// Method 1: the longest run is always as good as a shorter one.
 fn fill_runs(row: &[u8], end: usize, out: &mut [u16])
-    requires { IsBegun (white_like row.now) row.now out.old end }
+    requires { HasZeros (white_like row.now) row.now out.old end }
     ensures { AreRightFrom methods.Runs (white_like row.now) row.now out.new 0 }
 {
     let mut run_end = end;
@@ -91,7 +91,7 @@ fn fill_runs(row: &[u8], end: usize, out: &mut [u16])
 /// Method 2: the longest repeat is always as good as a shorter one, and where the best literal ends is known from
 /// place to place.
 fn fill_packed(row: &[u8], end: usize, out: &mut [u16])
-    requires { IsBegun (white_like row.now) row.now out.old end }
+    requires { HasZeros (white_like row.now) row.now out.old end }
     ensures { AreRightFrom methods.Packed (white_like row.now) row.now out.new 0 }
 {
     let mut run_end = end;
@@ -139,7 +139,7 @@ fn repeat_number(out: &[u16], place: usize, run_end: usize) -> u16
 /// Method 3: replacements that start at the next byte that differs. Between two such bytes only their
 /// command grows.
 fn fill_delta(old: &[u8], row: &[u8], end: usize, out: &mut [u16])
-    requires { IsBegun old.now row.now out.old end }
+    requires { HasZeros old.now row.now out.old end }
     ensures { AreRightFrom methods.Delta old.now row.now out.new 0 }
 {
     let mut start = end;

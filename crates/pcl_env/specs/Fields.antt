@@ -5,7 +5,7 @@ use Rattle.pcl_base.specs.declared.size.Size.TheVariants.{Letter}
 use Rattle.pcl_env.specs.declared.stack.Position.{Position as Place}
 use Rattle.pcl_env.specs.declared.env.Setup.{Setup}
 use Rattle.pcl_env.specs.Settings.{Position, Settings}
-use Rattle.pcl_env.specs.Stack.{place_of}
+use Rattle.pcl_env.specs.Stack.{position_of}
 
 abbrev pub settings : Size → Place → List Position → Setup → Settings
 settings size cursor stack setup = record {
@@ -21,7 +21,7 @@ settings size cursor stack setup = record {
   skips = setup.skips;
   return_feeds = setup.return_feeds;
   feed_returns = setup.feed_returns;
-  cursor = place_of cursor;
+  cursor = position_of cursor;
   stack = stack;
   macro_id = setup.macro_id;
   font_id = setup.font_id;

@@ -257,6 +257,6 @@ outcome dpi other v m s = stays s
 -- ---- what a call answers
 
 -- the settings and the effect of the outcome; where the value isn't taken, the settings stay
-abbrev pub Answers : Outcome → Result Effect Unsupported → Settings → Settings → Type 0
-Answers None answer old new = IsErr answer × (new ≡ old)
-Answers (Some done) answer old new = (answer ≡ Ok done.1) × (new ≡ done.0)
+abbrev pub AnswersAs : Outcome → Result Effect Unsupported → Settings → Settings → Type 0
+AnswersAs None answer old new = IsErr answer × (new ≡ old)
+AnswersAs (Some done) answer old new = (answer ≡ Ok done.1) × (new ≡ done.0)

@@ -4,8 +4,8 @@ use Rattle.pcl_base.specs.Limits.{stack_limit}
 use Rattle.pcl_env.specs.declared.stack.Position.{Position as Place}
 use Rattle.pcl_env.specs.Settings.{Position}
 
-abbrev pub place_of : Place → Position
-place_of place = record { x = place.x; y = place.y }
+abbrev pub position_of : Place → Position
+position_of place = record { x = place.x; y = place.y }
 
 -- one position more, where the stack isn't full
 abbrev pub kept_with : Position → List Position → List Position

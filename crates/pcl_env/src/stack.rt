@@ -2,7 +2,7 @@
 
 ghost use Rattle.std.specs.Prelude.{◌≡◌, []};
 ghost use Rattle.std.specs.Option.{option_map};
-ghost use Rattle.pcl_env.specs.Stack.{place_of, kept_with, newest_of, older_of};
+ghost use Rattle.pcl_env.specs.Stack.{position_of, kept_with, newest_of, older_of};
 
 use arrayvec::ArrayVec;
 use pcl_base::STACK_LIMIT;
@@ -27,9 +27,9 @@ impl Model for Stack {
 
     ghost Value = { List Place };
 
-    ghost use Rattle.pcl_env.specs.Stack.{place_of};
+    ghost use Rattle.pcl_env.specs.Stack.{position_of};
 
-    ghost view = { λ a. reverse (map place_of a.places.items) };
+    ghost view = { λ a. reverse (map position_of a.places.items) };
 }
 
 impl Stack {
@@ -44,7 +44,7 @@ impl Stack {
 
     /// Keeps one more position. A full stack stays as it is.
     pub fn push(&mut self, place: Position)
-        ensures { self.new ≡ kept_with (place_of place) self.old }
+        ensures { self.new ≡ kept_with (position_of place) self.old }
     {
         if !self.places.is_full() {
             self.places.push(place);
@@ -53,7 +53,7 @@ impl Stack {
 
     /// Gives the newest position back, if there is one.
     pub fn pop(&mut self) -> Option<Position>
-        ensures newest { option_map place_of result ≡ newest_of self.old }
+        ensures newest { option_map position_of result ≡ newest_of self.old }
         ensures older { self.new ≡ older_of self.old }
     {
         self.places.pop()

@@ -1,7 +1,7 @@
 -- All steps: bytes that are whole pieces are read as these, and the first fault is found; so what is read says what the bytes are.
 use Rattle.std.proofs.Common.{◌≡◌, ℕ, zero, suc, ◌+◌, ◌-◌, ◌<◌, List, [], ◌∷◌, ◌++◌, length, Option, Some, None, Result, Ok, Err, refl, ap, ◌⊎◌, inl, inr, ◌∙◌, append_assoc, append-nil, length-append, add-zero, zero-add, ◌&&◌, ◌==◌, not, is_some, false, arith}
-use Rattle.pcl_escape.proofs.Names.{Profile, nat_tests, flat_map, AllByRecursion, JobFault, Refused, Memory, Refusal, Prefix, prefix_bytes, joined, Said, Reads, step_at, parameter_at, with_front, and_then, outcome_of, Yields, Parameter, Piece, combined, IsPrefix, IsPiece, ArePieces, IsMiddle, IsReading, parameter_bytes, spelling, command_of, parameter_commands, first_place, commands_from, commands_of, Fails, in_parameter, in_line, IsUngrouped, place_behind, IsFault, IsFaultOf, unknown_control, lone_escape, no_sequence, unknown_two, no_group, bad_group}
-use Rattle.pcl_escape.specs.inner.Scan.{start_at, sequence_at, prefix_at, outcome, named_at}
+use Rattle.pcl_escape.proofs.Names.{Profile, nat_tests, flat_map, AllByRecursion, JobFault, Refused, Memory, Refusal, Prefix, prefix_bytes, joined, Said, Reads, step_at, parameter_at, with_front, and_then, outcome_of, Yields, Parameter, Piece, combined, IsPrefix, IsPiece, ArePieces, IsMiddle, IsReading, parameter_bytes, spelling, command_of, parameter_commands, first_place, commands_from, commands_of, Fails, in_parameter, in_line, IsUngrouped, place_after, IsFault, IsFaultOf, unknown_control, lone_escape, no_sequence, unknown_two, no_group, bad_group}
+use Rattle.pcl_escape.specs.inner.Scan.{start_at, sequence_at, prefix_at, read_outcome, named_at}
 use Rattle.pcl_escape.proofs.Lines.{foreign}
 use Rattle.pcl_escape.proofs.Steps.{Inside, inside_shorter, is_middle, is_end, is_wrong, Stays, parameter_step, parameter_joined, inside_reads, grouped_stays, middle_grouped}
 use Rattle.pcl_escape.proofs.Starts.{Outside, whole_piece, sequence, start_step, inside_again, exit_first, parts_apart, piece_step, piece_long}
@@ -54,8 +54,8 @@ after_same read f g h = grind (arith, h)
 
 -- more steps than there are bytes give what any such number of steps gives
 enough : (profile : Profile) (n m : ℕ) (inside : Option Prefix) (at : ℕ) (bytes : List ℕ) → length bytes < n → length bytes < m
-    → outcome profile n inside at bytes ≡ outcome profile m inside at bytes
-unfolding outcome
+    → read_outcome profile n inside at bytes ≡ read_outcome profile m inside at bytes
+unfolding read_outcome
 enough profile zero m inside at bytes h k = absurd (omega arith)
 enough profile (suc n) zero inside at bytes h k = absurd (omega arith)
 enough profile (suc n) (suc m) None at [] h k = refl
@@ -65,16 +65,16 @@ enough profile (suc n) (suc m) inside at bytes h k = after_same (step_at profile
 
 -- as many steps as it takes
 abbrev pub all_at : Profile → Option Prefix → ℕ → List ℕ → Result (List Said) Refusal
-all_at profile inside at bytes = outcome profile (suc (length bytes)) inside at bytes
+all_at profile inside at bytes = read_outcome profile (suc (length bytes)) inside at bytes
 
 -- the steps after one of the bytes, which begin at a place
 abbrev pub rest_at : Profile → ℕ → List ℕ → Reads → Result (List Said) Refusal
-rest_at profile begin bytes reads = all_at profile reads.inside (begin + (length bytes - length reads.rest)) reads.rest
+rest_at profile start bytes reads = all_at profile reads.inside (start + (length bytes - length reads.rest)) reads.rest
 
 -- the first step, and then the others
 pub one_step : (profile : Profile) (inside : Option Prefix) (at : ℕ) (bytes : List ℕ) → GoesOn inside bytes
     → all_at profile inside at bytes ≡ and_then (step_at profile inside at bytes) (rest_at profile at bytes)
-unfolding outcome
+unfolding read_outcome
 one_step profile inside at bytes goes =
     let same = after_same (step_at profile inside at bytes) _ (rest_at profile at bytes)
     (λ reads e. enough profile (length bytes) (suc (length reads.rest))
@@ -84,52 +84,52 @@ one_step profile inside at bytes goes =
 
 -- the steps from a parameter on, whose command has the place at; its bytes begin at the place begin
 abbrev steps_in : Profile → Prefix → ℕ → ℕ → List ℕ → Result (List Said) Refusal
-steps_in profile prefix at begin bytes = and_then (parameter_at profile prefix at bytes) (rest_at profile begin bytes)
+steps_in profile prefix at start bytes = and_then (parameter_at profile prefix at bytes) (rest_at profile start bytes)
 
 -- what middle parameters say
 abbrev middle_commands : Prefix → ℕ → ℕ → List Parameter → List Said
-middle_commands prefix at begin [] = []
-middle_commands prefix at begin (parameter ∷ middle) =
-    let next = begin + length (parameter_bytes parameter) in command_of prefix at parameter [] ∷ middle_commands prefix next next middle
+middle_commands prefix at start [] = []
+middle_commands prefix at start (parameter ∷ middle) =
+    let next = start + length (parameter_bytes parameter) in command_of prefix at parameter [] ∷ middle_commands prefix next next middle
 
 -- the place of the command after these parameters, of which the first begins at the place begin, and its command has the place at
 abbrev place_from : ℕ → ℕ → List Parameter → ℕ
-place_from at begin [] = at
-place_from at begin (parameter ∷ middle) =
-    let next = begin + length (parameter_bytes parameter) in place_from next next middle
+place_from at start [] = at
+place_from at start (parameter ∷ middle) =
+    let next = start + length (parameter_bytes parameter) in place_from next next middle
 
-place_from_is : (begin : ℕ) (middle : List Parameter) → place_from begin begin middle ≡ begin + length (flat_map parameter_bytes middle)
-place_from_is begin [] = rw add-zero refl
-place_from_is begin (parameter ∷ middle) = rw (place_from_is (begin + length (parameter_bytes parameter)) middle, place_further) refl
+place_from_is : (start : ℕ) (middle : List Parameter) → place_from start start middle ≡ start + length (flat_map parameter_bytes middle)
+place_from_is start [] = rw add-zero refl
+place_from_is start (parameter ∷ middle) = rw (place_from_is (start + length (parameter_bytes parameter)) middle, place_further) refl
 
 -- in a sequence that begins at ESC the parameters begin after its prefix
 place_in_sequence : (at : ℕ) (prefix : Prefix) (middle : List Parameter)
-    → place_from at (first_place at prefix) middle ≡ place_behind at prefix middle
+    → place_from at (first_place at prefix) middle ≡ place_after at prefix middle
 place_in_sequence at prefix [] = refl
 place_in_sequence at prefix (parameter ∷ middle) =
     place_from_is _ middle ∙ place_further (first_place at prefix) (parameter_bytes parameter) (flat_map parameter_bytes middle)
 
 -- with the last one, they say what the sequence says
-all_commands : (prefix : Prefix) (at begin : ℕ) (middle : List Parameter) (end : Parameter) (bytes : List ℕ)
-    → parameter_commands prefix at begin middle end bytes
-    ≡ middle_commands prefix at begin middle ++ command_of prefix (place_from at begin middle) end bytes ∷ []
-all_commands prefix at begin [] end bytes = refl
-all_commands prefix at begin (parameter ∷ middle) end bytes =
-    rw (all_commands prefix (begin + length (parameter_bytes parameter)) (begin + length (parameter_bytes parameter)) middle end bytes) refl
+all_commands : (prefix : Prefix) (at start : ℕ) (middle : List Parameter) (end : Parameter) (bytes : List ℕ)
+    → parameter_commands prefix at start middle end bytes
+    ≡ middle_commands prefix at start middle ++ command_of prefix (place_from at start middle) end bytes ∷ []
+all_commands prefix at start [] end bytes = refl
+all_commands prefix at start (parameter ∷ middle) end bytes =
+    rw (all_commands prefix (start + length (parameter_bytes parameter)) (start + length (parameter_bytes parameter)) middle end bytes) refl
 
 -- the steps from middle parameters on
-middle_on : (profile : Profile) (prefix : Prefix) (middle : List Parameter) (at begin : ℕ) (bytes : List ℕ)
+middle_on : (profile : Profile) (prefix : Prefix) (middle : List Parameter) (at start : ℕ) (bytes : List ℕ)
     → AllByRecursion (IsMiddle profile prefix) middle
-    → steps_in profile prefix at begin (flat_map parameter_bytes middle ++ bytes) ≡ with_front (middle_commands prefix at begin middle)
-    (steps_in profile prefix (place_from at begin middle) (begin + length (flat_map parameter_bytes middle)) bytes)
-middle_on profile prefix [] at begin bytes each = rw (add-zero, no_front) refl
-middle_on profile prefix (parameter ∷ middle) at begin bytes each =
-    let next = begin + length (parameter_bytes parameter) in
-    let behind = flat_map parameter_bytes middle ++ bytes in
-    let on = one_step profile (Some prefix) next behind (grind (arith, nat_tests)) in
-    rw (append_assoc (parameter_bytes parameter), inside_reads (is_middle parameter behind each.0))
+    → steps_in profile prefix at start (flat_map parameter_bytes middle ++ bytes) ≡ with_front (middle_commands prefix at start middle)
+    (steps_in profile prefix (place_from at start middle) (start + length (flat_map parameter_bytes middle)) bytes)
+middle_on profile prefix [] at start bytes each = rw (add-zero, no_front) refl
+middle_on profile prefix (parameter ∷ middle) at start bytes each =
+    let next = start + length (parameter_bytes parameter) in
+    let after = flat_map parameter_bytes middle ++ bytes in
+    let on = one_step profile (Some prefix) next after (grind (arith, nat_tests)) in
+    rw (append_assoc (parameter_bytes parameter), inside_reads (is_middle parameter after each.0))
     (rw (
-      place_of begin (parameter_bytes parameter),
+      place_of start (parameter_bytes parameter),
       on,
       middle_on profile prefix middle next next bytes each.1,
       with_fronts,
@@ -146,7 +146,7 @@ first_on profile prefix at {bytes} {read} is apart inside stays =
     (rw (inside_again prefix.parameterized prefix.group is apart inside stays, inside_reads inside)
     (after_same read _ _ (λ reads f. rw (place_in at prefix bytes (inside_shorter (rw f at inside))) refl)))
 
--- a sequence begins with a middle parameter, or with what is behind these
+-- a sequence begins with a middle parameter, or with what stands after these
 sequence_on : (profile : Profile) {prefix : Prefix} (at : ℕ) (middle : List Parameter) {bytes : List ℕ} {read : Result Reads Refusal}
     → IsPrefix prefix
     → IsUngrouped prefix.group bytes → AllByRecursion (IsMiddle profile prefix) middle
@@ -203,18 +203,18 @@ piece_again profile piece at bytes is =
     (rw (place_of at (spelling piece) bytes) refl)
 
 -- pieces are read so
-pieces_again : (profile : Profile) (pieces : List Piece) (at : ℕ) (behind : List ℕ) → ArePieces profile pieces behind
-    → all_at profile None at (flat_map spelling pieces ++ behind)
-    ≡ with_front (commands_of at pieces) (all_at profile None (at + length (flat_map spelling pieces)) behind)
-pieces_again profile [] at behind each = rw (add-zero, no_front) refl
-pieces_again profile (piece ∷ pieces) at behind each =
-    rw (append_assoc (spelling piece), piece_again profile piece at (flat_map spelling pieces ++ behind) each.0)
-    (rw (pieces_again profile pieces (at + length (spelling piece)) behind each.1, with_fronts, place_further) refl)
+pieces_again : (profile : Profile) (pieces : List Piece) (at : ℕ) (after : List ℕ) → ArePieces profile pieces after
+    → all_at profile None at (flat_map spelling pieces ++ after)
+    ≡ with_front (commands_of at pieces) (all_at profile None (at + length (flat_map spelling pieces)) after)
+pieces_again profile [] at after each = rw (add-zero, no_front) refl
+pieces_again profile (piece ∷ pieces) at after each =
+    rw (append_assoc (spelling piece), piece_again profile piece at (flat_map spelling pieces ++ after) each.0)
+    (rw (pieces_again profile pieces (at + length (spelling piece)) after each.1, with_fronts, place_further) refl)
 
 -- the fault at a place outside sequences is found
 fault_found : {profile : Profile} {at : ℕ} {bytes : List ℕ} {refusal : Refusal} → Fails profile at bytes refusal
     → all_at profile None at bytes ≡ Err refusal
-unfolding outcome start_at sequence_at prefix_at named_at
+unfolding read_outcome start_at sequence_at prefix_at named_at
 fault_found {profile} {at} (in_parameter prefix middle is apart each f) =
     rw (sequence_on profile at middle is apart each (is_wrong (rw (← place_in_sequence at prefix middle) at f)) tt) refl
 fault_found {profile} {at} (in_line {bytes = rest} field lines line f x e each ends l p) =
@@ -232,20 +232,20 @@ fault_found (bad_group p u g) = grind (arith, nat_tests)
 -- a reading of the job is what is read
 pub reading_again : {profile : Profile} {job : List ℕ} {commands : List Said} → IsReading profile job commands
     → outcome_of profile job ≡ Ok commands
-unfolding outcome
+unfolding read_outcome
 reading_again {profile} r = rw (r.spelled, r.said) (simp append-nil at (pieces_again profile r.pieces 0 [] r.each))
 
 -- a first fault of the job is what is found
 pub fault_found_of : {profile : Profile} {job : List ℕ} {fault : Refusal} → IsFault profile job fault → outcome_of profile job ≡ Err fault
-fault_found_of {profile} f = rw (f.spelled, pieces_again profile f.front 0 f.behind f.each, zero-add, fault_found f.fails) refl
+fault_found_of {profile} f = rw (f.spelled, pieces_again profile f.front 0 f.after f.each, zero-add, fault_found f.fails) refl
 
 -- each job has the one or the other
 known : {profile : Profile} {job : List ℕ} → Reading profile 0 job
     → ((commands : List Said) × IsReading profile job commands) ⊎ ((fault : Refusal) × IsFault profile job fault)
-known (reading pieces behind each no_more) =
+known (reading pieces after each no_more) =
     inl (commands_of 0 pieces, record { pieces = pieces; each = each; spelled = append-nil (flat_map spelling pieces); said = refl })
-known (reading pieces behind each (first_fault fault f)) =
-    inr (fault, record { front = pieces; each = each; behind = behind; spelled = refl; fails = rw zero-add at f })
+known (reading pieces after each (first_fault fault f)) =
+    inr (fault, record { front = pieces; each = each; after = after; spelled = refl; fails = rw zero-add at f })
 
 pub job_known : (profile : Profile) (job : List ℕ)
     → ((commands : List Said) × IsReading profile job commands) ⊎ ((fault : Refusal) × IsFault profile job fault)

@@ -36,24 +36,24 @@ end_by_drivers prefix end bytes is = record {
   stays = is.stays;
 }
 
-piece_by_drivers : (piece : Piece) (behind : List ℕ) → IsPiece Stated piece behind → IsPiece Drivers piece behind
-piece_by_drivers (silent byte) behind is = is
-piece_by_drivers (control code) behind is = is
-piece_by_drivers (text bytes) behind is = is
-piece_by_drivers (two_character byte) behind is = is
-piece_by_drivers (combined prefix middle end bytes) behind is =
+piece_by_drivers : (piece : Piece) (after : List ℕ) → IsPiece Stated piece after → IsPiece Drivers piece after
+piece_by_drivers (silent byte) after is = is
+piece_by_drivers (control code) after is = is
+piece_by_drivers (text bytes) after is = is
+piece_by_drivers (two_character byte) after is = is
+piece_by_drivers (combined prefix middle end bytes) after is =
     (is.0, middle_by_drivers prefix middle is.1, end_by_drivers prefix end bytes is.2)
-piece_by_drivers (exit field lines) behind is = record {
+piece_by_drivers (exit field lines) after is = record {
   field_is = is.field_is;
   leaves = is.leaves;
   checks = checks_by_drivers exit_name 88 (field_value field) 0 is.checks;
   lines_are = is.lines_are;
 }
 
-pieces_by_drivers : (pieces : List Piece) (behind : List ℕ) → ArePieces Stated pieces behind → ArePieces Drivers pieces behind
-pieces_by_drivers [] behind each = tt
-pieces_by_drivers (piece ∷ pieces) behind each =
-    (piece_by_drivers piece (flat_map spelling pieces ++ behind) each.0, pieces_by_drivers pieces behind each.1)
+pieces_by_drivers : (pieces : List Piece) (after : List ℕ) → ArePieces Stated pieces after → ArePieces Drivers pieces after
+pieces_by_drivers [] after each = tt
+pieces_by_drivers (piece ∷ pieces) after each =
+    (piece_by_drivers piece (flat_map spelling pieces ++ after) each.0, pieces_by_drivers pieces after each.1)
 
 pub reading_by_drivers : {job : List ℕ} {commands : List Said} → IsReading Stated job commands → IsReading Drivers job commands
 reading_by_drivers r =

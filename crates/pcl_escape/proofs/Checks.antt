@@ -33,10 +33,10 @@ operation_on : (profile : Profile) (operation : Option Operation) (letter : ℕ)
 operation_on profile operation letter value left g e = grind (arith, nat_tests)
 
 -- a middle parameter that passes the checks takes no bytes
-pub none_behind : (profile : Profile) (name : Name) (letter : ℕ) (value : Value) (left : ℕ) {len : ℕ} → goes_on letter ≡ true
+pub none_after : (profile : Profile) (name : Name) (letter : ℕ) (value : Value) (left : ℕ) {len : ℕ} → goes_on letter ≡ true
     → parameter_checks profile name letter value left ≡ Ok len → len ≡ 0
 unfolding parameter_checks
-none_behind profile name letter value left {len} g e =
+none_after profile name letter value left {len} g e =
     grind (arith, operation_on profile (operation_of name) letter value left {len = len} g)
 
 -- ---- a universal exit has no data

@@ -6,7 +6,7 @@ use Rattle.pcl_base.specs.declared.name.Name.TheVariants.{Empty, One, Two, Three
 use Rattle.pcl_base.specs.Operation.{operation_of}
 use Rattle.pcl_base.specs.Refusal.{refusal}
 use Rattle.pcl_escape.specs.inner.Fields.{field_at}
-use Rattle.pcl_escape.specs.inner.Scan.{named_at, text_at, parameter_at, ungrouped_at, prefix_at, sequence_at, start_at, outcome}
+use Rattle.pcl_escape.specs.inner.Scan.{named_at, text_at, parameter_at, ungrouped_at, prefix_at, sequence_at, start_at, read_outcome}
 use Rattle.pcl_escape.specs.Checks.{parameter_checks}
 use Rattle.pcl_escape.specs.inner.Lines.{lines_from}
 use Rattle.pcl_escape.proofs.Again.{reading_of, fault_of}
@@ -19,7 +19,7 @@ escape bytes = 27 ∷ bytes
 
 -- all that reading computes with
 unfoldable reading : Unit {0}
-unfolding field_at outcome start_at named_at operation_of sequence_at prefix_at parameter_at parameter_checks ungrouped_at lines_from
+unfolding field_at read_outcome start_at named_at operation_of sequence_at prefix_at parameter_at parameter_checks ungrouped_at lines_from
     text_at
 reading = tt
 

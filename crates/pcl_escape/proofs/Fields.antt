@@ -116,13 +116,13 @@ stops_parts : {field : Spelled} (rest : List ℕ) → FieldStops field rest → 
 stops_parts rest s = grind (arith, nat_tests)
 
 -- no digit comes after the whole digits
-no_digit_behind : (fraction : Option (List ℕ)) (rest : List ℕ) → NoDigit rest → NoDigit (fraction_bytes fraction ++ rest)
-no_digit_behind fraction rest n = grind arith
+no_digit_after : (fraction : Option (List ℕ)) (rest : List ℕ) → NoDigit rest → NoDigit (fraction_bytes fraction ++ rest)
+no_digit_after fraction rest n = grind arith
 
 -- no sign comes after an absent one
-no_sign_behind : (whole : List ℕ) (fraction : Option (List ℕ)) (rest : List ℕ) → AreDigits whole
+no_sign_after : (whole : List ℕ) (fraction : Option (List ℕ)) (rest : List ℕ) → AreDigits whole
     → (is_empty whole ≡ true → is_none fraction ≡ true → NoSign rest) → NoSign (whole ++ (fraction_bytes fraction ++ rest))
-no_sign_behind whole fraction rest d n = grind (arith, nat_tests)
+no_sign_after whole fraction rest d n = grind (arith, nat_tests)
 
 -- a field is read as it is spelled, where it stops
 pub field_again : {field : Spelled} {rest : List ℕ} → IsField field → FieldStops field rest
@@ -131,7 +131,7 @@ unfolding field_at
 field_again {field} {rest} f s =
     let p = stops_parts rest s in
     let sign = sign_again field.sign (field.whole ++ (fraction_bytes field.fraction ++ rest))
-    (λ a. no_sign_behind field.whole field.fraction rest f.0 (λ e n. p.no_sign (rw (a, e, n) refl))) in
-    let whole = front_again is_digit field.whole _ f.0 (no_digit_behind field.fraction rest p.no_digit) in
+    (λ a. no_sign_after field.whole field.fraction rest f.0 (λ e n. p.no_sign (rw (a, e, n) refl))) in
+    let whole = front_again is_digit field.whole _ f.0 (no_digit_after field.fraction rest p.no_digit) in
     simp (append_assoc, sign, ap (λ (p : List ℕ × List ℕ). p.0) whole, ap (λ (p : List ℕ × List ℕ). p.1) whole)
     (simp (fraction_again field.fraction rest f.1 p.no_point p.no_digit))

@@ -8,7 +8,7 @@ use Rattle.pcl_escape.proofs.Fields.{by_test}
 
 -- a line ends at its LF, or at the end
 abbrev pub Ends : List ℕ → List ℕ → Type 0
-Ends line behind = ((text : List ℕ) × (line ≡ text ++ 10 ∷ []) × HasNoFeed text) ⊎ ((behind ≡ []) × HasNoFeed line)
+Ends line after = ((text : List ℕ) × (line ≡ text ++ 10 ∷ []) × HasNoFeed text) ⊎ ((after ≡ []) × HasNoFeed line)
 
 -- a line of the job language has bytes
 pub line_long : (bytes : List ℕ) → is_job_line bytes ≡ true → 0 < line_len bytes
@@ -40,31 +40,31 @@ word_in_line [] bytes none e = refl
 word_in_line _ _ none e = absurd cc
 
 -- a word at the front of a line is at the front of what it begins
-word_before : (word line behind : List ℕ) → bytes_eq word (take (length word) line) ≡ true
-    → bytes_eq word (take (length word) (line ++ behind)) ≡ true
-word_before [] line behind e = refl
-word_before (c ∷ word) [] behind e = absurd cc
-word_before (c ∷ word) (byte ∷ line) behind e = grind (arith, word_before word line behind)
+word_before : (word line after : List ℕ) → bytes_eq word (take (length word) line) ≡ true
+    → bytes_eq word (take (length word) (line ++ after)) ≡ true
+word_before [] line after e = refl
+word_before (c ∷ word) [] after e = absurd cc
+word_before (c ∷ word) (byte ∷ line) after e = grind (arith, word_before word line after)
 
 -- the line at the front is a line
 line_is : (bytes : List ℕ) → is_job_line bytes ≡ true → IsLine (take (line_len bytes) bytes) (drop (line_len bytes) bytes)
 line_is bytes e = (word_in_line (codes "@PJL") bytes (refl, (refl, (refl, (refl, tt)))) e, line_ends bytes)
 
 -- a line goes on where there is no LF
-text_again : (text behind : List ℕ) → HasNoFeed text → line_len (text ++ behind) ≡ length text + line_len behind
-text_again [] behind none = omega arith
-text_again (byte ∷ text) behind none = rw none.0 (omega (arith, text_again text behind none.1))
+text_again : (text after : List ℕ) → HasNoFeed text → line_len (text ++ after) ≡ length text + line_len after
+text_again [] after none = omega arith
+text_again (byte ∷ text) after none = rw none.0 (omega (arith, text_again text after none.1))
 
 -- a line is found as it ends
-found_again : {line behind : List ℕ} → Ends line behind → line_len (line ++ behind) ≡ length line
-found_again {behind} (inl (text, same, none)) = rw (same, append_assoc, text_again text (10 ∷ behind) none) (simp length-append)
+found_again : {line after : List ℕ} → Ends line after → line_len (line ++ after) ≡ length line
+found_again {after} (inl (text, same, none)) = rw (same, append_assoc, text_again text (10 ∷ after) none) (simp length-append)
 found_again {line} (inr (same, none)) = rw (same, text_again line [] none) (omega arith)
 
 -- ---- one step
 
 -- the bytes after a line are fewer
-behind_shorter : (bytes : List ℕ) → is_job_line bytes ≡ true → length (drop (line_len bytes) bytes) < length bytes
-behind_shorter bytes e = simp length-drop (omega (arith, line_long bytes e, line_within bytes))
+shorter_after : (bytes : List ℕ) → is_job_line bytes ≡ true → length (drop (line_len bytes) bytes) < length bytes
+shorter_after bytes e = simp length-drop (omega (arith, line_long bytes e, line_within bytes))
 
 -- any number of steps that is enough
 lines_enough : (n m place : ℕ) (bytes : List ℕ) → length bytes < n → length bytes < m → lines_from n place bytes ≡ lines_from m place bytes
@@ -72,19 +72,19 @@ unfolding lines_from
 lines_enough zero m place bytes h k = absurd (omega arith)
 lines_enough (suc n) zero place bytes h k = absurd (omega arith)
 lines_enough (suc n) (suc m) place bytes h k =
-    grind (arith, behind_shorter bytes, lines_enough n m (place + line_len bytes) (drop (line_len bytes) bytes))
+    grind (arith, shorter_after bytes, lines_enough n m (place + line_len bytes) (drop (line_len bytes) bytes))
 
 -- a line is skipped, or ends the skipping
-at_line : {line behind : List ℕ} (place : ℕ) → IsLine line behind
-    → lines_at place (line ++ behind) ≡ (if not (names_language line) then lines_at (place + length line) behind
-    else (if names_pcl line then Ok behind else Err place))
+at_line : {line after : List ℕ} (place : ℕ) → IsLine line after
+    → lines_at place (line ++ after) ≡ (if not (names_language line) then lines_at (place + length line) after
+    else (if names_pcl line then Ok after else Err place))
 unfolding lines_from
-at_line {line} {behind} place is =
+at_line {line} {after} place is =
     let some = line_long line is.0 in
     let within = line_within line in
-    let fewer : length behind < length (line ++ behind) = simp length-append (omega arith) in
-    rw (found_again is.1, take_at line behind _ refl, drop_at line behind _ refl, word_before (codes "@PJL") line behind is.0)
-    (rw (lines_enough (length (line ++ behind)) (suc (length behind)) (place + length line) behind fewer (omega arith)) refl)
+    let fewer : length after < length (line ++ after) = simp length-append (omega arith) in
+    rw (found_again is.1, take_at line after _ refl, drop_at line after _ refl, word_before (codes "@PJL") line after is.0)
+    (rw (lines_enough (length (line ++ after)) (suc (length after)) (place + length line) after fewer (omega arith)) refl)
 
 -- so do other bytes than a line of the job language
 pub at_other_bytes : (place : ℕ) {bytes : List ℕ} → false ≡ is_job_line bytes → lines_at place bytes ≡ Ok bytes
@@ -92,19 +92,19 @@ unfolding lines_from
 at_other_bytes place e = rw (← e) refl
 
 -- the line at the front, cut off
-pub record IsCut (bytes line behind : List ℕ) : Type 0 where
+pub record IsCut (bytes line after : List ℕ) : Type 0 where
   pub job : true ≡ is_job_line bytes
   pub line_is : line ≡ take (line_len bytes) bytes
-  pub behind_is : behind ≡ drop (line_len bytes) bytes
+  pub after_is : after ≡ drop (line_len bytes) bytes
 
 -- is skipped, or ends the skipping
-pub at_cut : (place : ℕ) {bytes line behind : List ℕ} → IsCut bytes line behind
-    → lines_at place bytes ≡ (if not (names_language line) then lines_at (place + (length bytes - length behind)) behind
-    else (if names_pcl line then Ok behind else Err place))
-at_cut place {bytes} {line} {behind} cut =
-    let is : IsLine line behind = rw (cut.line_is, cut.behind_is) (line_is bytes (sym cut.job)) in
-    let whole : bytes ≡ line ++ behind = rw (cut.line_is, cut.behind_is) (sym (take-append-drop (line_len bytes) bytes)) in
-    let len : length (line ++ behind) - length behind ≡ length line = simp length-append (omega arith) in
+pub at_cut : (place : ℕ) {bytes line after : List ℕ} → IsCut bytes line after
+    → lines_at place bytes ≡ (if not (names_language line) then lines_at (place + (length bytes - length after)) after
+    else (if names_pcl line then Ok after else Err place))
+at_cut place {bytes} {line} {after} cut =
+    let is : IsLine line after = rw (cut.line_is, cut.after_is) (line_is bytes (sym cut.job)) in
+    let whole : bytes ≡ line ++ after = rw (cut.line_is, cut.after_is) (sym (take-append-drop (line_len bytes) bytes)) in
+    let len : length (line ++ after) - length after ≡ length line = simp length-append (omega arith) in
     rw (whole, len) (at_line place is)
 
 -- ---- from the steps to the lines
@@ -129,8 +129,8 @@ more_lines {line} {rest} is none (to_pcl lines last each ends l p) =
     to_pcl (line ∷ lines) last (rw (last_joined (λ (bs : List ℕ). bs) lines last rest) at is, none, each) ends l p
 
 -- a line in front
-line_first : {place : ℕ} {line behind : List ℕ} {read : Result (List ℕ) ℕ} → IsLine line behind → names_language line ≡ false
-    → Lines (place + length line) behind read → Lines place (line ++ behind) read
+line_first : {place : ℕ} {line after : List ℕ} {read : Result (List ℕ) ℕ} → IsLine line after → names_language line ≡ false
+    → Lines (place + length line) after read → Lines place (line ++ after) read
 line_first {line} is none (skipped lines rest each) =
     rw (← append_assoc line (joined lines) rest) (skipped (line ∷ lines) rest (more_lines is none each))
 line_first {place} {line} is none (foreign lines last rest each ends l p) =
@@ -144,15 +144,15 @@ lines_split (suc n) {place} {bytes} h = elim (cases_Bool (is_job_line bytes)) [
   | inr other ↦ rw (at_other_bytes place (sym other)) (skipped [] bytes (to_other_bytes [] tt other))
   | inl job ↦
       let line = take (line_len bytes) bytes in
-      let behind = drop (line_len bytes) bytes in
+      let after = drop (line_len bytes) bytes in
       let is = line_is bytes job in
-      let shorter = behind_shorter bytes job in
+      let shorter = shorter_after bytes job in
       subst (λ (bs : List ℕ). Lines place bs (lines_at place bs)) (take-append-drop (line_len bytes) bytes)
-      (rw (at_line place is) (by_test (Lines place (line ++ behind)) (not (names_language line))
+      (rw (at_line place is) (by_test (Lines place (line ++ after)) (not (names_language line))
       (λ l. line_first is (grind arith) (lines_split n (omega arith)))
-      (λ l. let asks : names_language line ≡ true = grind arith in by_test (Lines place (line ++ behind)) (names_pcl line)
-      (λ p. rw (← append-nil line) (skipped (line ∷ []) behind (to_pcl [] line tt is asks p)))
-      (λ p. subst (λ (k : ℕ). Lines place (line ++ behind) (Err k)) (add-zero place) (foreign [] line behind tt is asks p)))))
+      (λ l. let asks : names_language line ≡ true = grind arith in by_test (Lines place (line ++ after)) (names_pcl line)
+      (λ p. rw (← append-nil line) (skipped (line ∷ []) after (to_pcl [] line tt is asks p)))
+      (λ p. subst (λ (k : ℕ). Lines place (line ++ after) (Err k)) (add-zero place) (foreign [] line after tt is asks p)))))
 ]
 
 pub lines_are : (place : ℕ) (bytes : List ℕ) → Lines place bytes (lines_at place bytes)
@@ -168,13 +168,13 @@ lines_within place bytes rest e = skipped_within (rw e at (lines_are place bytes
 -- ---- from the lines to the steps
 
 -- lines that ask for no language are skipped
-others_again : (lines : List (List ℕ)) (place : ℕ) (behind : List ℕ) → AreOtherLines lines behind
-    → lines_at place (joined lines ++ behind) ≡ lines_at (place + length (joined lines)) behind
-others_again [] place behind each = rw add-zero refl
-others_again (line ∷ lines) place behind each =
+others_again : (lines : List (List ℕ)) (place : ℕ) (after : List ℕ) → AreOtherLines lines after
+    → lines_at place (joined lines ++ after) ≡ lines_at (place + length (joined lines)) after
+others_again [] place after each = rw add-zero refl
+others_again (line ∷ lines) place after each =
     let further : place + length line + length (joined lines) ≡ place + length (line ++ joined lines) = simp length-append (omega arith) in
-    rw (append_assoc line (joined lines) behind, at_line place each.0, each.1)
-    (others_again lines (place + length line) behind each.2 ∙ rw further refl)
+    rw (append_assoc line (joined lines) after, at_line place each.0, each.1)
+    (others_again lines (place + length line) after each.2 ∙ rw further refl)
 
 -- so are all lines, and one that asks for another language is found
 pub lines_again : {place : ℕ} {bytes : List ℕ} {read : Result (List ℕ) ℕ} → Lines place bytes read → lines_at place bytes ≡ read

@@ -1,7 +1,7 @@
 -- The steps of the loop: each takes the front off the reading.
 use Rattle.std.proofs.Common.{◌≡◌, ℕ, ◌+◌, ◌-◌, ◌≤◌, true, false, ◌==◌, is_some, List, ◌++◌, length, Option, Result, Ok, Err, refl, sym, append-nil, arith}
 use Rattle.pcl_escape.proofs.Names.{Profile, Refusal, Prefix, Said, Reads, step_at, commands_said, with_front, nat_tests}
-use Rattle.pcl_escape.specs.inner.Scan.{outcome}
+use Rattle.pcl_escape.specs.inner.Scan.{read_outcome}
 use Rattle.pcl_escape.proofs.Again.{with_fronts, GoesOn, step_shorter, all_at, one_step}
 
 -- what was read before, and what is still read of the rest of this many bytes
@@ -28,5 +28,5 @@ stops_at profile front total inside rest goes e = rw (one_step profile inside (t
 pub is_done : (profile : Profile) (front : List Said) (total : ℕ) (inside : Option Prefix) (rest : List ℕ) → true ≡ (length rest == 0)
     → false ≡ is_some inside
     → so_far profile front total inside rest ≡ Ok front
-unfolding outcome
+unfolding read_outcome
 is_done profile front total inside rest e i = grind (arith, nat_tests, append-nil front)

@@ -4,11 +4,11 @@ use Rattle.pcl_escape.proofs.Names.{Profile, then_some, Truncated, Value, refusa
 use Rattle.pcl_escape.specs.inner.Scan.{parameter_at}
 
 -- nothing is after the field at the front
-pub nothing_behind : (profile : Profile) (prefix : Prefix) (at : ℕ) (bytes : List ℕ) {field : Spelled} (rest : List ℕ)
+pub nothing_after : (profile : Profile) (prefix : Prefix) (at : ℕ) (bytes : List ℕ) {field : Spelled} (rest : List ℕ)
     → (field, rest) ≡ field_at bytes
     → length rest ≡ 0 → parameter_at profile prefix at bytes ≡ Err (refusal Truncated at (prefix_name prefix))
 unfolding parameter_at
-nothing_behind profile prefix at bytes rest e z = rw (← e) (grind arith)
+nothing_after profile prefix at bytes rest e z = rw (← e) (grind arith)
 
 -- a value that isn't given is out of range
 pub not_given : (value : Value) (within : Bool) → None ≡ (if within then Some value else None) → within ≡ false

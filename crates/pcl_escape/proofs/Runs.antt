@@ -1,6 +1,6 @@
 -- What the bytes of a job are: whole pieces, and what first fails after them.
 use Rattle.std.proofs.Common.{◌≡◌, ℕ, zero, suc, ◌+◌, ◌<◌, true, is_some, List, [], ◌∷◌, ◌++◌, length, Option, Result, append_assoc, length-append, add-zero, arith}
-use Rattle.pcl_escape.proofs.Names.{Profile, flat_map, AllByRecursion, Refusal, Prefix, prefix_bytes, Reads, Parameter, Piece, combined, IsPrefix, IsPiece, ArePieces, IsMiddle, IsEnd, parameter_bytes, spelling, Fails, IsUngrouped, in_parameter, place_behind}
+use Rattle.pcl_escape.proofs.Names.{Profile, flat_map, AllByRecursion, Refusal, Prefix, prefix_bytes, Reads, Parameter, Piece, combined, IsPrefix, IsPiece, ArePieces, IsMiddle, IsEnd, parameter_bytes, spelling, Fails, IsUngrouped, in_parameter, place_after}
 use Rattle.pcl_escape.proofs.Steps.{Inside, is_middle, is_end, is_wrong, Stays, parameter_step, grouped_stays, middle_grouped}
 use Rattle.pcl_escape.proofs.Lines.{last_joined}
 use Rattle.pcl_escape.proofs.Starts.{Outside, whole_piece, sequence, wrong, start_step, piece_long}
@@ -14,9 +14,9 @@ pub data Last (profile : Profile) (at : ℕ) : List ℕ → Type 0 where
 
 -- bytes outside sequences are whole pieces and what stands after them
 pub data Reading (profile : Profile) (at : ℕ) : List ℕ → Type 0 where
-  reading : (pieces : List Piece) (behind : List ℕ) → ArePieces profile pieces behind
-      → Last profile (at + length (flat_map spelling pieces)) behind
-      → Reading profile at (flat_map spelling pieces ++ behind)
+  reading : (pieces : List Piece) (after : List ℕ) → ArePieces profile pieces after
+      → Last profile (at + length (flat_map spelling pieces)) after
+      → Reading profile at (flat_map spelling pieces ++ after)
 
 -- ---- one more in front
 
@@ -28,8 +28,8 @@ place_further at front more = simp length-append (omega arith)
 piece_first : (profile : Profile) (piece : Piece) {at : ℕ} {bytes : List ℕ} → IsPiece profile piece bytes
     → Reading profile (at + length (spelling piece)) bytes
     → Reading profile at (spelling piece ++ bytes)
-piece_first profile piece is (reading pieces behind each last) =
-    rw (← append_assoc (spelling piece)) (reading (piece ∷ pieces) behind (is, each) (rw place_further at last))
+piece_first profile piece is (reading pieces after each last) =
+    rw (← append_assoc (spelling piece)) (reading (piece ∷ pieces) after (is, each) (rw place_further at last))
 
 -- what fails at once is a reading without pieces
 failing : {profile : Profile} {at : ℕ} {bytes : List ℕ} {refusal : Refusal} → Fails profile at bytes refusal → Reading profile at bytes
@@ -54,7 +54,7 @@ sequence_first : {profile : Profile} (n : ℕ) (prefix : Prefix) (at : ℕ) (mid
     {bytes : List ℕ} {read : Result Reads Refusal}
     → length bytes < n → Shorter profile bytes → IsPrefix prefix → IsUngrouped prefix.group bytes
     → AllByRecursion (IsMiddle profile prefix) middle
-    → Inside profile prefix (place_behind at prefix middle) bytes read → Stays read
+    → Inside profile prefix (place_after at prefix middle) bytes read → Stays read
     → Reading profile at (27 ∷ (prefix_bytes prefix ++ (flat_map parameter_bytes middle ++ bytes)))
 sequence_first zero prefix at middle h next is apart each inside stays = absurd (omega arith)
 sequence_first {profile} (suc n) prefix at middle h next is apart each (is_middle parameter more m) stays =

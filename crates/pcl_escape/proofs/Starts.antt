@@ -65,10 +65,10 @@ unfolding text_at
 text_run {profile} {at} {byte} {rest} t =
     let f = front_split is_text rest in
     let run = take (prefix_len is_text rest) rest in
-    let behind = drop (prefix_len is_text rest) rest in
+    let after = drop (prefix_len is_text rest) rest in
     let reads : List ℕ × List ℕ → Result Reads Refusal = λ parts. piece_reads (Some (text_command at parts.0)) parts.1 in
     subst₂ (Outside profile at) (ap (λ (bs : List ℕ). byte ∷ bs) (sym f.joined)) (ap reads (sym (front_yes is_text rest t)))
-    (whole_piece (text (byte ∷ run)) behind ((t, f.pass), (no_text behind).0 f.stops) tt)
+    (whole_piece (text (byte ∷ run)) after ((t, f.pass), (no_text after).0 f.stops) tt)
 
 -- ---- universal exits
 
@@ -142,7 +142,7 @@ ungrouped_step {byte} {bytes} u n (is_end parameter sent rest is) =
 
 -- ---- sequences
 
--- a sequence, by what is behind its second byte
+-- a sequence, by what stands after its second byte
 prefix_step : {profile : Profile} {at byte : ℕ} (rest : List ℕ) → IsTrue (is_parameterized byte)
     → Outside profile at (27 ∷ byte ∷ rest) (prefix_at profile at byte rest)
 unfolding prefix_at ungrouped_at

@@ -3,7 +3,7 @@ use Rattle.std.proofs.Common.{◌≡◌, ℕ, true, false, ◌&&◌, ◌<◌, is
 use Rattle.pcl_escape.proofs.Names.{Profile, nat_tests, Kind, Refusal, Prefix, is_last, goes_on, is_letter, parameter_name, Spelled, field_bytes, field_value, field_at, parameter_checks, is_exit, leaves, Value, Reads, letter_at, checked_at, Parameter, IsField, IsMiddle, PassesChecks, parameter_bytes, command_of, FailsParameter, cut, no_letter, check}
 use Rattle.pcl_escape.specs.inner.Scan.{parameter_at}
 use Rattle.pcl_escape.proofs.Fields.{by_test, FieldStops, field_split, field_again}
-use Rattle.pcl_escape.proofs.Checks.{checks_take, none_behind}
+use Rattle.pcl_escape.proofs.Checks.{checks_take, none_after}
 
 -- what a step reads of a middle parameter
 abbrev pub middle_reads : Prefix → ℕ → Parameter → List ℕ → Result Reads Refusal
@@ -53,7 +53,7 @@ checked_step {profile} {prefix} {at} field letter rest (Ok len) f l e =
     let said = command_of prefix at parameter (take len rest) in
     by_test (λ inside. Inside profile prefix at (field_bytes field ++ letter ∷ rest)
     (Ok record { said = Some said; rest = drop len rest; inside = inside })) (goes_on letter) (λ g.
-    let nothing : len ≡ 0 = none_behind profile name letter (field_value field) (length rest) g e in
+    let nothing : len ≡ 0 = none_after profile name letter (field_value field) (length rest) g e in
     let passes = rw nothing at (taken.again 0) in
     rw (nothing, ← parameter_joined field letter rest)
     (is_middle parameter rest (record { field = f; letter = grind (arith, nat_tests); checks = passes (omega arith) }))) (λ g.
@@ -65,10 +65,10 @@ checked_step {profile} {prefix} {at} field letter rest (Ok len) f l e =
     rw (← joined) (is_end parameter (take len rest) (drop len rest) (record { field = f; letter = last; checks = checks })))
 
 -- after a field that stops stands a byte, or nothing
-behind_field : {profile : Profile} {prefix : Prefix} {at : ℕ} (field : Spelled) (rest : List ℕ) → IsField field → FieldStops field rest
+after_field : {profile : Profile} {prefix : Prefix} {at : ℕ} (field : Spelled) (rest : List ℕ) → IsField field → FieldStops field rest
     → Inside profile prefix at (field_bytes field ++ rest) (letter_at profile prefix at field rest)
-behind_field field [] f s = rw append-nil (is_wrong (cut field f))
-behind_field {profile} {prefix} {at} field (byte ∷ rest) f s =
+after_field field [] f s = rw append-nil (is_wrong (cut field f))
+after_field {profile} {prefix} {at} field (byte ∷ rest) f s =
     by_test (Inside profile prefix at (field_bytes field ++ byte ∷ rest)) (is_letter prefix byte)
     (λ l. checked_step field byte rest (parameter_checks profile (parameter_name prefix byte) byte (field_value field) (length rest))
     f l refl)
@@ -82,7 +82,7 @@ parameter_step profile {prefix} {at} {bytes} =
     let split = field_split in
     subst (λ (bs : List ℕ). Inside profile prefix at bs (letter_at profile prefix at (field_at bytes).0 (field_at bytes).1))
     (sym split.joined)
-    (behind_field (field_at bytes).0 (field_at bytes).1 split.field split.stops)
+    (after_field (field_at bytes).0 (field_at bytes).1 split.field split.stops)
 
 -- ---- sequences with a group character
 
@@ -120,18 +120,18 @@ parameter_shorter profile prefix at bytes e = inside_shorter (rw e at (parameter
 -- ---- from the parts to the step
 
 -- a step reads the field that is spelled
-field_behind : (profile : Profile) (prefix : Prefix) (at : ℕ) (field : Spelled) (rest : List ℕ) → IsField field → FieldStops field rest
+field_after : (profile : Profile) (prefix : Prefix) (at : ℕ) (field : Spelled) (rest : List ℕ) → IsField field → FieldStops field rest
     → parameter_at profile prefix at (field_bytes field ++ rest) ≡ letter_at profile prefix at field rest
 unfolding parameter_at
-field_behind profile prefix at field rest f s = ap (λ (p : Spelled × List ℕ). letter_at profile prefix at p.0 p.1) (field_again f s)
+field_after profile prefix at field rest f s = ap (λ (p : Spelled × List ℕ). letter_at profile prefix at p.0 p.1) (field_again f s)
 
 -- a step reads a field and its letter, and then come the checks
-checks_behind : (profile : Profile) (prefix : Prefix) (at : ℕ) (field : Spelled) (letter : ℕ) (rest : List ℕ) → IsField field
+checks_after : (profile : Profile) (prefix : Prefix) (at : ℕ) (field : Spelled) (letter : ℕ) (rest : List ℕ) → IsField field
     → IsTrue (is_letter prefix letter)
     → parameter_at profile prefix at (field_bytes field ++ letter ∷ rest) ≡ checked_at prefix at letter (field_value field) rest
     (parameter_checks profile (parameter_name prefix letter) letter (field_value field) (length rest))
-checks_behind profile prefix at field letter rest f l =
-    field_behind profile prefix at field (letter ∷ rest) f (grind (arith, nat_tests)) ∙ rw l refl
+checks_after profile prefix at field letter rest f l =
+    field_after profile prefix at field (letter ∷ rest) f (grind (arith, nat_tests)) ∙ rw l refl
 
 -- a step reads what the bytes begin with
 pub inside_reads : {profile : Profile} {prefix : Prefix} {at : ℕ} {bytes : List ℕ} {read : Result Reads Refusal}
@@ -142,7 +142,7 @@ inside_reads {profile} {prefix} {at} (is_middle parameter rest m) =
     let goes : (is_some prefix.group && goes_on letter) ≡ true = m.letter in
     let on : goes_on letter ≡ true = grind arith in
     let again = (checks_take profile (parameter_name prefix letter) letter (field_value parameter.field) m.checks).again (length rest) in
-    rw (parameter_joined parameter.field letter, checks_behind profile prefix at parameter.field letter rest m.field (grind arith))
+    rw (parameter_joined parameter.field letter, checks_after profile prefix at parameter.field letter rest m.field (grind arith))
     (rw (again (omega arith), on) refl)
 inside_reads {profile} {prefix} {at} (is_end parameter bytes rest m) =
     let letter = parameter.letter in
@@ -152,12 +152,12 @@ inside_reads {profile} {prefix} {at} (is_end parameter bytes rest m) =
     (field_value parameter.field) m.checks).again (length (bytes ++ rest)) in
     rw (
       parameter_joined parameter.field letter,
-      checks_behind profile prefix at parameter.field letter (bytes ++ rest)
+      checks_after profile prefix at parameter.field letter (bytes ++ rest)
           m.field (grind arith),
     )
     (rw (again (simp length-append (omega arith)), stops, take_at bytes rest _ refl, drop_at bytes rest _ refl) refl)
-inside_reads {profile} {prefix} {at} (is_wrong (cut field f)) = simp append-nil at (field_behind profile prefix at field [] f tt)
+inside_reads {profile} {prefix} {at} (is_wrong (cut field f)) = simp append-nil at (field_after profile prefix at field [] f tt)
 inside_reads {profile} {prefix} {at} (is_wrong (no_letter field byte rest f s l)) =
-    field_behind profile prefix at field (byte ∷ rest) f s ∙ rw l refl
+    field_after profile prefix at field (byte ∷ rest) f s ∙ rw l refl
 inside_reads {profile} {prefix} {at} (is_wrong (check field letter rest kind f l e)) =
-    checks_behind profile prefix at field letter rest f l ∙ rw e refl
+    checks_after profile prefix at field letter rest f l ∙ rw e refl

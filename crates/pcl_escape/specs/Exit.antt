@@ -32,9 +32,9 @@ HasNoFeed bytes = AllByRecursion (λ byte. (byte == 10) ≡ false) bytes
 
 -- a line goes up to its LF, or to the end of the job
 abbrev pub IsLine : List ℕ → List ℕ → Type 0
-IsLine line behind =
+IsLine line after =
     IsTrue (is_job_line line)
-    × (((text : List ℕ) × (line ≡ text ++ 10 ∷ []) × HasNoFeed text) ⊎ ((behind ≡ []) × HasNoFeed line))
+    × (((text : List ℕ) × (line ≡ text ++ 10 ∷ []) × HasNoFeed text) ⊎ ((after ≡ []) × HasNoFeed line))
 
 -- lines one after the other
 abbrev pub joined : List (List ℕ) → List ℕ
@@ -42,14 +42,14 @@ joined lines = flat_map (λ line. line) lines
 
 -- lines that ask for no language, before what stands after them
 abbrev pub AreOtherLines : List (List ℕ) → List ℕ → Type 0
-AreOtherLines [] behind = Unit {0}
-AreOtherLines (line ∷ lines) behind = IsLine line (joined lines ++ behind) × (names_language line ≡ false) × AreOtherLines lines behind
+AreOtherLines [] after = Unit {0}
+AreOtherLines (line ∷ lines) after = IsLine line (joined lines ++ after) × (names_language line ≡ false) × AreOtherLines lines after
 
 -- All lines after a universal exit: lines that ask for no language, as far as they go; or such lines and one that asks for PCL, after
 -- which nothing more is skipped.
 pub data AreLines : List (List ℕ) → List ℕ → Type 0 where
-  to_other_bytes : {behind : List ℕ} (lines : List (List ℕ))
-      → AreOtherLines lines behind → is_job_line behind ≡ false → AreLines lines behind
-  to_pcl : {behind : List ℕ} (lines : List (List ℕ)) (line : List ℕ)
-      → AreOtherLines lines (line ++ behind) → IsLine line behind → IsTrue (names_language line) → IsTrue (names_pcl line)
-      → AreLines (lines ++ line ∷ []) behind
+  to_other_bytes : {after : List ℕ} (lines : List (List ℕ))
+      → AreOtherLines lines after → is_job_line after ≡ false → AreLines lines after
+  to_pcl : {after : List ℕ} (lines : List (List ℕ)) (line : List ℕ)
+      → AreOtherLines lines (line ++ after) → IsLine line after → IsTrue (names_language line) → IsTrue (names_pcl line)
+      → AreLines (lines ++ line ∷ []) after

@@ -49,9 +49,9 @@ pub data FailsParameter (profile : Profile) : Prefix → ℕ → List ℕ → Re
       → FailsParameter profile prefix at (field_bytes field ++ letter ∷ bytes) (refusal kind at (parameter_name prefix letter))
 
 -- the place of the parameter after these: of the first one, the place of ESC
-abbrev pub place_behind : ℕ → Prefix → List Parameter → ℕ
-place_behind at prefix [] = at
-place_behind at prefix (parameter ∷ middle) = first_place at prefix + length (flat_map parameter_bytes (parameter ∷ middle))
+abbrev pub place_after : ℕ → Prefix → List Parameter → ℕ
+place_after at prefix [] = at
+place_after at prefix (parameter ∷ middle) = first_place at prefix + length (flat_map parameter_bytes (parameter ∷ middle))
 
 -- what stands after ESC and one of ( ) % is no group character
 abbrev pub IsUngrouped : Option ℕ → List ℕ → Type 0
@@ -74,7 +74,7 @@ pub data Fails (profile : Profile) : ℕ → List ℕ → Refusal → Type 0 whe
       → Fails profile at (27 ∷ byte ∷ group ∷ bytes) (refusal BadSequence at (One byte))
   in_parameter : {at : ℕ} {bytes : List ℕ} {fault : Refusal} (prefix : Prefix) (middle : List Parameter)
       → IsPrefix prefix → IsUngrouped prefix.group bytes → AllByRecursion (IsMiddle profile prefix) middle
-      → FailsParameter profile prefix (place_behind at prefix middle) bytes fault
+      → FailsParameter profile prefix (place_after at prefix middle) bytes fault
       → Fails profile at (27 ∷ (prefix_bytes prefix ++ (flat_map parameter_bytes middle ++ bytes))) fault
   in_line : {at : ℕ} {bytes : List ℕ} (field : Spelled) (lines : List (List ℕ)) (line : List ℕ)
       → IsField field → IsTrue (is_exit exit_name (field_value field))
@@ -86,10 +86,10 @@ pub data Fails (profile : Profile) : ℕ → List ℕ → Refusal → Type 0 whe
 -- the first fault of a job by a profile: after a prefix of whole pieces something fails
 pub record IsFault (profile : Profile) (job : List ℕ) (fault : Refusal) : Type 0 where
   pub front : List Piece
-  pub behind : List ℕ
-  pub each : ArePieces profile front behind
-  pub spelled : job ≡ flat_map spelling front ++ behind
-  pub fails : Fails profile (length (flat_map spelling front)) behind fault
+  pub after : List ℕ
+  pub each : ArePieces profile front after
+  pub spelled : job ≡ flat_map spelling front ++ after
+  pub fails : Fails profile (length (flat_map spelling front)) after fault
 
 -- a fault of a call that reads the job: out of memory is no fault of the job
 abbrev pub IsFaultOf : Profile → List ℕ → JobFault → Type 0

@@ -49,9 +49,9 @@ abbrev pub is_letter : Prefix → ℕ → Bool
 is_letter prefix byte = is_last byte || may_go_on prefix byte
 
 -- a name from a prefix
-abbrev pub name_with : ℕ → Option ℕ → Name
-name_with parameterized None = One parameterized
-name_with parameterized (Some group) = Two parameterized group
+abbrev pub name_with_group : ℕ → Option ℕ → Name
+name_with_group parameterized None = One parameterized
+name_with_group parameterized (Some group) = Two parameterized group
 
 -- the same with the byte of a parameter
 abbrev pub name_with_letter : ℕ → Option ℕ → ℕ → Name
@@ -60,7 +60,7 @@ name_with_letter parameterized (Some group) letter = Three parameterized group l
 
 -- the name of a sequence of which no parameter was read
 abbrev pub prefix_name : Prefix → Name
-prefix_name prefix = name_with prefix.parameterized prefix.group
+prefix_name prefix = name_with_group prefix.parameterized prefix.group
 
 -- the parameter byte stands in a name as an upper-case byte
 abbrev pub parameter_name : Prefix → ℕ → Name

@@ -86,30 +86,30 @@ IsNoText (byte ∷ bytes) = is_text byte ≡ false
 
 -- a run of text is there, and ends there
 abbrev pub IsRun : List ℕ → List ℕ → Type 0
-IsRun [] behind = ⊥
-IsRun (byte ∷ bytes) behind = AllByRecursion (λ byte. IsTrue (is_text byte)) (byte ∷ bytes) × IsNoText behind
+IsRun [] after = ⊥
+IsRun (byte ∷ bytes) after = AllByRecursion (λ byte. IsTrue (is_text byte)) (byte ∷ bytes) × IsNoText after
 
 -- a universal exit, before the bytes that stand after its lines
-pub record IsExit (profile : Profile) (field : Spelled) (lines : List (List ℕ)) (behind : List ℕ) : Type 0 where
+pub record IsExit (profile : Profile) (field : Spelled) (lines : List (List ℕ)) (after : List ℕ) : Type 0 where
   pub field_is : IsField field
   pub leaves : IsTrue (is_exit exit_name (field_value field))
   pub checks : parameter_checks profile exit_name exit_letter (field_value field) 0 ≡ Ok 0
-  pub lines_are : AreLines lines behind
+  pub lines_are : AreLines lines after
 
 -- a piece by a profile, before the bytes that stand after it
 abbrev pub IsPiece : Profile → Piece → List ℕ → Type 0
-IsPiece profile (silent byte) behind = IsTrue (is_silent byte)
-IsPiece profile (control code) behind = IsTrue (is_control code) × (is_silent code ≡ false) × IsSome (operation_of (One code))
-IsPiece profile (text bytes) behind = IsRun bytes behind
-IsPiece profile (two_character byte) behind = IsTrue (is_two_character byte) × IsSome (operation_of (One byte))
-IsPiece profile (combined prefix middle end bytes) behind =
+IsPiece profile (silent byte) after = IsTrue (is_silent byte)
+IsPiece profile (control code) after = IsTrue (is_control code) × (is_silent code ≡ false) × IsSome (operation_of (One code))
+IsPiece profile (text bytes) after = IsRun bytes after
+IsPiece profile (two_character byte) after = IsTrue (is_two_character byte) × IsSome (operation_of (One byte))
+IsPiece profile (combined prefix middle end bytes) after =
     IsPrefix prefix × AllByRecursion (IsMiddle profile prefix) middle × IsEnd profile prefix end bytes
-IsPiece profile (exit field lines) behind = IsExit profile field lines behind
+IsPiece profile (exit field lines) after = IsExit profile field lines after
 
 -- pieces one after the other, and what stands after the last
 abbrev pub ArePieces : Profile → List Piece → List ℕ → Type 0
-ArePieces profile [] behind = Unit {0}
-ArePieces profile (piece ∷ pieces) behind = IsPiece profile piece (flat_map spelling pieces ++ behind) × ArePieces profile pieces behind
+ArePieces profile [] after = Unit {0}
+ArePieces profile (piece ∷ pieces) after = IsPiece profile piece (flat_map spelling pieces ++ after) × ArePieces profile pieces after
 
 -- ---- what each piece says
 
@@ -122,13 +122,13 @@ abbrev pub command_of : Prefix → ℕ → Parameter → List ℕ → Said
 command_of prefix at parameter bytes =
     record { at = at; name = parameter_name prefix parameter.letter; value = field_value parameter.field; bytes = bytes }
 
--- The parameters begin at the place begin. The first command is placed at the place at; a later one at the
+-- The parameters begin at the place start. The first command is placed at the place at; a later one at the
 -- place right after the parameter before it.
 abbrev pub parameter_commands : Prefix → ℕ → ℕ → List Parameter → Parameter → List ℕ → List Said
-parameter_commands prefix at begin [] end bytes = command_of prefix at end bytes ∷ []
-parameter_commands prefix at begin (parameter ∷ middle) end bytes =
-    let behind = begin + length (parameter_bytes parameter) in
-    command_of prefix at parameter [] ∷ parameter_commands prefix behind behind middle end bytes
+parameter_commands prefix at start [] end bytes = command_of prefix at end bytes ∷ []
+parameter_commands prefix at start (parameter ∷ middle) end bytes =
+    let after = start + length (parameter_bytes parameter) in
+    command_of prefix at parameter [] ∷ parameter_commands prefix after after middle end bytes
 
 -- where the first parameter of a sequence begins that begins at a place
 abbrev pub first_place : ℕ → Prefix → ℕ

@@ -26,16 +26,16 @@ pub fn skip_lines(place: usize, bytes: &[u8]) -> Result<&[u8], usize>
 {
     let mut rest = bytes;
     while rest.starts_with(JOB_LINE) {
-        let (line, behind) = rest.split_at(line_len(rest));
+        let (line, after) = rest.split_at(line_len(rest));
         let front = squeezed_front(line);
         if front.as_slice().starts_with(LANGUAGE) {
             return if front.as_slice() == PCL {
-                Ok(behind)
+                Ok(after)
             } else {
                 Err(place + (bytes.len() - rest.len()))
             };
         }
-        rest = behind;
+        rest = after;
     }
     Ok(rest)
 }

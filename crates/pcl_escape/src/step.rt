@@ -8,7 +8,7 @@ ghost use Rattle.pcl_base.specs.Refusal.{refusal};
 ghost use Rattle.pcl_escape.specs.Letter.{goes_on, is_text, is_letter, prefix_name, parameter_name};
 ghost use Rattle.pcl_escape.specs.Checks.{operation_checks, is_exit};
 ghost use Rattle.pcl_escape.specs.Said.{view};
-ghost use Rattle.pcl_escape.specs.inner.Scan.{Gives, step_view, before_rest, step_at, start_at, sequence_at, prefix_at, ungrouped_at, parameter_at, named_at, text_at};
+ghost use Rattle.pcl_escape.specs.inner.Scan.{GivesReads, step_view, before_rest, step_at, start_at, sequence_at, prefix_at, ungrouped_at, parameter_at, named_at, text_at};
 
 use crate::Command;
 use crate::exit::skip_lines;
@@ -52,7 +52,7 @@ pub fn read_step<'a>(
     bytes: &'a [u8],
 ) -> Result<Progress<'a>, Refusal>
     requires { at + length bytes.now ≤ 18446744073709551615 }
-    ensures { Gives result (step_at profile inside at bytes.now) }
+    ensures { GivesReads result (step_at profile inside at bytes.now) }
 {
     match inside {
         Some(prefix) => read_parameter(profile, prefix, at, bytes),
@@ -64,7 +64,7 @@ pub fn read_step<'a>(
 #[tactic(auto, unfolding(crate::specs::inner::Scan::start_at))]
 fn read_start<'a>(profile: Profile, at: usize, bytes: &'a [u8]) -> Result<Progress<'a>, Refusal>
     requires { at + length bytes.now ≤ 18446744073709551615 }
-    ensures { Gives result (start_at profile at bytes.now) }
+    ensures { GivesReads result (start_at profile at bytes.now) }
 {
     let Some((&first, after)) = bytes.split_first() else {
         return Ok(silent(bytes));
@@ -82,7 +82,7 @@ fn read_start<'a>(profile: Profile, at: usize, bytes: &'a [u8]) -> Result<Progre
 #[tactic(auto, unfolding(crate::specs::inner::Scan::sequence_at))]
 fn read_sequence<'a>(profile: Profile, at: usize, bytes: &'a [u8]) -> Result<Progress<'a>, Refusal>
     requires { at + 1 + length bytes.now ≤ 18446744073709551615 }
-    ensures { Gives result (sequence_at profile at bytes.now) }
+    ensures { GivesReads result (sequence_at profile at bytes.now) }
 {
     let Some((&first, after)) = bytes.split_first() else {
         return refused(Kind::Truncated, at, Name::Empty);
@@ -103,7 +103,7 @@ fn read_prefix<'a>(
     bytes: &'a [u8],
 ) -> Result<Progress<'a>, Refusal>
     requires { at + 2 + length bytes.now ≤ 18446744073709551615 }
-    ensures { Gives result (prefix_at profile at parameterized bytes.now) }
+    ensures { GivesReads result (prefix_at profile at parameterized bytes.now) }
 {
     let Some((&group, after)) = bytes.split_first() else {
         return refused(Kind::Truncated, at, Name::One(parameterized));
@@ -130,7 +130,7 @@ fn read_ungrouped<'a>(
     bytes: &'a [u8],
 ) -> Result<Progress<'a>, Refusal>
     requires { at + 2 + length bytes.now ≤ 18446744073709551615 }
-    ensures { Gives result (ungrouped_at profile at parameterized bytes.now) }
+    ensures { GivesReads result (ungrouped_at profile at parameterized bytes.now) }
 {
     let prefix = Prefix {
         parameterized,
@@ -172,7 +172,7 @@ fn with_lines<'a>(command: Command<'a>, bytes: &'a [u8], rest: &'a [u8]) -> Prog
 /// A control code or a two-character sequence: a command whose name is one byte, without value or data.
 #[tactic(auto, unfolding(crate::specs::inner::Scan::named_at))]
 fn read_named<'a>(at: usize, code: u8, rest: &'a [u8]) -> Result<Progress<'a>, Refusal>
-    ensures { Gives result (named_at at code rest.now) }
+    ensures { GivesReads result (named_at at code rest.now) }
 {
     let name = Name::One(code);
     if Operation::with_name(name).is_none() {
@@ -194,7 +194,7 @@ fn read_named<'a>(at: usize, code: u8, rest: &'a [u8]) -> Result<Progress<'a>, R
 /// Reads the run of text at the front of the bytes, as long as it goes.
 #[tactic(auto, unfolding(crate::specs::inner::Scan::text_at))]
 fn read_text<'a>(at: usize, bytes: &'a [u8]) -> Result<Progress<'a>, Refusal>
-    ensures { Gives result (text_at at bytes.now) }
+    ensures { GivesReads result (text_at at bytes.now) }
 {
     let (text, rest) = bytes.split_at(text_len(bytes));
     let command = Command {
@@ -233,7 +233,7 @@ fn read_parameter<'a>(
     at: usize,
     bytes: &'a [u8],
 ) -> Result<Progress<'a>, Refusal>
-    ensures { Gives result (parameter_at profile prefix at bytes.now) }
+    ensures { GivesReads result (parameter_at profile prefix at bytes.now) }
 {
     let (field, rest) = read_field(bytes);
     let Some((&letter, after)) = rest.split_first() else {

@@ -2,7 +2,7 @@
 
 use pcl_base::{Kind, Name};
 
-/// What is said of a command that the drivers' profile alone knows, behind what it asks for.
+/// What is said of a command that the drivers' profile alone knows, after what it asks for.
 macro_rules! known_to_drivers {
     ($what:literal) => {
         concat!(

@@ -37,14 +37,14 @@ fn end_of_sequence(bytes: &[u8], start: usize) -> usize {
     let second = start.saturating_add(1);
     let mut number: usize = 0;
     for (place, byte) in bytes.iter().enumerate().skip(second) {
-        let behind = place.saturating_add(1);
+        let after = place.saturating_add(1);
         match *byte {
-            b'0'..=b'~' if place == second => return behind,
+            b'0'..=b'~' if place == second => return after,
             b'0'..=b'9' => number = number
                 .saturating_mul(10)
                 .saturating_add(usize::from(*byte - b'0')),
-            b'W' => return behind.saturating_add(number),
-            b'@'..=b'^' => return behind,
+            b'W' => return after.saturating_add(number),
+            b'@'..=b'^' => return after,
             _ => number = 0,
         }
     }

@@ -62,7 +62,7 @@ white_byte (suc w) (suc m) [] =
     omega (arith, white)
 white_byte (suc w) m (b ∷ bits) = ap (λ n. (if b then 2 ^ w else 0) + n) (white_byte w m bits)
 
--- more bits behind a byte
+-- more bits after a byte
 full_byte : (w : ℕ) (bits more : List Bool) → w ≤ length bits → byte_of w (bits ++ more) ≡ byte_of w bits
 unfolding byte_of
 full_byte zero bits more le = refl
@@ -106,9 +106,9 @@ black_bytes (suc n) zero f s m r mask bits long first more sum lt =
     ap (λ b. bit_or b mask) byte ∙ or_shifted (byte_of f bits) s mask small ∙ ap (λ b. b + mask) (sym byte) in
     let inked = black_byte 8 s m r mask bits (omega arith) more sum in
     let none = drop_all 8 bits (omega arith) in
-    let none_behind = drop_all 8 (bits ++ replicate m true)
+    let none_after = drop_all 8 (bits ++ replicate m true)
     (omega (arith, length-append bits (replicate m true), length-replicate m true)) in
-    rw (inked, joined, none, none_behind) refl
+    rw (inked, joined, none, none_after) refl
 black_bytes (suc n) (suc place) f s m r mask bits long first more sum lt =
     let eight : 8 ≤ length bits = omega arith in
     rw (

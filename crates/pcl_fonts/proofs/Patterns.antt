@@ -31,10 +31,10 @@ module _ (bytes repeats below : ℕ) (row : List ℕ) (long : length row ≡ byt
   length-after (Some later) rows each e =
       let copies = concat (replicate (repeats + 1) row) in
       let sum : repeats + 1 + (below - repeats) ≡ suc below = omega arith in
-      let behind = each later refl in
+      let beyond = each later refl in
       ap length (sym (same_Some (copies ++ later) rows e)) ∙ length-append copies later
       ∙ ap (λ n. n + length later) (length-copies (repeats + 1) row ∙ ap (λ n. (repeats + 1) * n) long)
-      ∙ ap (λ n. (repeats + 1) * bytes + n) behind ∙ sym (add-mul (repeats + 1) (below - repeats) bytes) ∙ ap (λ n. n * bytes) sum
+      ∙ ap (λ n. (repeats + 1) * bytes + n) beyond ∙ sym (add-mul (repeats + 1) (below - repeats) bytes) ∙ ap (λ n. n * bytes) sum
 
 -- the rows of a group and of those after it
 length-group : (width repeats below : ℕ) (later : List ℕ → Option (List ℕ))

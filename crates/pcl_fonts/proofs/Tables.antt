@@ -1,6 +1,6 @@
 -- Tables of fonts as the entries of a map, and what each event does to them.
 use Rattle.std.proofs.Common.{◌≡◌, ℕ, ◌≤◌, ◌+◌, Bool, true, false, ◌&&◌, cond, nat_eq, if◌then◌else◌, List, [], map, filter, Option, None, Some, is_some, IfSome, refl, sym, ap, ◌∙◌, arith}
-use Rattle.pcl_fonts.proofs.Names.{eqb-true, eq-eqb, nat_tests, lookup-map_values, lookup-filter-values, option_filter, nat_eq_equiv, IsDistinct, keys_of, lookup, option_map, IndexMap, get, WritesThrough, Character, font_of, has_code, FontEvent, header, character, control, with_permanent, font_step, character_step, FontTable, Follows, IsSame, printed, font_at, character_at, character_of, font_in, character_in, stored_in, is_there, Entry, FontControl, Temporary, One, MakeTemporary, MakePermanent}
+use Rattle.pcl_fonts.proofs.Names.{eqb-true, eq-eqb, nat_tests, lookup-map_values, lookup-filter-values, option_filter, nat_eq_equiv, IsDistinct, keys_of, lookup, option_map, IndexMap, get, WritesThrough, Character, font_of, has_code, FontEvent, header, character, control, with_permanent, font_step, character_step, FontTable, Follows, IsSame, printed, font_at, character_at, stored_character, font_in, character_in, stored_in, is_there, Entry, FontControl, Temporary, One, MakeTemporary, MakePermanent}
 use Rattle.pcl_fonts.specs.Fields.{character_of as character_with}
 use Rattle.pcl_fonts.specs.declared.fonts.FontControl.TheVariants as controls
 
@@ -45,7 +45,7 @@ seen deletions es {entry = entry} distinct is of = record {
   characters = λ id code. rw (← is, stored_view deletions es id distinct, of) (characters (entry id) code);
 }
   where
-    characters : (o : Option Entry) (code : ℕ) → character_of (option_map stored_in o) code ≡ entry_character o code
+    characters : (o : Option Entry) (code : ℕ) → stored_character (option_map stored_in o) code ≡ entry_character o code
     characters None code = refl
     characters (Some e) code = lookup-map_values character_in (nat_eq code) e.characters.entries
 

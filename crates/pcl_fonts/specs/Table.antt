@@ -27,12 +27,12 @@ FontTable = List (ℕ × Stored)
 abbrev pub font_at : FontTable → ℕ → Option Font
 font_at table id = option_map (λ s. s.font) (lookup (nat_eq id) table)
 
-abbrev pub character_of : Option Stored → ℕ → Option Character
-character_of None code = None
-character_of (Some s) code = lookup (nat_eq code) s.characters
+abbrev pub stored_character : Option Stored → ℕ → Option Character
+stored_character None code = None
+stored_character (Some s) code = lookup (nat_eq code) s.characters
 
 abbrev pub character_at : FontTable → ℕ → ℕ → Option Character
-character_at table id code = character_of (lookup (nat_eq id) table) code
+character_at table id code = stored_character (lookup (nat_eq id) table) code
 
 -- the table holds the fonts and the characters that are there after a history
 pub record Holds (table : FontTable) (history : List FontEvent) : Type 0 where

@@ -86,12 +86,12 @@ TellsBy line (OneRefused which refusal) answer = TellsOf which line refusal answ
 TellsBy line failure answer = (answer.outcome ≡ outcome_of failure) × (answer.line.now ≡ line)
 
 -- what it tells of a failure of a call that was asked for pages up to this one, or that memory ran out for that; an argument that is
--- wrong or too long is always told
-abbrev pub Tells : CallFailure → ℕ → Answer → Type 0
-Tells (Run run.Memory) page answer = IsOutOfMemory answer
-Tells (Run run.TooLong) page answer = TellsBy (c_string (line_of run.TooLong page)) (Run run.TooLong) answer
-Tells (Wrong argument) page answer = TellsBy (c_string (argument_line argument)) (Wrong argument) answer
-Tells failure page answer = TellsBy (c_string (failure_line failure page)) failure answer ⊎ IsOutOfMemory answer
+-- wrong or too long is always reported
+abbrev pub TellsFailure : CallFailure → ℕ → Answer → Type 0
+TellsFailure (Run run.Memory) page answer = IsOutOfMemory answer
+TellsFailure (Run run.TooLong) page answer = TellsBy (c_string (line_of run.TooLong page)) (Run run.TooLong) answer
+TellsFailure (Wrong argument) page answer = TellsBy (c_string (argument_line argument)) (Wrong argument) answer
+TellsFailure failure page answer = TellsBy (c_string (failure_line failure page)) failure answer ⊎ IsOutOfMemory answer
 
 -- a number that is wrong, and an input that is too long, are always said
 pub record TellsArguments (answer : Answer) : Type 0 where
@@ -152,7 +152,7 @@ pub record ShowsAt (form : ImageForm) (dpi : Dpi) (job : List ℕ) (choice : Pag
   pub missing : answer.outcome ≡ 2 → LacksChosenAt dpi job choice last answer
 
 -- the same at the resolution at which the job is seen by a number, where these images and these missing pages are asked for
-pub record Shows (number : ℕ) (job : List ℕ) (Done : Dpi → Answer → Type 0) (Missing : Answer → Type 0) (answer : Answer) : Type 0 where
+pub record ShowsBy (number : ℕ) (job : List ℕ) (Done : Dpi → Answer → Type 0) (Missing : Answer → Type 0) (answer : Answer) : Type 0 where
   pub arguments : TellsArguments answer
   pub done : answer.outcome ≡ 0 → (dpi : Dpi) × IsSeen Drivers number job dpi × (answer.resolution ≡ dots_per_inch dpi) × Done dpi answer
   pub refused : answer.outcome ≡ 1

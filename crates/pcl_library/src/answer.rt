@@ -41,7 +41,7 @@ impl Answer {
     ghost use Rattle.std.specs.Prelude.{◌≡◌, ◌⊎◌};
     ghost use Rattle.pcl_base.specs.Dpi.{dots_per_inch};
     ghost use Rattle.pcl_base.specs.Kind.{kind_number};
-    ghost use Rattle.pcl_library.specs.Answers.{IsOutOfMemory, SaysNothing, Tells, TellsBy};
+    ghost use Rattle.pcl_library.specs.Answers.{IsOutOfMemory, SaysNothing, TellsFailure, TellsBy};
     ghost use Rattle.pcl_library.specs.Failures.{job_number};
     ghost use Rattle.pcl_library.specs.Lines.{IsLineOf};
 
@@ -132,7 +132,7 @@ impl Answer {
 
     /// A failure of a call; `page` is the last page that was asked for.
     pub fn of_failure(alloc: Global, failure: &CallFailure, page: usize) -> Answer
-        ensures { Tells failure.now page result }
+        ensures { TellsFailure failure.now page result }
     {
         match failure.line(alloc, page) {
             Ok(line) => Answer::of_said(failure, line),
@@ -144,15 +144,15 @@ impl Answer {
     fn of_said(failure: &CallFailure, line: &'static [u8]) -> Answer
         ensures { TellsBy line.now failure.now result }
     {
-        let told = Answer {
+        let reported = Answer {
             line,
             outcome: failure.outcome(),
             ..Answer::blank(0)
         };
         match failure {
-            CallFailure::Run(Fault::Refused(refusal)) => told.refused(Which::First, refusal),
-            CallFailure::OneRefused { which, refusal } => told.refused(*which, refusal),
-            _ => told,
+            CallFailure::Run(Fault::Refused(refusal)) => reported.refused(Which::First, refusal),
+            CallFailure::OneRefused { which, refusal } => reported.refused(*which, refusal),
+            _ => reported,
         }
     }
 

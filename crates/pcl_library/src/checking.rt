@@ -33,7 +33,7 @@ pub extern "C" fn pcl_library_check(
     resolution: u32,
     answer: &mut Answer,
 )
-    ensures told { Answers Stated resolution input.now (HasVerdict Input input.now output.now certificate.now) answer.new }
+    ensures says { Answers Stated resolution input.now (HasVerdict Input input.now output.now certificate.now) answer.new }
     ensures arguments { FailsBy
         (IsNoResolution resolution)
         (IsTooLong input.now ⊎ IsTooLong output.now ⊎ IsTooLong certificate.now)
@@ -56,7 +56,7 @@ pub extern "C" fn pcl_library_check_pages(
     resolution: u32,
     answer: &mut Answer,
 )
-    ensures told { Answers Stated resolution output.now (HasVerdict Images images.now output.now certificate.now) answer.new }
+    ensures says { Answers Stated resolution output.now (HasVerdict Images images.now output.now certificate.now) answer.new }
     ensures arguments { FailsBy
         (IsNoResolution resolution)
         (IsTooLong output.now ⊎ IsTooLong images.now ⊎ IsTooLong certificate.now)

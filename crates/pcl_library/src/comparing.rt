@@ -22,7 +22,7 @@ pub extern "C" fn pcl_library_same(
     resolution: u32,
     answer: &mut Answer,
 )
-    ensures told { Compares false resolution first.now second.now answer.new }
+    ensures says { Compares false resolution first.now second.now answer.new }
     ensures arguments { FailsBy (IsNoResolution resolution) (IsTooLong first.now ⊎ IsTooLong second.now) answer.new.outcome }
 {
     *answer = seen_answer(alloc, false, first, second, resolution);
@@ -37,7 +37,7 @@ pub extern "C" fn pcl_library_same_asked(
     resolution: u32,
     answer: &mut Answer,
 )
-    ensures told { Compares true resolution first.now second.now answer.new }
+    ensures says { Compares true resolution first.now second.now answer.new }
     ensures arguments { FailsBy (IsNoResolution resolution) (IsTooLong first.now ⊎ IsTooLong second.now) answer.new.outcome }
 {
     *answer = seen_answer(alloc, true, first, second, resolution);
@@ -45,7 +45,7 @@ pub extern "C" fn pcl_library_same_asked(
 
 /// Whether two jobs are the same at the resolution at which they are compared by a number; what they ask counts where that is wanted.
 fn seen_answer(alloc: Global, asks: bool, first: &[u8], second: &[u8], resolution: u32) -> Answer
-    ensures told { Compares asks resolution first.now second.now result }
+    ensures says { Compares asks resolution first.now second.now result }
     ensures arguments { FailsBy (IsNoResolution resolution) (IsTooLong first.now ⊎ IsTooLong second.now) result.outcome }
 {
     match both_seen_at(alloc, asks, first, second, resolution) {

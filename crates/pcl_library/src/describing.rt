@@ -22,7 +22,7 @@ pub extern "C" fn pcl_library_page_count(
     resolution: u32,
     answer: &mut Answer,
 )
-    ensures told { Answers Drivers resolution job.now (HasPageCount job.now) answer.new }
+    ensures says { Answers Drivers resolution job.now (HasPageCount job.now) answer.new }
     ensures arguments { FailsBy (IsNoResolution resolution) (IsTooLong job.now) answer.new.outcome }
 {
     *answer = match seen_at(alloc, job, Profile::Drivers, resolution) {
@@ -44,7 +44,7 @@ fn page_count_answer(alloc: Global, job: &[u8], dpi: Dpi) -> Answer
 /// `pclmin_pages`: what the pages are, as the command `pages --json` writes it.
 #[unsafe(no_mangle)]
 pub extern "C" fn pcl_library_pages(alloc: Global, job: &[u8], resolution: u32, answer: &mut Answer)
-    ensures told { Answers Drivers resolution job.now (IsOfAccepted job.now) answer.new }
+    ensures says { Answers Drivers resolution job.now (IsOfAccepted job.now) answer.new }
     ensures arguments { FailsBy (IsNoResolution resolution) (IsTooLong job.now) answer.new.outcome }
 {
     *answer = match seen_at(alloc, job, Profile::Drivers, resolution) {
@@ -71,7 +71,7 @@ pub extern "C" fn pcl_library_explain(
     resolution: u32,
     answer: &mut Answer,
 )
-    ensures told { Answers Drivers resolution job.now (HasExplanation job.now) answer.new }
+    ensures says { Answers Drivers resolution job.now (HasExplanation job.now) answer.new }
     ensures arguments { FailsBy (IsNoResolution resolution) (IsTooLong job.now) answer.new.outcome }
 {
     *answer = match seen_at(alloc, job, Profile::Drivers, resolution) {

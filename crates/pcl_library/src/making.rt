@@ -23,7 +23,7 @@ pub extern "C" fn pcl_library_min(
     format: u32,
     answer: &mut Answer,
 )
-    ensures told { Answers Stated resolution job.now (HasWrittenJob job.now format) answer.new }
+    ensures says { Answers Stated resolution job.now (HasWrittenJob job.now format) answer.new }
     ensures arguments { FailsBy (IsNoResolution resolution ⊎ IsNoFormat format) (IsTooLong job.now) answer.new.outcome }
 {
     *answer = match format_numbered(format) {
@@ -34,7 +34,7 @@ pub extern "C" fn pcl_library_min(
 
 /// A least raster job, with a certificate where a format is given.
 fn min_answer(alloc: Global, job: &[u8], resolution: u32, format: Option<Format>) -> Answer
-    ensures told { Answers Stated resolution job.now (HasLeastJob job.now format) result }
+    ensures says { Answers Stated resolution job.now (HasLeastJob job.now format) result }
     ensures arguments { FailsBy (IsNoResolution resolution) (IsTooLong job.now) result.outcome }
 {
     match seen_at(alloc, job, Profile::Stated, resolution) {

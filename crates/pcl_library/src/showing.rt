@@ -5,7 +5,7 @@ ghost use Rattle.pcl_base.specs.declared.profile.Profile.TheVariants.{Drivers};
 ghost use Rattle.pcl_preview.specs.PageImages.{ArePageImages};
 ghost use Rattle.pcl_preview.specs.declared.form.ImageForm.TheVariants.{Bitmap};
 ghost use Rattle.pcl_library.specs.Arguments.{IsNoResolution, AreNoPages, IsNoScale, IsTooLong, FailsBy};
-ghost use Rattle.pcl_library.specs.Answers.{Shows, ShowsAt, HasImages, HasGreys, HasChosenImages, LacksPages, LacksChosen};
+ghost use Rattle.pcl_library.specs.Answers.{ShowsBy, ShowsAt, HasImages, HasGreys, HasChosenImages, LacksPages, LacksChosen};
 
 use crate::answer::Answer;
 use crate::arguments::{pages_between, scale_numbered, seen_at};
@@ -26,7 +26,7 @@ pub extern "C" fn pcl_library_preview(
     last: u32,
     answer: &mut Answer,
 )
-    ensures told { Shows resolution job.now (HasImages Bitmap job.now first last) (LacksPages resolution job.now first last) answer.new }
+    ensures says { ShowsBy resolution job.now (HasImages Bitmap job.now first last) (LacksPages resolution job.now first last) answer.new }
     ensures arguments { FailsBy (IsNoResolution resolution ⊎ AreNoPages first last) (IsTooLong job.now) answer.new.outcome }
 {
     *answer = image_answer(alloc, job, resolution, first, last, ImageForm::Bitmap);
@@ -43,7 +43,7 @@ pub extern "C" fn pcl_library_grey(
     scale: u32,
     answer: &mut Answer,
 )
-    ensures told { Shows resolution job.now (HasGreys job.now first last scale) (LacksPages resolution job.now first last) answer.new }
+    ensures says { ShowsBy resolution job.now (HasGreys job.now first last scale) (LacksPages resolution job.now first last) answer.new }
     ensures arguments { FailsBy
         (IsNoResolution resolution ⊎ AreNoPages first last ⊎ IsNoScale scale)
         (IsTooLong job.now)
@@ -71,7 +71,7 @@ fn image_answer(
     last: u32,
     form: ImageForm,
 ) -> Answer
-    ensures told { Shows resolution job.now (HasImages form job.now first last) (LacksPages resolution job.now first last) result }
+    ensures says { ShowsBy resolution job.now (HasImages form job.now first last) (LacksPages resolution job.now first last) result }
     ensures arguments { FailsBy (IsNoResolution resolution ⊎ AreNoPages first last) (IsTooLong job.now) result.outcome }
 {
     match pages_between(first, last) {
@@ -89,7 +89,7 @@ fn preview_answer(
     last: u32,
     form: ImageForm,
 ) -> Answer
-    ensures told { Shows resolution job.now (HasChosenImages form job.now choice) (LacksChosen resolution job.now choice last) result }
+    ensures says { ShowsBy resolution job.now (HasChosenImages form job.now choice) (LacksChosen resolution job.now choice last) result }
     ensures arguments { FailsBy (IsNoResolution resolution) (IsTooLong job.now) result.outcome }
 {
     match seen_at(alloc, job, Profile::Drivers, resolution) {

@@ -153,7 +153,7 @@ start_after {size} dpi {copies} {t} {pages} n b =
     let raster : raster_from dpi 0 (ready dpi size copies t) ≡ body_raster size dpi 0 (zeros size dpi) =
     one_scale dpi size b.height (omega arith) in rw (raster, b.method) refl
 
--- a command that sets something between texts, and the deeds behind it
+-- a command that sets something between texts, and the deeds after it
 set_leads : {dpi : Dpi} {operation : Operation} {value : Value} {t next : Settings} {effect : Effect} {pages : List Sheet} {n : ℕ}
     {deeds : List Deed} {later : Situation} → length pages ≤ page_limit
     → outcome dpi operation value false t ≡ Some (next, effect) → ejects effect false ≡ false
@@ -272,12 +272,12 @@ body_printed inside tokens t rows k inked pages n p are long fits = absurd p
 -- ---- the end
 
 -- after the raster of a text
-abbrev behind : Size → Dpi → Settings → Method → ℕ → List ℕ → Settings
-behind size dpi t m k seed = record (put (below dpi (body_raster size dpi k seed)) (record t { method = m })) { method = Plain }
+abbrev beyond : Size → Dpi → Settings → Method → ℕ → List ℕ → Settings
+beyond size dpi t m k seed = record (put (below dpi (body_raster size dpi k seed)) (record t { method = m })) { method = Plain }
 
 end_after : (size : Size) (dpi : Dpi) (t : Settings) (m : Method) (k : ℕ) (seed : List ℕ) {marks : List Mark} {pages : List Sheet} (n : ℕ)
     → does dpi (deed EndRasterResetMethod (number_value 0) []) (in_body size dpi t m k seed marks pages n)
-    ≡ Ok (record (between (behind size dpi t m k seed) pages (n + 1)) { marks = marks })
+    ≡ Ok (record (between (beyond size dpi t m k seed) pages (n + 1)) { marks = marks })
 unfolding after outcome
 end_after size dpi t m k seed n = refl
 
@@ -300,7 +300,7 @@ feed_between test u plain none asked = grind arith
 
 -- where the settings are between texts again
 abbrev ended_at : Size → Dpi → Settings → Method → ℕ → List ℕ → Settings
-ended_at size dpi t m k seed = to_first_line (before_feed (behind size dpi t m k seed))
+ended_at size dpi t m k seed = to_first_line (before_feed (beyond size dpi t m k seed))
 
 end_leads : (size : Size) (dpi : Dpi) (t : Settings) (m : Method) (k : ℕ) (seed : List ℕ) (marks : List Mark) (pages : List Sheet) (n : ℕ)
     → t.raster_height ≡ None → AsksForLittle t.asked → t.asked ≡ sheet_said (record { size = t.size; copies = t.copies; marks = marks })
@@ -308,7 +308,7 @@ end_leads : (size : Size) (dpi : Dpi) (t : Settings) (m : Method) (k : ℕ) (see
     × AreLeading dpi end_deeds (in_body size dpi t m k seed marks pages n)
     (between (ended_at size dpi t m k seed) (pages ++ record { size = t.size; copies = t.copies; marks = marks } ∷ []) (n + 1 + 1))
 end_leads size dpi t m k seed marks pages n none little asked few =
-    let u = behind size dpi t m k seed in
+    let u = beyond size dpi t m k seed in
     let middle : Situation = record (between u pages (n + 1)) { marks = marks } in
     let sheet : Sheet = record { size = t.size; copies = t.copies; marks = marks } in
     let last = between (to_first_line (before_feed u)) (pages ++ sheet ∷ []) (n + 1 + 1) in

@@ -32,17 +32,17 @@ said_many commands deeds said = absurd said
 -- the bytes are whole pieces by each profile, whose commands are the deeds, whatever stands before them and after them
 pub record ReadsAs (bytes : List ℕ) (deeds : List Deed) : Type 0 where
   pub pieces : List Piece
-  pub each : (profile : Profile) (behind : List ℕ) → ArePieces profile pieces behind
+  pub each : (profile : Profile) (beyond : List ℕ) → ArePieces profile pieces beyond
   pub spelled : bytes ≡ flat_map spelling pieces
   pub said : (at : ℕ) → AreSaid (commands_of at pieces) deeds
 
 -- pieces before other pieces are pieces with them
-pub pieces_append : (profile : Profile) (one two : List Piece) (behind : List ℕ)
-    → ArePieces profile one (flat_map spelling two ++ behind) → ArePieces profile two behind → ArePieces profile (one ++ two) behind
-pieces_append profile [] two behind a b = b
-pieces_append profile (piece ∷ one) two behind a b =
-    let joined = append_assoc (flat_map spelling one) (flat_map spelling two) behind in
-    (rw (flat_map-append spelling one two, joined) a.0, pieces_append profile one two behind a.1 b)
+pub pieces_append : (profile : Profile) (one two : List Piece) (beyond : List ℕ)
+    → ArePieces profile one (flat_map spelling two ++ beyond) → ArePieces profile two beyond → ArePieces profile (one ++ two) beyond
+pieces_append profile [] two beyond a b = b
+pieces_append profile (piece ∷ one) two beyond a b =
+    let joined = append_assoc (flat_map spelling one) (flat_map spelling two) beyond in
+    (rw (flat_map-append spelling one two, joined) a.0, pieces_append profile one two beyond a.1 b)
 
 commands_append : (at : ℕ) (one two : List Piece)
     → commands_of at (one ++ two) ≡ commands_of at one ++ commands_of (at + length (flat_map spelling one)) two
@@ -56,8 +56,8 @@ pub reads_joined : {one two : List ℕ} {before after : List Deed} → ReadsAs o
     → ReadsAs (one ++ two) (before ++ after)
 reads_joined {two} {before} {after} a b = record {
   pieces = a.pieces ++ b.pieces;
-  each = λ profile behind.
-      pieces_append profile a.pieces b.pieces behind (a.each profile (flat_map spelling b.pieces ++ behind)) (b.each profile behind);
+  each = λ profile beyond.
+      pieces_append profile a.pieces b.pieces beyond (a.each profile (flat_map spelling b.pieces ++ beyond)) (b.each profile beyond);
   spelled = rw (flat_map-append spelling a.pieces b.pieces) cc;
   said = λ at.
       rw (commands_append at a.pieces b.pieces)
@@ -65,14 +65,14 @@ reads_joined {two} {before} {after} a b = record {
 }
 
 pub reads_none : ReadsAs [] []
-reads_none = record { pieces = []; each = λ profile behind. tt; spelled = refl; said = λ at. tt }
+reads_none = record { pieces = []; each = λ profile beyond. tt; spelled = refl; said = λ at. tt }
 
 pub reads_piece : (piece : Piece) {deeds : List Deed}
-    → ((profile : Profile) (behind : List ℕ) → IsPiece profile piece behind) → ((at : ℕ) → AreSaid (commands_from at piece) deeds)
+    → ((profile : Profile) (beyond : List ℕ) → IsPiece profile piece beyond) → ((at : ℕ) → AreSaid (commands_from at piece) deeds)
     → ReadsAs (spelling piece) deeds
 reads_piece piece {deeds} is said = record {
   pieces = piece ∷ [];
-  each = λ profile behind. (is profile behind, tt);
+  each = λ profile beyond. (is profile beyond, tt);
   spelled = sym (append-nil (spelling piece));
   said = λ at. rw (append-nil (commands_from at piece)) (said at);
 }
@@ -101,12 +101,12 @@ meant_more middle deeds a is m = absurd a
 
 parameters_said : (prefix : Prefix) (middle : List Parameter) (end : Parameter) {bytes : List ℕ} (deeds : List Deed) {last : Deed}
     → AreMeant prefix middle deeds → IsMeant prefix end bytes last → ((profile : Profile) → AllByRecursion (IsMiddle profile prefix) middle)
-    × ((at begin : ℕ) → AreSaid (parameter_commands prefix at begin middle end bytes) (deeds ++ last ∷ []))
-parameters_said prefix [] end [] a m = (λ profile. tt, λ at begin. (m, tt))
+    × ((at start : ℕ) → AreSaid (parameter_commands prefix at start middle end bytes) (deeds ++ last ∷ []))
+parameters_said prefix [] end [] a m = (λ profile. tt, λ at start. (m, tt))
 parameters_said prefix (parameter ∷ middle) end (deed ∷ deeds) a m =
     let rest = parameters_said prefix middle end deeds a.2 m in (
       λ profile. (a.0 profile, rest.0 profile),
-      λ at begin. let behind = begin + length (parameter_bytes parameter) in (a.1, rest.1 behind behind),
+      λ at start. let beyond = start + length (parameter_bytes parameter) in (a.1, rest.1 beyond beyond),
     )
 parameters_said prefix middle end deeds a m = absurd a
 
@@ -169,7 +169,7 @@ module _ {prefix : Prefix} {before : List ℕ} {deeds : List Deed} (r : ReadsIns
   end_inside {bytes} ends m =
       let end = number_parameter digits letter in
       let said = parameters_said prefix r.middle end deeds r.meant m in
-      let piece = reads_piece (combined prefix r.middle end bytes) (λ profile behind. (r.prefix_is, said.0 profile, ends profile))
+      let piece = reads_piece (combined prefix r.middle end bytes) (λ profile beyond. (r.prefix_is, said.0 profile, ends profile))
       (λ at. said.1 at (first_place at prefix)) in
       rw r.spelled (simp (append_assoc, append-nil) at piece)
 

@@ -83,7 +83,7 @@ tokens_read true (send digits bytes ∷ tokens) current seed (first ∷ rest) p 
     simp append_assoc (simp append_assoc at (reads_joined sent (tokens_read false tokens current first rest p.2 (omega arith))))
 tokens_read inside tokens current seed rows p few = absurd p
 
--- ---- begin and end
+-- ---- start and end
 
 -- &l, *p, *t and *r
 abbrev prefix : ℕ → ℕ → Prefix
@@ -121,8 +121,8 @@ unfolding operation_of
 end_read =
     let end : IsSetting (prefix 42 114) 67 [] 0 EndRasterResetMethod = setting (tt, refl) (lit≤ tt) refl refl refl refl in
     reads_joined (set_last (begin_inside (refl, refl)) end refl)
-    (reads_piece (control 12) (λ profile behind. (refl, refl, refl)) (λ at. ((refl, refl, refl), tt)))
+    (reads_piece (control 12) (λ profile after. (refl, refl, refl)) (λ at. ((refl, refl, refl), tt)))
 
 pub frame_read : ReadsAs frame_bytes (reset ∷ [])
 unfolding operation_of
-frame_read = reads_piece (two_character 69) (λ profile behind. (refl, refl)) (λ at. ((refl, refl, refl), tt))
+frame_read = reads_piece (two_character 69) (λ profile after. (refl, refl)) (λ at. ((refl, refl, refl), tt))

@@ -8,7 +8,7 @@ use Rattle.pcl_fonts.specs.History.{has_permanent as is_font_permanent}
 use Rattle.pcl_macros.specs.History.{has_permanent as is_macro_permanent}
 use Rattle.pcl_page.specs.Text.{header_refusal, character_refusal}
 use Rattle.pcl_page.specs.Situation.{after, blank_passed, blanks_passed, text_in}
-use Rattle.pcl_page.proofs.Names.{Dpi, Kind, MacroOpen, Asking, SheetSide, Operation, ControlMacros, DownloadCharacter, DownloadFont, PrintText, Stated, Drivers, Refusal, Value, macro_limit, operation_of, option_map, Effect, EjectMarked, Settings, defaults, font_in_use, Outcome, Said, Character, Font, font_after, Action, Keeping, Raster, ends_raster, prints, Situation, at_begin, settings_below, end_raster, turned, turned_by, taken, code_printed, codes_printed, font_now, put_back, asked_for, drawn, drawn_on, draw_refusal, unless_refused, ◌|>◌, is_ignored, prepared, after_named, counted_in_limit, page_refusal, within_page_limit, after_checked, with_lasting, at_end, Run, action_of, acted, lasting_by, after_macros, after_counted, defining, keeping_of, after_command, run_by, run_from, run_of, macro_ended, Performance, done, unless, then_on, in_order, led_to, and_run, step, commands_left, runs, end_refusal, ended, after_end, performance, performance_of}
+use Rattle.pcl_page.proofs.Names.{Dpi, Kind, MacroOpen, Asking, SheetSide, Operation, ControlMacros, DownloadCharacter, DownloadFont, PrintText, Stated, Drivers, Refusal, Value, macro_limit, operation_of, option_map, Effect, EjectMarked, Settings, defaults, font_in_use, Outcome, Said, Character, Font, font_after, Action, Keeping, Raster, ends_raster, prints, Situation, at_start, settings_below, end_raster, turned, turned_by, taken, code_printed, codes_printed, font_now, put_back, asked_for, drawn, drawn_on, draw_refusal, unless_refused, ◌|>◌, is_ignored, prepared, after_named, counted_in_limit, page_refusal, within_page_limit, after_checked, with_lasting, at_end, Run, action_of, acted, lasting_by, after_macros, after_counted, defining, keeping_of, after_command, run_by, run_from, run_of, macro_ended, Performance, done, unless, then_on, in_order, led_to, and_run, step, commands_left, runs, end_refusal, ended, after_end, performance, performance_of}
 use Rattle.pcl_page.proofs.Profiles.{IsStated, set_by_drivers, AreSetAlike, AreTakenAlike, outcome_alike}
 
 -- ---- situations by both profiles
@@ -336,7 +336,7 @@ commands_alike : (dpi : Dpi) (end : ℕ) (commands : List Said)
 commands_alike dpi end commands =
     let steps = step_alike dpi (runs macro_limit dpi commands) (macros_alike macro_limit dpi commands) in
     performed_on _ _ (after_end dpi end) (after_end dpi end)
-    (in_order_alike (step dpi (runs macro_limit dpi commands)) steps 0 commands (at_begin Stated) (refl, refl, refl))
+    (in_order_alike (step dpi (runs macro_limit dpi commands)) steps 0 commands (at_start Stated) (refl, refl, refl))
     (after_end_alike dpi end)
 
 -- commands of a job that the stated profile accepts, by the drivers' profile

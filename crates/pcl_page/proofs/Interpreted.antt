@@ -2,7 +2,7 @@
 use Rattle.std.proofs.Common.{◌≡◌, ℕ, ◌+◌, Bool, true, false, cond, List, ◌∷◌, Option, Some, None, Result, Ok, Err, refl, sym, ap, ◌∙◌, append-nil, inl, inr, rules}
 use Rattle.pcl_macros.specs.History.{MacroBody}
 use Rattle.pcl_macros.specs.Table.{places_of}
-use Rattle.pcl_page.proofs.Names.{is_some, option_map, Dpi, CallFault, Refused, Memory, JobFault, Kind, Operation, ControlMacros, Value, operation_of, Effect, Stay, Settings, kept, Outcome, Said, MacroControl, MacroEvent, control, Begun, Controls, macro_at, is_begun, Page, Performer, Interpreter, Begin, Execute, Call, Control, Run, acted, after_macros, after_counted, run_by, run_from, run_with, macro_now, IsIn, HandsMore, IsTried, EndDone, IsAt, Enters, IsStepped, IsActed, IsEntered, InterpreterEnds}
+use Rattle.pcl_page.proofs.Names.{is_some, option_map, Dpi, CallFault, Refused, Memory, JobFault, Kind, Operation, ControlMacros, Value, operation_of, Effect, Stay, Settings, kept, Outcome, Said, MacroControl, MacroEvent, control, Begun, Controls, macro_at, is_begun, Page, Performer, Interpreter, Begin, Execute, Call, Control, Run, acted, after_macros, after_counted, run_by, run_from, run_with, macro_now, IsIn, HandsMore, IsHandled, EndDone, IsAt, Enters, IsStepped, IsActed, IsEntered, InterpreterEnds}
 use Rattle.pcl_base.specs.declared.fault.JobFault.TheVariants as job
 use Rattle.pcl_env.specs.Outcome.{outcome}
 use Rattle.pcl_macros.proofs.Histories.{holds_after}
@@ -87,7 +87,7 @@ module _ {S : Type 0} (takes : S → Page → S → Type 0) (dpi : Dpi) (place :
   stepped_by old middle new sink later (Err Memory) now run t h a = inr (a.0, rw t a.1, more_of_macros now a.0 sink later a.1 h)
 
   pub counted_stepped : (operation : Operation) (old middle new : Interpreter) (sink later : S) (result : Result (Unit {0}) CallFault)
-      → IsAt dpi s old → IsTried takes dpi command s (Ok operation) middle.performer sink later
+      → IsAt dpi s old → IsHandled takes dpi command s (Ok operation) middle.performer sink later
       → middle.macros ≡ old.macros → middle.running ≡ old.running → ((t : Situation) → IsAt dpi t middle
       → IsActed dpi (after_macros place (Some operation) command.value t) (run_from (Some operation) command.value) result middle new)
       → IsStepped takes dpi (after_counted dpi place command s) runs_by s result old new sink later
@@ -96,7 +96,7 @@ module _ {S : Type 0} (takes : S → Page → S → Type 0) (dpi : Dpi) (place :
 
   -- the performer refused it, or memory ran out there
   pub counted_unchecked : (old new : Interpreter) (sink later : S) (fault : CallFault)
-      → IsTried takes dpi command s (Err fault) new.performer sink later
+      → IsHandled takes dpi command s (Err fault) new.performer sink later
       → IsStepped takes dpi (after_counted dpi place command s) runs_by s (Err fault) old new sink later
   counted_unchecked old new sink later (Refused kind) t = inl (rw t.0 refl, t.1)
   counted_unchecked old new sink later Memory t =

@@ -1,7 +1,7 @@
 -- What is drawn, text and fonts: the performer follows the situation.
 use Rattle.std.proofs.Common.{◌≡◌, ℕ, suc, ◌+◌, ◌-◌, ◌*◌, Bool, true, cond, List, ◌∷◌, Option, Some, None, unwrap_or, ℤ, pos, negsuc, refl, sym, subst, ◌∙◌, rules, arith, ◌==◌}
 use Rattle.pcl_fonts.specs.Fields.{quarter_dot}
-use Rattle.pcl_page.proofs.Names.{Dpi, Side, NoFont, Black, Said, Font, Character, FontInfo, info_of, Settings, put_x, advance, font_of, font_in_use, Performer, Printed, Mark, prints, character_mark, are_spaces, select, select_there, text_refusal, behind_character, behind_blank, Situation, raster_from, row_painted, blank_passed, code_printed, codes_printed, blanks_passed, text_in, character_at, IsIn, IsFollowed, IsDrawn, IsInked, IsAtCursor, IsLastInked, IsSent, HasSettings}
+use Rattle.pcl_page.proofs.Names.{Dpi, Side, NoFont, Black, Said, Font, Character, FontInfo, info_of, Settings, put_x, advance, font_of, font_in_use, Performer, Printed, Mark, prints, character_mark, are_spaces, select, select_there, text_refusal, after_character, after_blank, Situation, raster_from, row_painted, blank_passed, code_printed, codes_printed, blanks_passed, text_in, character_at, IsIn, IsFollowed, IsDrawn, IsInked, IsAtCursor, IsLastInked, IsSent, HasSettings}
 use Rattle.pcl_page.proofs.Turns.{still_sized, drawn_in}
 
 pub settings_in : {dpi : Dpi} {settings : Settings} {s : Situation} {old new : Performer} → IsIn dpi s old → HasSettings settings old new
@@ -29,16 +29,16 @@ cursor_drawn font old c at d = rw (at.x, at.y) at d
 pub character_printed : {dpi : Dpi} {here : Printed} {s : Situation} {old begun middle new : Performer} (font : FontInfo)
     (c : Character) (code : ℕ) → IsIn dpi s old → IsAtCursor dpi here old.environment → IsFollowed old.environment.size old begun
     → IsDrawn (character_at dpi font c here.x here.y) begun middle → middle.raster ≡ begun.raster
-    → HasSettings (behind_character font c middle.environment) middle new
+    → HasSettings (after_character font c middle.environment) middle new
     → IsIn dpi (code_printed dpi font (Some c) code s) new
 character_printed {old = old} {middle = middle} {new} font c code i at f d r h =
     let inked = rw i.settings at (drawn_in i f (cursor_drawn font old c at d) (r ∙ f.raster ∙ i.raster)) in
-    settings_in inked (subst (λ (t : Settings). HasSettings (behind_character font c t) middle new) inked.settings h)
+    settings_in inked (subst (λ (t : Settings). HasSettings (after_character font c t) middle new) inked.settings h)
 
 pub blank_passed_in : {dpi : Dpi} {s : Situation} {old new : Performer} (code : ℕ) → IsIn dpi s old
-    → HasSettings (behind_blank code old.environment) old new → IsIn dpi (blank_passed code s) new
+    → HasSettings (after_blank code old.environment) old new → IsIn dpi (blank_passed code s) new
 blank_passed_in {old = old} {new} code i h =
-    settings_in i (subst (λ (t : Settings). HasSettings (behind_blank code t) old new) i.settings h)
+    settings_in i (subst (λ (t : Settings). HasSettings (after_blank code t) old new) i.settings h)
 
 -- ---- what is inked already
 
@@ -145,7 +145,7 @@ pub record IsPassedTo (dpi : Dpi) (s : Situation) (codes rest : List ℕ) (perfo
   pub left : blanks_passed rest now ≡ blanks_passed codes s
 
 pub blank_done : {dpi : Dpi} {s : Situation} {codes rest : List ℕ} {performer later : Performer} (code : ℕ)
-    (p : IsPassedTo dpi s codes (code ∷ rest) performer) → HasSettings (behind_blank code performer.environment) performer later
+    (p : IsPassedTo dpi s codes (code ∷ rest) performer) → HasSettings (after_blank code performer.environment) performer later
     → IsPassedTo dpi s codes rest later
 blank_done code p h = record { now = blank_passed code p.now; is_in = blank_passed_in code p.is_in h; left = p.left }
 

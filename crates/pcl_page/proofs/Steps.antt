@@ -1,6 +1,6 @@
 -- The performer follows the situation, command by command.
 use Rattle.std.proofs.Common.{◌≡◌, ℕ, ◌+◌, ◌<◌, ◌≤◌, Bool, true, false, cond, nat_le, List, [], ◌∷◌, ◌++◌, length, Option, Some, None, Result, Ok, Err, refl, sym, ap, ◌∙◌, append-nil, length-append, inl, inr, arith, rules, is_some, ◌&&◌}
-use Rattle.pcl_page.proofs.Names.{nat_tests, Dpi, CallFault, Refused, Memory, Kind, TooManyPages, Operation, FillRectangle, ControlFonts, DownloadFont, DownloadCharacter, PrintText, command_limit, page_limit, operation_of, is_below_zero, Said, Effect, Stay, Settings, defaults, Outcome, stays, Page, Performer, ends_raster, is_ignored_in_raster, Shows, IsIn, IsEjected, Takes, Draws, HandsMore, IsTurned, IsTried, Asked, Asks, asks_of, lasting_if, restarted, with_page}
+use Rattle.pcl_page.proofs.Names.{nat_tests, Dpi, CallFault, Refused, Memory, Kind, TooManyPages, Operation, FillRectangle, ControlFonts, DownloadFont, DownloadCharacter, PrintText, command_limit, page_limit, operation_of, is_below_zero, Said, Effect, Stay, Settings, defaults, Outcome, stays, Page, Performer, ends_raster, is_ignored_in_raster, Shows, IsIn, IsEjected, Takes, Draws, HandsMore, IsTurned, IsHandled, Asked, Asks, asks_of, lasting_if, restarted, with_page}
 use Rattle.pcl_env.specs.Outcome.{outcome}
 use Rattle.pcl_fonts.specs.History.{has_permanent as is_font_permanent}
 use Rattle.pcl_macros.specs.History.{has_permanent as is_macro_permanent}
@@ -69,7 +69,7 @@ module _ {S : Type 0} (takes : S → Page → S → Type 0) (dpi : Dpi) (operati
   pub checked_ignored : (old new : Performer) (sink : S)
       → IsIn dpi s old → old.performed < command_limit → old.ejected ≤ page_limit → operation_of command.name ≡ Some operation
       → (is_some old.raster && is_ignored_in_raster operation) ≡ true → IsIn dpi (counted s) new
-      → IsTried takes dpi command s (Ok operation) new sink sink
+      → IsHandled takes dpi command s (Ok operation) new sink sink
   unfolding after
   checked_ignored old new sink i few fit named e now =
       let ignored : is_ignored operation s ≡ true = cc in (
@@ -107,7 +107,7 @@ module _ {S : Type 0} (takes : S → Page → S → Type 0) (dpi : Dpi) (operati
 
   -- memory ran out after the turn
   gone_short : (now : Situation) (new : Performer) (sink later : S) (why : Option Kind) → IsGone now sink later
-      → draw_refusal dpi operation command now ≡ why → IsTried takes dpi command s (Err Memory) new sink later
+      → draw_refusal dpi operation command now ≡ why → IsHandled takes dpi command s (Err Memory) new sink later
   gone_short now new sink later None g e = inr (drawn dpi operation command now, gone_drawn now g e, g.handed)
   gone_short now new sink later (Some kind) g e = inl (g.quiet kind e)
 
@@ -152,7 +152,7 @@ module _ {S : Type 0} (takes : S → Page → S → Type 0) (dpi : Dpi) (operati
         absurd cc
 
     pub refused_by : (new : Performer) (sink later : S) (o : Outcome) (fault : CallFault) → set_to ≡ o
-        → IsTurned takes dpi o before (Err fault) new sink later → IsTried takes dpi command s (Err fault) new sink later
+        → IsTurned takes dpi o before (Err fault) new sink later → IsHandled takes dpi command s (Err fault) new sink later
     refused_by new sink later None (Refused kind) is t = (rw t.0 (checked_at is), t.1)
     refused_by new sink later (Some done) (Refused kind) is t =
         let free = past_why _ is t.0 refl in
@@ -162,7 +162,7 @@ module _ {S : Type 0} (takes : S → Page → S → Type 0) (dpi : Dpi) (operati
 
     pub checked_drawn : (middle new : Performer) (sink later : S) (o : Outcome) → set_to ≡ o
         → IsTurned takes dpi o before (Ok tt) middle sink later → DrawsOn middle (Ok tt) new
-        → IsTried takes dpi command s (Ok operation) new sink later
+        → IsHandled takes dpi command s (Ok operation) new sink later
     checked_drawn middle new sink later None is t f = absurd t
     checked_drawn middle new sink later (Some done) is t f =
         let g = gone_with done sink later is t.1 t.2 in
@@ -172,7 +172,7 @@ module _ {S : Type 0} (takes : S → Page → S → Type 0) (dpi : Dpi) (operati
     -- a command that is refused where it draws
     pub checked_undrawn : (middle new : Performer) (sink later : S) (o : Outcome) (fault : CallFault) → set_to ≡ o
         → IsTurned takes dpi o before (Ok tt) middle sink later → DrawsOn middle (Err fault) new
-        → IsTried takes dpi command s (Err fault) new sink later
+        → IsHandled takes dpi command s (Err fault) new sink later
     checked_undrawn middle new sink later None fault is t f = absurd t
     checked_undrawn middle new sink later (Some done) (Refused kind) is t f =
         let g = gone_with done sink later is t.1 t.2 in

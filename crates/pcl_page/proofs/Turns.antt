@@ -1,6 +1,6 @@
 -- The performer follows the situation: rasters that end, pages that are turned, and what is drawn.
 use Rattle.std.proofs.Common.{◌≡◌, ℕ, ◌<◌, ◌≤◌, Bool, true, false, cond, nat_le, List, [], ◌∷◌, length, Option, Some, None, Result, Ok, Err, refl, sym, ◌∙◌, append-nil, length-append, arith, rules, ◌++◌}
-use Rattle.pcl_page.proofs.Names.{nat_tests, Dpi, Memory, TooManyPages, Operation, Size, Value, page_limit, Picture, Effect, Stay, Eject, EjectMarked, Unsupported, Settings, to_first_line, Outcome, outcome, Answers, Page, Performer, Asked, Mark, are_marked, Raster, ends_raster, Situation, settings_below, end_raster, is_marked, ejects, sheet_of, turned_page, prepared, page_refusal, Shows, IsPainted, IsIn, IsWhite, IsFollowed, IsEjected, IsHanded, Takes, IsPrepared, IsDrawn, HandsMore, IsTurned}
+use Rattle.pcl_page.proofs.Names.{nat_tests, Dpi, Memory, TooManyPages, Operation, Size, Value, page_limit, Picture, Effect, Stay, Eject, EjectMarked, Unsupported, Settings, to_first_line, Outcome, outcome, AnswersAs, Page, Performer, Asked, Mark, are_marked, Raster, ends_raster, Situation, settings_below, end_raster, is_marked, ejects, sheet_of, turned_page, prepared, page_refusal, Shows, IsPainted, IsIn, IsWhite, IsFollowed, IsEjected, IsHanded, Takes, IsPrepared, IsDrawn, HandsMore, IsTurned}
 use Rattle.pcl_page.proofs.Sizes.{size_kept}
 
 -- ---- pages
@@ -43,7 +43,7 @@ prepared_in {dpi} {operation} {s} {old} {new} i p =
 
 -- ---- the outcome of a command
 
-pub answered : (o : Outcome) {effect : Effect} (old : Settings) {new : Settings} → Answers o (Ok effect) old new
+pub answered : (o : Outcome) {effect : Effect} (old : Settings) {new : Settings} → AnswersAs o (Ok effect) old new
     → (done : Settings × Effect) × (o ≡ Some done) × (effect ≡ done.1) × (new ≡ done.0)
 answered None old a = let e = a.0 in absurd cc
 answered (Some done) {effect} old a = (done, refl, (let e : ◌≡◌ {A = Result Effect Unsupported} (Ok effect) (Ok done.1) = a.0 in cc), a.1)
@@ -139,7 +139,7 @@ module _ {S : Type 0} (takes : S → Page → S → Type 0) (dpi : Dpi) (operati
   comes_to = outcome dpi operation value (is_marked s) s.settings
 
   pub turned_stays : (old new : Performer) (sink later : S)
-      → IsIn dpi s old → Answers (outcome dpi operation value old.is_marked old.environment) (Ok effect) old.environment new.environment
+      → IsIn dpi s old → AnswersAs (outcome dpi operation value old.is_marked old.environment) (Ok effect) old.environment new.environment
       → ejects effect old.is_marked ≡ false → old.ejected ≤ page_limit → new.page.bitmap ≡ old.page.bitmap → new.is_marked ≡ old.is_marked
       → new.ejected ≡ old.ejected → new.performed ≡ old.performed → new.asks ≡ old.asks → new.raster ≡ old.raster
       → new.fonts ≡ old.fonts → later ≡ sink → IsTurned takes dpi comes_to s (Ok tt) new sink later
@@ -157,7 +157,7 @@ module _ {S : Type 0} (takes : S → Page → S → Type 0) (dpi : Dpi) (operati
 
   -- the settings were set, the page was handed over, and a white one began
   module _ {size : Size} {copies : ℕ} {asked : Asked} {old middle begun last : Performer} (sink later : S) (i : IsIn dpi s old)
-      (a : Answers (outcome dpi operation value old.is_marked old.environment) (Ok effect) old.environment middle.environment)
+      (a : AnswersAs (outcome dpi operation value old.is_marked old.environment) (Ok effect) old.environment middle.environment)
       (does : ejects effect old.is_marked ≡ true) (few : old.ejected < page_limit) (size_is : size ≡ old.environment.size)
       (copies_are : copies ≡ old.environment.copies) (asked_is : asked ≡ old.environment.asked) (f : IsFollowed size middle begun)
       (e : IsEjected asked begun last × Takes takes copies begun sink later)

@@ -56,7 +56,7 @@ keeping_of other value = Kept
 abbrev pub with_macro_event : MacroEvent → Situation → Situation
 with_macro_event event s = record s { macros = event ∷ s.macros }
 
--- the definition that is open ends before this place; an end without a begin is refused
+-- the definition that is open ends before this place; an end is refused where none is open
 abbrev pub definition_ended : ℕ → Option Begun → Situation → Result Situation Kind
 definition_ended place None s = Err OutOfPlace
 definition_ended place (Some d) s = Ok (record s { macros = defined d.id d.from place ∷ s.macros; begun = None })

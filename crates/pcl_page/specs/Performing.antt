@@ -14,7 +14,7 @@ use Rattle.pcl_escape.specs.Said.{Said}
 use Rattle.pcl_bitmap.specs.declared.page.Page.{Page}
 use Rattle.pcl_page.specs.Asks.{Asks}
 use Rattle.pcl_page.specs.Marks.{is_black}
-use Rattle.pcl_page.specs.Situation.{Sheet, Situation, at_begin, at_end, page_refusal}
+use Rattle.pcl_page.specs.Situation.{Sheet, Situation, at_start, at_end, page_refusal}
 use Rattle.pcl_page.specs.Macros.{Run, after_command, run_of, macro_ended}
 
 -- ---- pages handed over
@@ -104,7 +104,7 @@ after_end dpi end s = ended dpi end (end_refusal dpi s) s
 
 -- the commands of a job that is read by this profile, and then the end of the input
 abbrev pub performance : Profile → Dpi → ℕ → List Said → Performance
-performance profile dpi end commands = then_on (after_all dpi commands 0 commands (at_begin profile)) (after_end dpi end)
+performance profile dpi end commands = then_on (after_all dpi commands 0 commands (at_start profile)) (after_end dpi end)
 
 -- what was asked besides dots
 abbrev pub asks_among : Performance → Asks

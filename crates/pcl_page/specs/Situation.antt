@@ -32,7 +32,7 @@ use Rattle.pcl_macros.specs.History.{MacroEvent, has_permanent as is_macro_perma
 use Rattle.pcl_macros.specs.Table.{Begun}
 use Rattle.pcl_page.specs.Asks.{Asks, no_asks, with_page, with_exit, restarted, with_side, with_separation, lasting_if}
 use Rattle.pcl_page.specs.Marks.{Mark, are_marked, dot_at, dots_of}
-use Rattle.pcl_page.specs.Text.{control_of, select_by_id, header_refusal, character_refusal, text_refusal, prints, character_mark, behind_character, behind_blank}
+use Rattle.pcl_page.specs.Text.{control_of, select_by_id, header_refusal, character_refusal, text_refusal, prints, character_mark, after_character, after_blank}
 use Rattle.pcl_page.specs.Raster.{Raster, raster_from, skipped, row_sent, with_row, row_mark, is_ignored_in_raster, ends_raster}
 
 -- a page as the job means it, where `Page` of the code is one that was painted
@@ -56,8 +56,8 @@ pub record Situation : Type 0 where
   pub performed : ℕ
 
 -- before the first command of a job that is read by this profile
-abbrev pub at_begin : Profile → Situation
-at_begin profile = record {
+abbrev pub at_start : Profile → Situation
+at_start profile = record {
   settings = defaults profile;
   raster = None;
   fonts = [];
@@ -179,13 +179,13 @@ font_now s = option_and_then (font_after s.fonts) (font_in_use s.settings)
 
 -- a code that prints no character: a space moves the cursor
 abbrev pub blank_passed : ℕ → Situation → Situation
-blank_passed code s = record s { settings = behind_blank code s.settings }
+blank_passed code s = record s { settings = after_blank code s.settings }
 
 -- one code in a font: the character that it prints marks the page at the cursor, which goes on
 abbrev pub code_printed : Dpi → FontInfo → Option Character → ℕ → Situation → Situation
 code_printed dpi font None code s = blank_passed code s
 code_printed dpi font (Some c) code s =
-    record s { settings = behind_character font c s.settings; marks = character_mark dpi font c s.settings ∷ s.marks }
+    record s { settings = after_character font c s.settings; marks = character_mark dpi font c s.settings ∷ s.marks }
 
 -- codes, by the characters that they print
 abbrev pub codes_printed : Dpi → FontInfo → (ℕ → Option Character) → List ℕ → Situation → Situation

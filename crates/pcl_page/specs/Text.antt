@@ -86,9 +86,9 @@ character_mark dpi font c s = record {
 }
 
 -- the cursor after a character: in a proportional font each has an advance of its own
-abbrev pub behind_character : FontInfo → Character → Settings → Settings
-behind_character font c s = advance (if font.proportional then c.delta *ℤ pos (quarter_dot font.resolution) else pos s.hmi) s
+abbrev pub after_character : FontInfo → Character → Settings → Settings
+after_character font c s = advance (if font.proportional then c.delta *ℤ pos (quarter_dot font.resolution) else pos s.hmi) s
 
 -- the cursor after a code that prints no character
-abbrev pub behind_blank : ℕ → Settings → Settings
-behind_blank code s = if code == 32 then advance (pos s.hmi) s else s
+abbrev pub after_blank : ℕ → Settings → Settings
+after_blank code s = if code == 32 then advance (pos s.hmi) s else s

@@ -47,7 +47,7 @@ impl<'a> Interpreter<'a> {
     ghost use Rattle.pcl_macros.specs.Table.{is_begun, macro_at};
     ghost use Rattle.pcl_page.specs.Performing.{performance};
     ghost use Rattle.pcl_page.specs.Delivering.{HandsOver};
-    ghost use Rattle.pcl_page.specs.Situation.{Situation, at_begin};
+    ghost use Rattle.pcl_page.specs.Situation.{Situation, at_start};
     ghost use Rattle.pcl_page.specs.Macros.{action_of, keeping_of, lasting_by, acted, after_macros, after_counted, after_command, run_by, run_from, run_of, run_with, macro_ended};
     ghost use Rattle.pcl_page.specs.inner.Reflecting.{EndDone};
     ghost use Rattle.pcl_page.specs.inner.Unfolding.{IsAt, IsSomewhere, resumed, begun_among, work_left, GoesOn, IsStepped, IsActed, IsEntered, InterpreterEnds, IsAsking};
@@ -59,7 +59,7 @@ impl<'a> Interpreter<'a> {
         dpi: Dpi,
         doubts: Doubts,
     ) -> Result<Interpreter<'a>, AllocError>
-        ensures { IfOk result (λ interpreter. IsAt dpi (at_begin profile) interpreter × (interpreter.running.items ≡ [])) }
+        ensures { IfOk result (λ interpreter. IsAt dpi (at_start profile) interpreter × (interpreter.running.items ≡ [])) }
     {
         Ok(Interpreter {
             performer: Performer::new(alloc, profile, dpi, doubts)?,
@@ -76,7 +76,7 @@ impl<'a> Interpreter<'a> {
         dpi: Dpi,
         sink: &mut S,
     ) -> Result<(), JobFault>
-        requires begin { IsAt dpi (at_begin self.old.performer.environment.profile) self.old }
+        requires begin { IsAt dpi (at_start self.old.performer.environment.profile) self.old }
         requires idle { self.old.running.items ≡ [] }
         ensures { HandsOver S.takes dpi (performance self.old.performer.environment.profile dpi end (L.commands commands.now))
             result sink.old sink.new

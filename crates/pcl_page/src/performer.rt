@@ -58,7 +58,7 @@ impl<'a> Performer<'a> {
     ghost use Rattle.pcl_escape.specs.Said.{Said, view};
     ghost use Rattle.pcl_env.specs.Offset.{lie_together};
     ghost use Rattle.pcl_env.specs.Outcome.{outcome};
-    ghost use Rattle.pcl_page.specs.Situation.{Situation, at_begin, is_marked, drawn, draw_refusal, asked_for, ink_of, filled_with, rectangle_mark, exited, put_back, with_lasting};
+    ghost use Rattle.pcl_page.specs.Situation.{Situation, at_start, is_marked, drawn, draw_refusal, asked_for, ink_of, filled_with, rectangle_mark, exited, put_back, with_lasting};
     ghost use Rattle.pcl_page.specs.Macros.{macro_ended};
     ghost use Rattle.std.specs.Prelude.{List};
     ghost use Rattle.pcl_fonts.specs.History.{FontEvent, has_permanent};
@@ -66,7 +66,7 @@ impl<'a> Performer<'a> {
     ghost use Rattle.pcl_macros.specs.History.{has_permanent as is_kept};
     ghost use Rattle.pcl_page.specs.Asks.{asks_of, restarted, with_separation, lasting_if};
     ghost use Rattle.pcl_bitmap.specs.declared.page.Page.{Page};
-    ghost use Rattle.pcl_page.specs.inner.Reflecting.{IsIn, IsPrepared, HasRaster, Takes, IsFollowed, IsEjected, IsDrawn, Draws, IsSent, IsTurned, IsTried, EndDone};
+    ghost use Rattle.pcl_page.specs.inner.Reflecting.{IsIn, IsPrepared, HasRaster, Takes, IsFollowed, IsEjected, IsDrawn, Draws, IsSent, IsTurned, IsHandled, EndDone};
 
     /// The start of a job that is read by this profile: a white page, and the defaults.
     pub fn new(
@@ -75,7 +75,7 @@ impl<'a> Performer<'a> {
         dpi: Dpi,
         doubts: Doubts,
     ) -> Result<Performer<'a>, AllocError>
-        ensures { IfOk result (λ performer. IsIn dpi (at_begin profile) performer) }
+        ensures { IfOk result (λ performer. IsIn dpi (at_start profile) performer) }
     {
         let environment = Env::new(profile);
         let page = Page {
@@ -106,7 +106,7 @@ impl<'a> Performer<'a> {
         dpi: Dpi,
         sink: &mut S,
     ) -> Result<Operation, CallFault>
-        ensures { (s : Situation) → IsIn dpi s self.old → IsTried S.takes dpi (view command.now) s result self.new sink.old sink.new }
+        ensures { (s : Situation) → IsIn dpi s self.old → IsHandled S.takes dpi (view command.now) s result self.new sink.old sink.new }
     {
         if self.performed >= COMMAND_LIMIT {
             return Err(CallFault::Refused(Kind::TooManyCommands));

@@ -24,7 +24,7 @@ impl<'a> Performer<'a> {
     ghost use Rattle.pcl_env.specs.Settings.{font_in_use};
     ghost use Rattle.pcl_fonts.specs.Fields.{info_of};
     ghost use Rattle.pcl_fonts.specs.Table.{character_in};
-    ghost use Rattle.pcl_page.specs.Text.{prints, text_refusal, behind_character, behind_blank};
+    ghost use Rattle.pcl_page.specs.Text.{prints, text_refusal, after_character, after_blank};
     ghost use Rattle.pcl_page.specs.Situation.{Situation, font_now, text_in, code_printed, codes_printed, blank_passed, blanks_passed};
     ghost use Rattle.pcl_page.specs.inner.Reflecting.{character_at, IsIn, IsDrawn, IsInked, IsAtCursor, HasSettings, Draws};
 
@@ -156,7 +156,7 @@ impl<'a> Performer<'a> {
 
     /// Moves on after a character of the font.
     fn pass_glyph(&mut self, glyph: &Glyph<'a>, font: FontInfo, dpi: Dpi)
-        ensures { HasSettings (behind_character font (character_in glyph.now) self.old.environment) self.old self.new }
+        ensures { HasSettings (after_character font (character_in glyph.now) self.old.environment) self.old self.new }
     {
         self.doubts
             .note_character(glyph, font, &self.environment, dpi);
@@ -170,7 +170,7 @@ impl<'a> Performer<'a> {
 
     /// Moves on where the code is a space, since it prints no character.
     fn pass_blank(&mut self, code: u8)
-        ensures { HasSettings (behind_blank code self.old.environment) self.old self.new }
+        ensures { HasSettings (after_blank code self.old.environment) self.old self.new }
     {
         self.doubts.note_blank(code == SPACE, &self.environment);
         if code == SPACE {

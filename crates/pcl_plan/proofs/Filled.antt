@@ -70,16 +70,16 @@ pub record IsPut (old new : List RowNumbers) (row : ℕ) (numbers : RowNumbers) 
 
 module _ {width : ℕ} {rows : List (List ℕ)} {old new : List RowNumbers} {row : ℕ} {numbers : RowNumbers} (put : IsPut old new row numbers)
     (right : AreRightFrom width rows old (row + 1)) where
-  stays_behind : (behind : ℕ) → row < behind → behind ≤ length rows → IsRowRight width rows (node_number new) behind
-  stays_behind behind lt within = row_stays (λ a le. put.others a (λ same. omega arith)) (right.right behind (omega arith) within)
+  stays_after : (after : ℕ) → row < after → after ≤ length rows → IsRowRight width rows (node_number new) after
+  stays_after after lt within = row_stays (λ a le. put.others a (λ same. omega arith)) (right.right after (omega arith) within)
 
   right_more : IsRowRight width rows (node_number new) row → AreRightFrom width rows new row
   right_more here = record {
     size = put.size ∙ right.size;
-    right = λ behind from within.
-        elim (cases_lt row behind) [
-          | inl lt ↦ stays_behind behind lt within
-          | inr le ↦ (let same : row ≡ behind = omega arith in subst (IsRowRight width rows (node_number new)) same here)
+    right = λ after from within.
+        elim (cases_lt row after) [
+          | inl lt ↦ stays_after after lt within
+          | inr le ↦ (let same : row ≡ after = omega arith in subst (IsRowRight width rows (node_number new)) same here)
         ];
   }
 
@@ -95,7 +95,7 @@ module _ {width : ℕ} {rows : List (List ℕ)} {old new : List RowNumbers} {row
         placed = put.changed;
         switched = are.switched;
         are_direct = λ method. direct_stays (λ a below. put.others a (λ same. omega arith)) (are.are_direct method);
-        later = stays_behind;
+        later = stays_after;
       }))
 
 -- where the rest is white
@@ -110,7 +110,7 @@ put_white {rows} {row} lt put right white =
     let below = rw (drop_more rows row [] lt) at white in
     right_more put right
     (white_row_right white (put_end put)
-    (λ method inside. (stays_behind put right (row + 1) (omega arith) (omega arith)).ends
+    (λ method inside. (stays_after put right (row + 1) (omega arith) (omega arith)).ends
     (node (row + 1) method false) refl (refl, below.1)))
 
 -- after all rows
@@ -118,8 +118,8 @@ pub put_last : {width : ℕ} {rows : List (List ℕ)} {old new : List RowNumbers
     → IsPut old new row end_numbers → drop row rows ≡ [] → AreRightFrom width rows new row
 put_last {width} {rows} {new} {row} e size put none = record {
   size = put.size ∙ size;
-  right = λ behind from within.
-      let same : row ≡ behind = omega arith in
+  right = λ after from within.
+      let same : row ≡ after = omega arith in
       subst (IsRowRight width rows (node_number new)) same
       (white_row_right (rw none tt) (put_end put) (λ method inside. absurd (omega arith)));
 }

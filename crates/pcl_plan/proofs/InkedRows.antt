@@ -14,7 +14,7 @@ pub record IsInkedRow (width : ℕ) (rows : List (List ℕ)) (number : Node → 
   pub placed : (current : Method) (is_open : Bool) → number (node row current is_open) ≡ number_in numbers current is_open
   pub switched : IsSwitched direct numbers
   pub are_direct : (current : Method) → IsDirect width rows number row current (direct current)
-  pub later : (behind : ℕ) → row < behind → behind ≤ length rows → IsRowRight width rows number behind
+  pub later : (after : ℕ) → row < after → after ≤ length rows → IsRowRight width rows number after
 
 -- a token that leads to where a walk begins
 pub walk_more : (width : ℕ) {rows : List (List ℕ)} {a b : Node} (token : Token) {n m : ℕ} → Leads width rows a token b
@@ -42,7 +42,7 @@ module _ {width : ℕ} {rows : List (List ℕ)} {number : Node → ℕ} {row : �
   steps_from current true (skip digits count ends) b l =
       let costs = skip_costs width rows (node row current true) b digits count ends is.few l in
       let skipped = (is.are_direct current).skipped count (l.2, l.3, l.4) in
-      let behind = rest_below number (row + count) current (not ends) in
+      let after = rest_below number (row + count) current (not ends) in
       omega (arith, is.placed current true, is.switched.stays current, ap number l.5)
   steps_from current true (send digits bytes) b l =
       let d = is.are_direct current in
@@ -71,8 +71,8 @@ module _ {width : ℕ} {rows : List (List ℕ)} {number : Node → ℕ} {row : �
             let can = skipped.1 in
             let best = best_end number (row + count) current in
             let s = skip_leads width rows row current best.0 is.few can in
-            let behind = is.later (row + count) (omega (arith, can.0)) can.1 in
-            walk_more width (skip_token count best.0) s.0 (behind.attained (node (row + count) current (not best.0)) refl)
+            let after = is.later (row + count) (omega (arith, can.0)) can.1 in
+            walk_more width (skip_token count best.0) s.0 (after.attained (node (row + count) current (not best.0)) refl)
             (omega (arith, skipped.2, s.1, best.1))
       ]
 
@@ -114,7 +114,7 @@ module _ {width : ℕ} {rows : List (List ℕ)} {number : Node → ℕ} {row : �
   small_from : (current : Method) (is_open : Bool) → number (node row current is_open) ≤ 65544 * (length rows - row) + 1
   small_from current is_open =
       let d = is.are_direct current in
-      let behind = next_right.small (node (row + 1) current false) refl in
+      let after = next_right.small (node (row + 1) current false) refl in
       let cost_small = row_cost_small d.bytes (length_small d.is_length) in
       let low : inside number row current ≤ 65544 * (length rows - row) - 2 =
       omega (arith, is.placed current true, is.switched.stays current, d.sent, is.inside_page) in

@@ -1,6 +1,6 @@
 -- The steps that were read so far, and what comes after them, are a walk of least cost.
 use Rattle.std.proofs.Common.{◌≡◌, ℕ, ◌+◌, ◌<◌, ◌≤◌, Bool, true, false, List, [], ◌∷◌, ◌++◌, length, refl, sym, ap, subst, arith, append_assoc}
-use Rattle.pcl_plan.proofs.Names.{not, false_from_ne_true, append-nil, Method, Walk, total, RowNumbers, Step, Skip, Switch, Row, Node, Token, start, Leads, Ends, cost, stays_inside, row_after, method_after, least_spelling, row_cost, node_number, outside, inside, rest, IsTokenOf, opened, is_last, IsBestStep, IsNextNode, AreLeastSteps, node, cost_opening, cost_some}
+use Rattle.pcl_plan.proofs.Names.{not, false_from_ne_true, append-nil, Method, Walk, total, RowNumbers, Step, Skip, Switch, Row, Node, Token, start, Leads, Ends, cost, stays_inside, row_after, method_after, least_spelling, row_cost, node_number, outside, inside, rest, IsTokenOf, opened, none_follow, IsBestStep, IsNextNode, AreLeastSteps, node, cost_opening, cost_some}
 use Rattle.pcl_plan.specs.Plans.{Spells}
 use Rattle.pcl_plan.proofs.LeastTokens.{switch_token, skip_token, row_token, switch_leads, skip_leads, row_leads}
 use Rattle.pcl_plan.proofs.Reading.{IsRightTable, opens, ends}
@@ -26,18 +26,18 @@ pub record IsReadTo (width : ℕ) (rows : List (List ℕ)) (table : List RowNumb
   pub within : at.row ≤ length rows
   pub inked : 0 < node_number table at → 0 < outside (node_number table) at.row at.method
   pub tokens : List Token
-  pub goes_on : (more : List Step) (behind : List Token) → (node_number table at ≡ 0 → more ≡ [])
-      → (0 < node_number table at → is_last more ≡ false)
-      → Spells at.inside more behind → Walk (Leads width rows) (Ends rows) at behind → total cost behind ≡ node_number table at
-      → Spells false (steps ++ more) (tokens ++ behind) × Walk (Leads width rows) (Ends rows) start (tokens ++ behind)
-      × (total cost (tokens ++ behind) ≡ node_number table start)
+  pub goes_on : (more : List Step) (after : List Token) → (node_number table at ≡ 0 → more ≡ [])
+      → (0 < node_number table at → none_follow more ≡ false)
+      → Spells at.inside more after → Walk (Leads width rows) (Ends rows) at after → total cost after ≡ node_number table at
+      → Spells false (steps ++ more) (tokens ++ after) × Walk (Leads width rows) (Ends rows) start (tokens ++ after)
+      × (total cost (tokens ++ after) ≡ node_number table start)
 
 -- at the last step it makes no difference whether a sequence is open
-pub spells_any : {one two : Bool} (more : List Step) (behind : List Token) → (is_last more ≡ false → one ≡ two) → Spells one more behind
-    → Spells two more behind
+pub spells_any : {one two : Bool} (more : List Step) (after : List Token) → (none_follow more ≡ false → one ≡ two) → Spells one more after
+    → Spells two more after
 unfolding Spells
-spells_any [] behind same s = s
-spells_any (step ∷ more) behind same s = subst (λ (o : Bool). Spells o (step ∷ more) behind) (same refl) s
+spells_any [] after same s = s
+spells_any (step ∷ more) after same s = subst (λ (o : Bool). Spells o (step ∷ more) after) (same refl) s
 
 pub opened_more : (is_open : Bool) (token : Token) (tail : List Token) → opened is_open (token ∷ tail) ≡ opened is_open (token ∷ []) ++ tail
 opened_more is_open token tail = grind arith
@@ -104,39 +104,39 @@ module _ {width : ℕ} {rows : List (List ℕ)} {table : List RowNumbers} (is : 
   inside_below row current is_open within some = grind (arith, opens is current within some)
 
   -- a step that isn't a row ends its sequence where no other follows
-  followed : {row : ℕ} {current : Method} {behind : Node} {step : Step} {more : List Step} → behind.row ≤ length rows
-      → IsNextNode (node_number table) row current step behind → (node_number table behind ≡ 0 → more ≡ [])
-      → (0 < node_number table behind → is_last more ≡ false) → stays_inside step ≡ true → not behind.inside ≡ is_last more
-  followed {behind} within p none some stays =
-      let zero = λ (closed : behind.inside ≡ false). ap (λ (i : Bool). node_number table (node behind.row behind.method i)) closed in
-      grind (arith, zero, p.ends, none, some, ends is behind within)
+  followed : {row : ℕ} {current : Method} {after : Node} {step : Step} {more : List Step} → after.row ≤ length rows
+      → IsNextNode (node_number table) row current step after → (node_number table after ≡ 0 → more ≡ [])
+      → (0 < node_number table after → none_follow more ≡ false) → stays_inside step ≡ true → not after.inside ≡ none_follow more
+  followed {after} within p none some stays =
+      let zero = λ (closed : after.inside ≡ false). ap (λ (i : Bool). node_number table (node after.row after.method i)) closed in
+      grind (arith, zero, p.ends, none, some, ends is after within)
 
-  pub read_more : {steps : List Step} {at behind : Node} {step : Step} → IsReadTo width rows table steps at → 0 < node_number table at
-      → IsBestStep width rows (node_number table) at.row at.method step → IsNextNode (node_number table) at.row at.method step behind
-      → IsReadTo width rows table (steps ++ step ∷ []) behind
+  pub read_more : {steps : List Step} {at after : Node} {step : Step} → IsReadTo width rows table steps at → 0 < node_number table at
+      → IsBestStep width rows (node_number table) at.row at.method step → IsNextNode (node_number table) at.row at.method step after
+      → IsReadTo width rows table (steps ++ step ∷ []) after
   unfolding Spells
-  read_more {steps} {at} {behind} {step} r some best p =
+  read_more {steps} {at} {after} {step} r some best p =
       let next = next_is step r.within best p in
-      let zero = λ (closed : behind.inside ≡ false). ap (λ (i : Bool). node_number table (node behind.row behind.method i)) closed in
+      let zero = λ (closed : after.inside ≡ false). ap (λ (i : Bool). node_number table (node after.row after.method i)) closed in
       record {
         within = next.within;
         inked = λ left. grind (arith, left, p.goes_on, zero);
         tokens = r.tokens ++ opened at.inside (next.token ∷ []);
         goes_on = λ more tail none others spells walk t.
             let f = followed next.within p none others in
-            let o = opened_walk at.method at.inside (next.token ∷ tail) r.within (r.inked some) (behind, next.leads, walk)
+            let o = opened_walk at.method at.inside (next.token ∷ tail) r.within (r.inked some) (after, next.leads, walk)
             (omega (arith, t, next.number_is)) in
             let spelled = append_assoc r.tokens (opened at.inside (next.token ∷ [])) tail in
             rw (append_assoc steps (step ∷ []) more, spelled, ← opened_more at.inside next.token tail)
             (r.goes_on (step ∷ more) (opened at.inside (next.token ∷ tail)) (λ zero. absurd (omega (arith, zero, some))) (λ _. refl)
-            (next.token, tail, next.is_of (is_last more) f, refl, spells_any more tail (λ others. grind (arith, f, p.goes_on)) spells)
+            (next.token, tail, next.is_of (none_follow more) f, refl, spells_any more tail (λ others. grind (arith, f, p.goes_on)) spells)
             o.0 o.1);
       }
 
   -- the measure of reading
-  pub read_less : {steps : List Step} {at behind : Node} {step : Step} → IsReadTo width rows table steps at → 0 < node_number table at
-      → IsBestStep width rows (node_number table) at.row at.method step → IsNextNode (node_number table) at.row at.method step behind
-      → node_number table behind < node_number table at
+  pub read_less : {steps : List Step} {at after : Node} {step : Step} → IsReadTo width rows table steps at → 0 < node_number table at
+      → IsBestStep width rows (node_number table) at.row at.method step → IsNextNode (node_number table) at.row at.method step after
+      → node_number table after < node_number table at
   read_less {at} {step} r some best p =
       let next = next_is step r.within best p in
       omega (arith, next.number_is, cost_some next.token, inside_below at.row at.method at.inside r.within (r.inked some))

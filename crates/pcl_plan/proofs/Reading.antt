@@ -58,11 +58,11 @@ module _ {width : ℕ} {rows : List (List ℕ)} {table : List RowNumbers} (is : 
   begins_with {row} {current} (method digits next ends ∷ es) w t no_skip no_switch =
       let costs = switch_costs width rows (node row current true) w.0 digits next ends w.1 in
       let below = switch_below width rows (node_number table) row current (steps (node row current true)) next in
-      let behind = rest_below (node_number table) row next (not ends) in
+      let after = rest_below (node_number table) row next (not ends) in
       absurd (no_switch next (omega (arith, t, bounds w.0 es w.2, ap (node_number table) w.1.2)))
   begins_with {row} {current} (skip digits count ends ∷ es) w t no_skip no_switch =
       let costs = skip_costs width rows (node row current true) w.0 digits count ends (omega (arith, is.few)) w.1 in
-      let behind = rest_below (node_number table) (row + count) current (not ends) in
+      let after = rest_below (node_number table) (row + count) current (not ends) in
       absurd (omega (arith, t, bounds w.0 es w.2, ap (node_number table) w.1.5, no_skip count (w.1.2, w.1.3, w.1.4)))
   begins_with {row} {current} (send digits bytes ∷ es) w t no_skip no_switch =
       let costs = row_costs width rows (node row current true) w.0 digits bytes w.1 in
@@ -124,7 +124,7 @@ module _ {width : ℕ} {rows : List (List ℕ)} {table : List RowNumbers} (is : 
   readable_run {row} current {run} some white =
       let nothing = (row_right row (omega (arith, white.within))).ends (node row current false) refl in
       readable width rows table row run is.few
-      (record { size = is.right.size; right = λ behind from within. row_right behind within }) white
+      (record { size = is.right.size; right = λ after from within. row_right after within }) white
       (grind (arith, some, λ (past : length rows ≤ row + run). nothing (refl, white_to_end white (omega (arith, white.within)))))
 
   pub small_number : (a : Node) → a.row ≤ length rows → node_number table a ≤ 655374457

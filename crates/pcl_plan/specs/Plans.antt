@@ -28,15 +28,15 @@ abbrev pub opened : Bool → List Token → List Token
 opened true tokens = tokens
 opened false tokens = opening ∷ tokens
 
-abbrev pub is_last : List Step → Bool
-is_last [] = true
-is_last (step ∷ steps) = false
+abbrev pub none_follow : List Step → Bool
+none_follow [] = true
+none_follow (step ∷ steps) = false
 
 -- tokens that spell steps, from inside a sequence or from outside: the last step ends its sequence too
 unfoldable pub Spells : Bool → List Step → List Token → Type 0
 Spells inside [] tokens = tokens ≡ []
 Spells inside (step ∷ steps) tokens =
-    (token : Token) × (rest : List Token) × IsTokenOf step (is_last steps) token × (tokens ≡ opened inside (token ∷ rest))
+    (token : Token) × (rest : List Token) × IsTokenOf step (none_follow steps) token × (tokens ≡ opened inside (token ∷ rest))
     × Spells (stays_inside step) steps rest
 
 -- ---- plans

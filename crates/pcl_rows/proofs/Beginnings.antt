@@ -43,23 +43,23 @@ head_without_new h e = grind arith
 
 module _ (bytes : List ℕ) (h : Head) (room count : ℕ) (some : 0 < length bytes) (begins : Begins bytes (head_bytes h))
     (room-is : room ≡ length bytes - length (head_bytes h)) (count-is : count ≡ min (new_count h) room) where
-  abbrev behind : List ℕ
-  behind = drop (length (head_bytes h)) bytes
+  abbrev beyond : List ℕ
+  beyond = drop (length (head_bytes h)) bytes
 
-  size : length behind ≡ room
+  size : length beyond ≡ room
   size = length-drop (length (head_bytes h)) bytes ∙ sym room-is
 
   pub front_parts : (whole : Bool) → eqb count (new_count h) ≡ whole
-      → MatchBool whole (IsWholeFront bytes h (take count behind) (drop count behind))
-      (IsCutFront bytes h (take count behind) (drop count behind))
+      → MatchBool whole (IsWholeFront bytes h (take count beyond) (drop count beyond))
+      (IsCutFront bytes h (take count beyond) (drop count beyond))
   front_parts true e =
       let all : count ≡ new_count h = eqb-true count (new_count h) e in
       let long : length (head_bytes h) ≤ length bytes = grind (arith, head_without_new h) in
       let joined = Begins-after bytes (head_bytes h) begins in
       let none : begins.0 ≡ [] = nil_from_length begins.0
-      (omega (arith, ap length joined, length-append bytes begins.0, length-append (head_bytes h) behind, size)) in
+      (omega (arith, ap length joined, length-append bytes begins.0, length-append (head_bytes h) beyond, size)) in
       record {
-        complete = length-take-le count behind (omega (arith, size)) ∙ all;
+        complete = length-take-le count beyond (omega (arith, size)) ∙ all;
         joined = rw (append_assoc, take-append-drop) (rw (none, append-nil) at joined);
       }
   front_parts false e =
@@ -67,13 +67,13 @@ module _ (bytes : List ℕ) (h : Head) (room count : ℕ) (some : 0 < length byt
       let pad : List ℕ = replicate (new_count h - room) 0 in
       let pad_size : length pad ≡ new_count h - room = length-replicate (new_count h - room) 0 in
       record {
-        padding = behind ++ pad;
+        padding = beyond ++ pad;
         missing = begins.0 ++ pad;
-        complete = omega (arith, length-append behind pad, size);
-        lacking = cc (Begins-after bytes (head_bytes h) begins, append_assoc bytes begins.0 pad, append_assoc (head_bytes h) behind pad);
+        complete = omega (arith, length-append beyond pad, size);
+        lacking = cc (Begins-after bytes (head_bytes h) begins, append_assoc bytes begins.0 pad, append_assoc (head_bytes h) beyond pad);
         lacks = omega (arith, length-append begins.0 pad);
-        new_is = take_all count behind (omega (arith, size));
-        rest_is = drop_all count behind (omega (arith, size));
+        new_is = take_all count beyond (omega (arith, size));
+        rest_is = drop_all count beyond (omega (arith, size));
       }
 
 -- the same, by the parts that are read

@@ -3,7 +3,7 @@ use Rattle.std.proofs.Common.{◌≡◌, ℕ, zero, suc, ◌+◌, ◌*◌, ◌%�
 use Rattle.pcl_rows.proofs.Names.{flat_map, cases_lt, take-append-le, take_at, drop_at, take_all, drop_all, take-append-drop, length-replicate, drop-nil, Method, Head, Far, method_of, IsInRange, head_bytes, new_count, offset_of, Element, IsElement, element_bytes, given_by, IsHead, base, after_element, IsCutIntoElements, treated, Decodes, Front, further}
 use Rattle.pcl_rows.specs.Decoding.{treated_by, decoded}
 use Rattle.pcl_rows.proofs.Readings.{after_none}
-use Rattle.pcl_rows.proofs.Spellings.{first_of, front_at, element_at, behind_shorter}
+use Rattle.pcl_rows.proofs.Spellings.{first_of, front_at, element_at, shorter_after}
 
 -- ---- the front of cut data
 
@@ -86,7 +86,7 @@ treated_is n [] {cut = cut} {shown = shown} old r fits =
     rw (r.joined, ← r.element.head_is.method_is)
     (treated_cut n shown r.lacking.0 old is r.lacking.1 r.lacking.2 (omega (arith, ap length r.joined)))
 treated_is zero (e ∷ es) {shown = shown} old r fits =
-    absurd (omega (arith, behind_shorter (flat_map element_bytes es ++ shown) r.elements.0 (r.joined ∙ simp append_assoc)))
+    absurd (omega (arith, shorter_after (flat_map element_bytes es ++ shown) r.elements.0 (r.joined ∙ simp append_assoc)))
 treated_is (suc n) (e ∷ es) {method} {bytes} {cut} {shown} old r fits =
     let more = flat_map element_bytes es ++ shown in
     let is = r.elements.0 in
@@ -95,7 +95,7 @@ treated_is (suc n) (e ∷ es) {method} {bytes} {cut} {shown} old r fits =
     let joined : bytes ≡ element_bytes e ++ more = r.joined ∙ simp append_assoc in
     treated_step n method bytes old (element_at more is joined)
     ∙ rw (treated_is n es (drop (offset_of e.head + length (given_by e.head e.bytes)) old) rest
-    (omega (arith, behind_shorter more is joined)))
+    (omega (arith, shorter_after more is joined)))
 
 -- the row that Decodes holds of is the one that is computed
 pub decoded_is : (method : Method) (seed bytes row : List ℕ) → Decodes method seed bytes row → row ≡ decoded method seed bytes

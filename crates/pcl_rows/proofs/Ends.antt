@@ -75,13 +75,13 @@ has_reading method (suc most) (byte ∷ bytes) old few small =
     let h = has_head method byte bytes small in
     let room : ℕ = length (byte ∷ bytes) - length (head_bytes h.0) in
     let count : ℕ = min (new_count h.0) room in
-    let behind : List ℕ = drop (length (head_bytes h.0)) (byte ∷ bytes) in
+    let after : List ℕ = drop (length (head_bytes h.0)) (byte ∷ bytes) in
     let parts = front_parts (byte ∷ bytes) h.0 room count (omega arith) h.2 refl refl (eqb count (new_count h.0)) refl in
-    let front : IsFront method (byte ∷ bytes) (offset_of h.0) (copies_of h.0) (take count behind) (drop count behind)
+    let front : IsFront method (byte ∷ bytes) (offset_of h.0) (copies_of h.0) (take count after) (drop count after)
     (eqb count (new_count h.0)) = record { head = h.0; head_is = h.1; offset_is = refl; copies_is = refl; parts = parts } in
     let shorter = rest_shorter (omega arith) front in
-    let rest = has_reading method most (drop count behind) _ (omega arith) (after_front _ front small) in
-    (_, Fills-cons (take count behind) old _ h.1 parts rest.1)
+    let rest = has_reading method most (drop count after) _ (omega arith) (after_front _ front small) in
+    (_, Fills-cons (take count after) old _ h.1 parts rest.1)
 
 -- ---- the row's end
 

@@ -32,9 +32,9 @@ pub pair_more : {bytes old : List ℕ} (row : List ℕ) {pair place count : ℕ}
 pair_more {bytes} {old} row {pair} {place} {count} size within lt small count-is row-is place-is so_far =
     let at : ℕ = 2 * pair in
     let byte : ℕ = slice_index bytes (at + 1) in
-    let behind : List ℕ = drop (2 * (pair + 1)) bytes in
+    let after : List ℕ = drop (2 * (pair + 1)) bytes in
     let next : at + 1 + 1 ≡ 2 * (pair + 1) = omega arith in
-    let two : drop at bytes ≡ count ∷ byte ∷ behind =
+    let two : drop at bytes ≡ count ∷ byte ∷ after =
     cc (drop_more bytes at 0 (omega arith), drop_more bytes (at + 1) 0 (omega arith), next, count-is) in
     treated_more row {start = place} size within (omega arith) (pair_front (omega arith))
     (rw append-nil row-is) (rw (append-nil, length-replicate) place-is) (rw two at so_far)

@@ -2,7 +2,7 @@
 use Rattle.std.proofs.Common.{◌≡◌, ℕ, zero, suc, ◌+◌, ◌-◌, ◌*◌, ◌<◌, ◌≤◌, ◌↔◌, min, Bool, true, false, List, [], ◌∷◌, ◌++◌, length, take, drop, replicate, refl, sym, ap, ◌∙◌, append_assoc, add-zero, arith, zero-add}
 use Rattle.pcl_rows.proofs.Names.{MatchBool, flat_map, take-add, drop-nil, take_min, drop_min, take-append-drop, length-append, drop-drop, take_all, length-copied, Method, Plain, Runs, Packed, Delta, Head, Itself, Count, Skipped, Near, head_bytes, copies_of, offset_of, Element, IsHead, IsElement, AreElements, element_bytes, given_by, reach, after_element, base, IsCutIntoElements, treated, RowFrom, Decodes, IsWhole, IsWholeFront, IsCutFront, IsFront, IsPastSkipped, overlaid, one-add, Front}
 use Rattle.pcl_rows.proofs.Overlays.{drop-overlaid, take-overlaid}
-use Rattle.pcl_rows.proofs.Spellings.{element_at, behind_shorter, spelling_has_byte, cut_is_not_whole}
+use Rattle.pcl_rows.proofs.Spellings.{element_at, shorter_after, spelling_has_byte, cut_is_not_whole}
 
 -- what data makes of untreated bytes, before what lies past the row is dropped
 pub record Fills (method : Method) (bytes old row : List ℕ) : Type 0 where
@@ -44,7 +44,7 @@ none_is_nothing : {method : Method} (whole : List Element) {cut : Element} {show
     → IsCutIntoElements method [] whole cut shown → treated whole cut shown old ≡ old
 none_is_nothing [] {cut} {old = old} r = after_none cut.head old (rw (← r.joined) (drop-nil (length (head_bytes cut.head))))
 none_is_nothing (e ∷ es) {shown = shown} r =
-    absurd (omega (arith, behind_shorter (flat_map element_bytes es ++ shown) r.elements.0 (r.joined ∙ simp append_assoc)))
+    absurd (omega (arith, shorter_after (flat_map element_bytes es ++ shown) r.elements.0 (r.joined ∙ simp append_assoc)))
 
 -- what an element gives, and then the rest
 abbrev pub with_front : Head → List ℕ → List ℕ → List ℕ → List ℕ
@@ -123,13 +123,13 @@ treated_more row {place} {start} {new = new} {whole = whole} {row' = row'} {plac
     let end = rw front.copies_is at place-is in
     let inside : start ≤ length row = omega arith in
     let begin : start ≡ min (place + offset_of h) (length row) = omega (arith, front.offset_is) in
-    let behind : drop place' row' ≡ drop (offset_of h + length g) (drop place row) =
+    let after : drop place' row' ≡ drop (offset_of h + length g) (drop place row) =
     rw (laid, end, drop-overlaid row g inside, ← drop-drop (length g) start row, begin, drop_min)
     (rw (← drop-drop (offset_of h) place row, ← drop-drop (length g) (offset_of h) (drop place row))) in
     let before : take place row ++ with_front h new (drop place row) made ≡ take start row ++ (g ++ made) =
     rw (begin, take_min, take-add, append_assoc) in
     let r = so_far (with_front h new (drop place row) made)
-    (Fills-cons new (drop place row) whole front.head_is front.parts (rw behind at f)) in
+    (Fills-cons new (drop place row) whole front.head_is front.parts (rw after at f)) in
     (r.0, r.1, cc (r.2, take-overlaid row g made inside))
 
 -- controls that give nothing stand before data that makes the row
@@ -165,7 +165,7 @@ treated_none made f = (made, f, refl)
 front_has_byte : {method : Method} {bytes : List ℕ} {h : Head} {new rest : List ℕ} → IsHead method h → IsWholeFront bytes h new rest
     → length rest < length bytes
 front_has_byte {h = h} {new} {rest} is front =
-    behind_shorter {e = record { head = h; bytes = new }} rest (record { head_is = is; complete = front.complete }) front.joined
+    shorter_after {e = record { head = h; bytes = new }} rest (record { head_is = is; complete = front.complete }) front.joined
 
 -- a whole element, and then whole data
 pub whole_cons : {method : Method} {bytes : List ℕ} {h : Head} {new rest : List ℕ} {room : ℕ} → IsHead method h

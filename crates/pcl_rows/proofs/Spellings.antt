@@ -8,12 +8,12 @@ first_of method [] = record { offset = 0; given = []; rest = [] }
 first_of method (byte ∷ bytes) = front_of method byte bytes
 
 -- an offset that goes on
-further_at : (full offset count : ℕ) {last : ℕ} (behind : List ℕ) → last < 255
-    → further offset count (replicate full 255 ++ last ∷ behind) ≡ literal (offset + 255 * full + last) count behind
-further_at zero offset count {last} behind lt = let other : (last == 255) ≡ false = grind (arith, nat_tests) in rw (other, add-zero)
-further_at (suc full) offset count {last} behind lt =
+further_at : (full offset count : ℕ) {last : ℕ} (after : List ℕ) → last < 255
+    → further offset count (replicate full 255 ++ last ∷ after) ≡ literal (offset + 255 * full + last) count after
+further_at zero offset count {last} after lt = let other : (last == 255) ≡ false = grind (arith, nat_tests) in rw (other, add-zero)
+further_at (suc full) offset count {last} after lt =
     let place : (offset + 255) + 255 * full + last ≡ offset + 255 * suc full + last = omega arith in
-    further_at full (offset + 255) count behind lt ∙ ap (λ (n : ℕ). literal n count behind) place
+    further_at full (offset + 255) count after lt ∙ ap (λ (n : ℕ). literal n count after) place
 
 -- data that begins with a whole head: its new bytes follow, as many as there are
 pub front_at : (head : Head) (tail : List ℕ) → IsInRange head → first_of (method_of head) (head_bytes head ++ tail)
@@ -53,9 +53,9 @@ pub spelling_has_byte : (method : Method) (e : Element) → IsElement method e �
 spelling_has_byte method e p = omega (arith, length-append (head_bytes e.head) e.bytes, p.complete, head_needs_byte e.head)
 
 -- after an element are fewer bytes
-pub behind_shorter : {e : Element} (more : List ℕ) {bytes : List ℕ} {method : Method} → IsElement method e → bytes ≡ element_bytes e ++ more
+pub shorter_after : {e : Element} (more : List ℕ) {bytes : List ℕ} {method : Method} → IsElement method e → bytes ≡ element_bytes e ++ more
     → length more < length bytes
-behind_shorter {e} more {method} is joined =
+shorter_after {e} more {method} is joined =
     omega (arith, ap length joined, length-append (element_bytes e) more, spelling_has_byte method e is)
 
 -- bytes that an element lacks are no whole element

@@ -32,8 +32,8 @@ impl<'a> Front<'a> {
         let opening = Opening::read(method, bytes);
         let room = bytes.len().saturating_sub(opening.len);
         let count = opening.new_count.min(room);
-        let (_, behind) = bytes.split_at(bytes.len() - room);
-        let (new, rest) = behind.split_at(count);
+        let (_, after) = bytes.split_at(bytes.len() - room);
+        let (new, rest) = after.split_at(count);
         Front {
             offset: opening.offset,
             copies: opening.copies,

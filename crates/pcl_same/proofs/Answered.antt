@@ -1,6 +1,6 @@
 -- What is found of kept pages is so of the pages of the jobs.
 use Rattle.std.proofs.Common.{◌≡◌, ℕ, ◌+◌, ◌<◌, List, [], ◌∷◌, ◌++◌, length, drop, Option, Some, None, refl, ap, sym, ◌∙◌, arith}
-use Rattle.pcl_same.proofs.Names.{Profile, AllByRecursion, Dpi, page_width, page_height, Picture, dot, Page, AreAlike, AllAlike, Asks, asks_of, HasPagesBy, HasAsksBy, is_black, Shows, Sheet, AskedComparison, Difference, Size, Copies, Dot, PagesDifference, KeptJob, KeptPage, Compare, of_pages, CompareAsks, IsComparisonCounting, as_counted, IsFirstDot, DifferBy, DifferFirst, KeepAll, PagesDiffer, FindAll, IsAlike, IsConcluded, comparison_of, IsKept}
+use Rattle.pcl_same.proofs.Names.{Profile, AllByRecursion, Dpi, page_width, page_height, Picture, dot, Page, AreAlike, AllAlike, Asks, asks_of, HasPagesBy, HasAsksBy, is_black, Shows, Sheet, AskedComparison, Difference, Size, Copies, Dot, PagesDifference, KeptJob, KeptPage, Compare, of_pages, CompareAsks, IsComparisonCounting, as_counted, IsFirstDot, DifferBy, DifferFirst, KeepAll, PagesDiffer, FindAll, IsAlike, PagesDifferBy, comparison_of, IsKept}
 use Rattle.pcl_same.specs.declared.comparison.PagesDifference.TheVariants as difference
 use Rattle.pcl_same.proofs.AskedPages.{OnePages, asked_pages}
 use Rattle.pcl_same.proofs.OneAnswer.{alike_count}
@@ -94,7 +94,7 @@ module _ (dpi : Dpi) where
 -- ---- the jobs
 
 pub compared_so : (dpi : Dpi) (pages : List Sheet) (kept : List KeptPage) (others : List Sheet) (found : List (Option Difference))
-    (result : Option PagesDifference) → KeepAll dpi pages kept → FindAll dpi kept others found → IsConcluded (length kept) found result
+    (result : Option PagesDifference) → KeepAll dpi pages kept → FindAll dpi kept others found → PagesDifferBy (length kept) found result
     → Compare dpi pages others (comparison_of result)
 compared_so dpi pages kept others found None k f is = all_alike dpi pages kept others found k f is.0 is.1
 compared_so dpi pages kept others found (Some (difference.Count count other_count)) k f is =
@@ -110,7 +110,7 @@ pub beside_kept : {last : LastExit} {profile : Profile} → OnePages profile
     → {dpi : Dpi} {first second : List ℕ} {kept : KeptJob} {others : List Sheet} {other_asks : Asks}
     → (k : IsKept profile dpi first kept) → HasPagesBy profile dpi second others → HasAsksBy profile dpi second other_asks
     → (difference : Option PagesDifference) (found : List (Option Difference)) → FindAll dpi kept.pages.items others found
-    → IsConcluded (length kept.pages.items) found difference → (result : AskedComparison) → of_pages result ≡ comparison_of difference
+    → PagesDifferBy (length kept.pages.items) found difference → (result : AskedComparison) → of_pages result ≡ comparison_of difference
     → ((difference ≡ None → length kept.asks.pages.items ≡ length other_asks.pages) → kept.asks.next ≡ other_asks.next
     → CompareAsks (as_counted last (asks_of kept.asks)) (as_counted last other_asks) result)
     → IsComparisonCounting last profile dpi first second result

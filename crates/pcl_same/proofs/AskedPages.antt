@@ -1,6 +1,6 @@
 -- Each page of a job was asked with something.
 use Rattle.std.proofs.Common.{◌≡◌, ℕ, List, length, refl, ap, arith}
-use Rattle.pcl_same.proofs.Names.{Profile, rest_grows, at_begin, Dpi, Asks, HasPagesBy, HasAsksBy, performance_of, pages_of, Sheet}
+use Rattle.pcl_same.proofs.Names.{Profile, rest_grows, at_start, Dpi, Asks, HasPagesBy, HasAsksBy, performance_of, pages_of, Sheet}
 
 -- a job has one list of pages
 abbrev pub OnePages : Profile → Type 0
@@ -15,6 +15,6 @@ asked_pages {profile} one {dpi} {job} {pages} meaning asked =
     let whole = performance_of profile dpi job asked.commands in
     let again : HasPagesBy profile dpi job (pages_of whole) =
     record { commands = asked.commands; reading = asked.reading; accepted = asked.accepted; ejected = refl } in
-    let grown = rest_grows dpi (length job) asked.commands 0 asked.commands (at_begin profile) in
+    let grown = rest_grows dpi (length job) asked.commands 0 asked.commands (at_start profile) in
     let same = one dpi job (pages_of whole) pages again meaning in
     omega (arith, ap (λ (a : Asks). length a.pages) asked.asked, grown.2, ap length grown.1, ap length same)

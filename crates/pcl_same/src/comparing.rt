@@ -5,7 +5,7 @@ ghost use Rattle.pcl_page.specs.Asks.{asks_of};
 ghost use Rattle.pcl_same.specs.Comparing.{of_pages, CompareAsks};
 ghost use Rattle.pcl_same.specs.DifferingAsks.{as_counted};
 ghost use Rattle.pcl_same.specs.Keeping.{IsKept, IsComparedBeside, IsCountedBeside};
-ghost use Rattle.pcl_same.specs.inner.Pages.{IsFound, IsConcluded, comparison_of};
+ghost use Rattle.pcl_same.specs.inner.Pages.{IsFound, PagesDifferBy, comparison_of};
 
 use crate::asking::{LastExit, asks_difference};
 use crate::keeping::{KeptJob, KeptPage};
@@ -27,11 +27,11 @@ pub fn compare_kept(
 ) -> Result<AskedComparison, JobFault>
     ensures { (first : List ℕ) → IsKept profile dpi first kept.now → IsComparedBeside profile dpi first job.now result }
 {
-    compare_counting(alloc, kept, job, profile, dpi, LastExit::Counts)
+    compare_by_last_exit(alloc, kept, job, profile, dpi, LastExit::Counts)
 }
 
 /// The same, where a last universal exit without lines counts so.
-pub fn compare_counting(
+pub fn compare_by_last_exit(
     alloc: Global,
     kept: &KeptJob<'_>,
     job: &[u8],
@@ -73,7 +73,7 @@ fn conclude(
 
 /// How a number of pages differ from others, by what was found of each of these.
 fn pages_difference(count: usize, found: &[Option<Difference>]) -> Option<PagesDifference>
-    ensures { IsConcluded count found.now result }
+    ensures { PagesDifferBy count found.now result }
 {
     if found.len() != count {
         return Some(PagesDifference::Count {

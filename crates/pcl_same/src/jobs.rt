@@ -6,7 +6,7 @@ ghost use Rattle.pcl_same.specs.Comparing.{AreReadBy, IsCompared, IsComparedAske
 ghost use Rattle.pcl_same.specs.declared.asking.LastExit.TheVariants.{Ends};
 
 use crate::asking::LastExit;
-use crate::comparing::compare_counting;
+use crate::comparing::compare_by_last_exit;
 use crate::keeping::keep_job;
 use crate::{AskedComparison, PageComparison, SameFault, Which};
 use pcl_base::{Dpi, Profile};
@@ -80,7 +80,7 @@ fn same_by(
         Ok(kept) => kept,
         Err(fault) => return Err(SameFault::of(Which::First, fault)),
     };
-    match compare_counting(alloc, &kept, second, profile, dpi, LastExit::Ends) {
+    match compare_by_last_exit(alloc, &kept, second, profile, dpi, LastExit::Ends) {
         Ok(comparison) => Ok(comparison),
         Err(fault) => Err(SameFault::of(Which::Second, fault)),
     }

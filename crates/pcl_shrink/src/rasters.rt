@@ -137,7 +137,7 @@ fn coarse_text(alloc: Global, page: &Page, side: u32) -> Result<Vec<u8>, AllocEr
     Ok(text)
 }
 
-/// What stands in a page text behind the start of its raster, which ends with the first `A`.
+/// What stands in a page text after the start of its raster, which ends with the first `A`.
 fn rows_of_text(text: &[u8]) -> &[u8] {
     let start = match text.iter().position(|byte| *byte == b'A') {
         Some(place) => place.saturating_add(1).min(text.len()),

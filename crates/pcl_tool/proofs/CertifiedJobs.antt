@@ -17,24 +17,24 @@ proved_length dpi sheets texts proofs p = absurd (omega (arith, p.0))
 -- ---- texts that are cut at the same place
 
 -- what stands after pages and texts that are proved
-proved_behind : {dpi : Dpi} (before : List Sheet) {sheet : Sheet} (behind : List Sheet) (proofs_before : List PageProof) (proof : PageProof)
-    (proofs_behind : List PageProof) {texts : List ℕ} (texts_before : List ℕ) {rest : List ℕ}
+proved_after : {dpi : Dpi} (before : List Sheet) {sheet : Sheet} (after : List Sheet) (proofs_before : List PageProof) (proof : PageProof)
+    (proofs_after : List PageProof) {texts : List ℕ} (texts_before : List ℕ) {rest : List ℕ}
     → AreProved dpi before texts_before proofs_before
-    → texts ≡ texts_before ++ rest → AreProved dpi (before ++ sheet ∷ behind) texts (proofs_before ++ proof ∷ proofs_behind)
-    → AreProved dpi (sheet ∷ behind) rest (proof ∷ proofs_behind)
-proved_behind [] behind [] proof proofs_behind texts_before none e p = rw (e, none.1) at p
-proved_behind (first ∷ before) behind (one ∷ proofs_before) proof proofs_behind texts_before {rest} b e p =
+    → texts ≡ texts_before ++ rest → AreProved dpi (before ++ sheet ∷ after) texts (proofs_before ++ proof ∷ proofs_after)
+    → AreProved dpi (sheet ∷ after) rest (proof ∷ proofs_after)
+proved_after [] after [] proof proofs_after texts_before none e p = rw (e, none.1) at p
+proved_after (first ∷ before) after (one ∷ proofs_before) proof proofs_after texts_before {rest} b e p =
     let these = p.1 in
     let those = b.1 in
     let whole : these.0 ++ these.1 ≡ those.0 ++ (those.1 ++ rest) = rw (← these.3, e, those.3, append_assoc) in
     let cut = same_fronts these.0 those.0 (these.2.as_long ∙ sym those.2.as_long) whole in
-    proved_behind before behind proofs_before proof proofs_behind those.1 (omega (arith, b.0), those.4) cut.1 (omega (arith, p.0), these.4)
-proved_behind before behind proofs_before proof proofs_behind texts_before none e p = absurd (omega (arith, none.0))
+    proved_after before after proofs_before proof proofs_after those.1 (omega (arith, b.0), those.4) cut.1 (omega (arith, p.0), these.4)
+proved_after before after proofs_before proof proofs_after texts_before none e p = absurd (omega (arith, none.0))
 
 none_fails : {dpi : Dpi} {pages : List Sheet} {texts : List ℕ} {proofs : List PageProof} {number : ℕ} {verdict : Verdict}
     → AreProved dpi pages texts proofs → IsFirstFailure dpi pages texts proofs number verdict → ⊥
 none_fails {verdict} p f =
-    let here = (proved_behind f.pages_before f.pages_behind f.proofs_before f.proof f.proofs_behind f.texts_before f.proved_before
+    let here = (proved_after f.pages_before f.pages_after f.proofs_before f.proof f.proofs_after f.texts_before f.proved_before
     f.texts_are (rw (f.pages_are, f.proofs_are) at p)).1 in
     let is = here.2 in
     let cut = same_fronts f.text here.0 (f.answered.as_long ∙ sym is.as_long) here.3 in

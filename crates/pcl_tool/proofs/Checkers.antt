@@ -61,9 +61,9 @@ module _ (dpi : Dpi) where
 
   -- the first page that isn't proved
   fails_first : {sheets : List Sheet} {texts : List ℕ} {proofs : List PageProof} {number : ℕ} {verdict : Verdict}
-      (pages_before : List Sheet) (sheet : Sheet) (pages_behind : List Sheet) (proofs_before : List PageProof) (proof : PageProof)
-      (proofs_behind : List PageProof) (texts_before text texts_behind : List ℕ) → sheets ≡ pages_before ++ sheet ∷ pages_behind
-      → proofs ≡ proofs_before ++ proof ∷ proofs_behind → texts ≡ texts_before ++ (text ++ texts_behind)
+      (pages_before : List Sheet) (sheet : Sheet) (pages_after : List Sheet) (proofs_before : List PageProof) (proof : PageProof)
+      (proofs_after : List PageProof) (texts_before text texts_after : List ℕ) → sheets ≡ pages_before ++ sheet ∷ pages_after
+      → proofs ≡ proofs_before ++ proof ∷ proofs_after → texts ≡ texts_before ++ (text ++ texts_after)
       → AreProved dpi pages_before texts_before proofs_before → number ≡ length pages_before + 1
       → IsAnswered dpi sheet text proof verdict → (verdict ≡ verdicts.Proved → ⊥) → IsFirstFailure dpi sheets texts proofs number verdict
   fails_first _ _ _ _ _ _ _ _ _ pages_are proofs_are texts_are before counted answered other = search
@@ -71,26 +71,26 @@ module _ (dpi : Dpi) where
   module _ (sheet : Sheet) (sheets : List Sheet) (texts text rest : List ℕ) (proof : PageProof) (proofs : List PageProof) (taken : ℕ)
       (e : texts ≡ text ++ rest) where
     -- after a page that is proved
-    behind : (found : JobVerdict) → IsAnswered dpi sheet text proof verdicts.Proved → IsOutcome sheets rest proofs (taken + 1) found
+    after : (found : JobVerdict) → IsAnswered dpi sheet text proof verdicts.Proved → IsOutcome sheets rest proofs (taken + 1) found
         → IsOutcome (sheet ∷ sheets) texts (proof ∷ proofs) taken found
-    behind job.Proved p o = (omega (arith, o.0), (text, rest, p, e, o.1))
-    behind (job.Page place verdict) p o =
+    after job.Proved p o = (omega (arith, o.0), (text, rest, p, e, o.1))
+    after (job.Page place verdict) p o =
         let f = o.2 in (
           o.0 + 1,
           omega (arith, o.1),
-          fails_first (sheet ∷ f.pages_before) f.sheet f.pages_behind (proof ∷ f.proofs_before) f.proof f.proofs_behind
-              (text ++ f.texts_before) f.text f.texts_behind (rw f.pages_are) (rw f.proofs_are) (rw (e, f.texts_are, append_assoc))
+          fails_first (sheet ∷ f.pages_before) f.sheet f.pages_after (proof ∷ f.proofs_before) f.proof f.proofs_after
+              (text ++ f.texts_before) f.text f.texts_after (rw f.pages_are) (rw f.proofs_are) (rw (e, f.texts_are, append_assoc))
               (omega (arith, f.proved_before.0), (text, f.texts_before, p, refl, f.proved_before.1)) (omega (arith, f.counted))
               f.answered f.not_proved,
         )
-    behind found p o = absurd o
+    after found p o = absurd o
 
     -- by what is found of the first page: what becomes of the later ones where it is proved, and that it stays where it isn't
     at_page : (page : Page) (found last : JobVerdict) → IsFound page text proof (taken + 1) found → Shows dpi page sheet
         → length text ≡ proof.text_len → (found ≡ job.Proved → IsOutcome sheets rest proofs (taken + 1) last)
         → ((found ≡ job.Proved → ⊥) → last ≡ found) → IsOutcome (sheet ∷ sheets) texts (proof ∷ proofs) taken last
     at_page page job.Proved last is shows long follows keeps =
-        behind last (record { page = page; shows = shows; as_long = long; verdict_is = is }) (follows refl)
+        after last (record { page = page; shows = shows; as_long = long; verdict_is = is }) (follows refl)
     at_page page (job.Page place verdict) last is shows long follows keeps =
         rw (keeps (λ (p : job.Page place verdict ≡ job.Proved). cc)) (
           1,

@@ -1,5 +1,5 @@
 -- What the checker of a job answers after the last page.
-use Rattle.pcl_tool.proofs.Names.{cases_eq, Dpi, Sheet, Hands, HasPages, CertFault, Format, PageProof, Fails, certificate_at, JobVerdict, Checker, AreCompared, IsFramed, IsJobVerdict, BeginsWith, IsBegun, TakesPage, proofs_left, answer}
+use Rattle.pcl_tool.proofs.Names.{cases_eq, Dpi, Sheet, Hands, HasPages, CertFault, Format, PageProof, FailsAs, certificate_at, JobVerdict, Checker, AreCompared, IsFramed, IsJobVerdict, BeginsWith, IsNewChecker, TakesPage, proofs_left, answer}
 use Rattle.std.proofs.Common.{◌≡◌, ℕ, inl, inr, List, length, refl, arith, Ok}
 use Rattle.pcl_cert.specs.declared.fault.CertFault.TheVariants.{Memory}
 use Rattle.pcl_tool.specs.declared.job_verdict.JobVerdict.TheVariants as job
@@ -28,7 +28,7 @@ of_begin output compared begun new found f e n b same h = absurd b
 -- the answer of a checker that has taken the pages of an accepted job
 pub job_answered : {dpi : Dpi} {input output : List ℕ} (certificate : List ℕ) {format : Format} {proofs : List PageProof}
     {pages : List Sheet} {begun : Checker} (new : Checker) → HasPages dpi input pages
-    → certificate_at dpi certificate ≡ Ok (format, proofs) → IsBegun output proofs begun
+    → certificate_at dpi certificate ≡ Ok (format, proofs) → IsNewChecker output proofs begun
     → Hands TakesPage dpi pages begun new → IsJobVerdict dpi input output certificate (answer (proofs_left new) new.found)
 job_answered {dpi} {input} {output} certificate {format} {proofs} {pages} {begun} new meaning certified b h =
     let compared : AreCompared dpi input certificate =
@@ -43,7 +43,7 @@ job_answered {dpi} {input} {output} certificate {format} {proofs} {pages} {begun
 
 -- the answer where the certificate is none
 pub certificate_refused : {dpi : Dpi} {input : List ℕ} (output certificate : List ℕ) (fault : CertFault) {pages : List Sheet}
-    → (fault ≡ Memory → ⊥) → HasPages dpi input pages → Fails fault (certificate_at dpi certificate)
+    → (fault ≡ Memory → ⊥) → HasPages dpi input pages → FailsAs fault (certificate_at dpi certificate)
     → IsJobVerdict dpi input output certificate (job.Certificate fault)
 certificate_refused output certificate Memory other meaning e = absurd (other refl)
 certificate_refused output certificate fault {pages} other meaning e = (pages, meaning, e)

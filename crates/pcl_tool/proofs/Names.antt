@@ -10,7 +10,7 @@ pub use Rattle.pcl_plan.proofs.Names.{IsPlanOf, StepsAndTable}
 pub use Rattle.pcl_plan.proofs.{Planned.table_of_plan}
 pub use Rattle.pcl_writer.proofs.Names.{IsWrittenPage}
 pub use Rattle.pcl_check.proofs.Names.{IsGoodNumber, IsGoodPlace, IsLeastOfRow}
-pub use Rattle.pcl_cert.proofs.Names.{AreLeastOf, Fails, HasLeastLists, IsProof, IsVerdict, Tables, certificate_at, certificate_bytes, list_of, number_at_place, proof_in, table_of}
+pub use Rattle.pcl_cert.proofs.Names.{AreLeastOf, FailsAs, HasLeastLists, IsProof, IsVerdict, Tables, certificate_at, certificate_bytes, list_of, number_at_place, proof_in, table_of}
 pub use Rattle.pcl_cert.proofs.{PagesSpelled.certificate_again, ProvedLeast.proved_least, TablesProved.table_certified, TablesProved.table_proved}
 pub use Rattle.pcl_cert.specs.declared.{check.Verdict.Verdict, check.Verdict.TheVariants.Edge, check.Verdict.TheVariants.Length, check.Verdict.TheVariants.NotGrammar, check.Verdict.TheVariants.OtherPage, check.Verdict.TheVariants.Place, check.Verdict.TheVariants.Proved, check.Verdict.TheVariants.Rows, fault.CertFault.CertFault, format.Format.Format, format.Format.TheVariants.One, format.Format.TheVariants.Two, page_proof.PageProof.PageProof}
 pub use Rattle.pcl_meaning.proofs.{Jobs.job_fits, SamePages.AreSame, SamePages.least_job, SamePages.moved, SamePages.pages_same}
@@ -20,4 +20,4 @@ pub use Rattle.pcl_preview.specs.{Image.IsImageWritten, PageImages.IsPagesPrevie
 pub use Rattle.pcl_streams.specs.{JobFaults.RefusedOrMemory, JobFaults.fault_of, Transfer.AppendsFront, Transfer.IsReadAll, Transfer.IsWritten, Watching.HasTaken}
 pub use Rattle.pcl_streams.specs.declared.{fault.Fault.Fault, fault.Fault.TheVariants.CertificateTooLong, fault.Fault.TheVariants.Memory, fault.Fault.TheVariants.ReadFault, fault.Fault.TheVariants.Refused, fault.Fault.TheVariants.TooLong, fault.Fault.TheVariants.WriteFault}
 pub use Rattle.pcl_tool.specs.declared.{job_verdict.JobVerdict.JobVerdict, minimizing.Output.Output, page_checks.Checker.Checker}
-pub use Rattle.pcl_tool.specs.inner.{CheckerSteps.BeginsWith, CheckerSteps.FindsNext, CheckerSteps.IsBegun, CheckerSteps.TakesPage, CheckerSteps.answer, CheckerSteps.proofs_left, PageChecks.IsFound, WrittenJobs.IsOutput, WrittenJobs.IsProvedIn, WrittenJobs.Proves, WrittenJobs.SoFar, WrittenJobs.TakesText}
+pub use Rattle.pcl_tool.specs.inner.{CheckerSteps.BeginsWith, CheckerSteps.FindsNext, CheckerSteps.IsNewChecker, CheckerSteps.TakesPage, CheckerSteps.answer, CheckerSteps.proofs_left, PageChecks.IsFound, WrittenJobs.IsOutput, WrittenJobs.IsProvedIn, WrittenJobs.Proves, WrittenJobs.SoFar, WrittenJobs.TakesText}

@@ -4,7 +4,7 @@ use Rattle.std.proofs.Common.{◌≡◌, ℕ, ◌+◌, ◌^◌, ◌<◌, List, [
 use Rattle.pcl_tool.proofs.Names.{AllByRecursion, append-nil, length-append, Dpi, JobFault, Page, Sheet, Shows, Hands, IsRefusal, HasPages, frame_bytes, IsPlanOf, StepsAndTable, table_of_plan, IsWrittenPage, Format, One, Two, PageProof, IsProof, certificate_bytes, proof_in, HasLeastLists, AreLeastOf, table_proved, table_certified, PrintEach, job_fits, AreProved, IsAnswered, Fault, Output, fault_of, RefusedOrMemory, HasTaken, SoFar, IsOutput, IsProvedIn, Proves, TakesText}
 use Rattle.pcl_base.specs.declared.fault.JobFault.TheVariants.{Refused, Memory}
 use Rattle.pcl_base.specs.declared.profile.Profile.TheVariants.{Stated}
-use Rattle.pcl_tool.specs.inner.WrittenJobs.{IsBegun}
+use Rattle.pcl_tool.specs.inner.WrittenJobs.{CertifiesNoPage}
 use Rattle.pcl_meaning.proofs.WrittenJobs.{job_of_texts}
 use Rattle.pcl_tool.proofs.LeastTexts.{written_job}
 
@@ -37,7 +37,7 @@ proof_said Two is = refl
 -- what proves page texts of all sheets is appended to the certificate of some pages before
 pub record ProofsGathered (dpi : Dpi) (format : Format) (sheets : List Sheet) (texts old new : List ℕ) : Type 0 where
   pub proofs : List PageProof
-  pub behind : (before : List PageProof) → length before + length proofs < 2 ^ 32
+  pub after : (before : List PageProof) → length before + length proofs < 2 ^ 32
       → old ≡ certificate_bytes format before → new ≡ certificate_bytes format (before ++ proofs)
   pub can_be_said : AllByRecursion (IsProof dpi format) proofs
   pub proved : AreProved dpi sheets texts proofs
@@ -49,7 +49,7 @@ AreProvedIn dpi (Some format) sheets texts old new = ProofsGathered dpi format s
 none_proved : (dpi : Dpi) (format : Option Format) (certificate : List ℕ) → AreProvedIn dpi format [] [] certificate certificate
 none_proved dpi None certificate = tt
 none_proved dpi (Some format) certificate =
-    record { proofs = []; behind = λ before few is. rw append-nil is; can_be_said = tt; proved = (refl, refl) }
+    record { proofs = []; after = λ before few is. rw append-nil is; can_be_said = tt; proved = (refl, refl) }
 
 one_more_proved : {dpi : Dpi} (format : Option Format) {page : Page} {sheet : Sheet} (sheets : List Sheet) (text texts : List ℕ)
     (old mid new : List ℕ) → Shows dpi page sheet → IsProvedIn format page text old mid → AreProvedIn dpi format sheets texts mid new
@@ -57,8 +57,8 @@ one_more_proved : {dpi : Dpi} (format : Option Format) {page : Page} {sheet : Sh
 one_more_proved None sheets text texts old mid new shows one rest = tt
 one_more_proved {dpi} (Some format) {page} {sheet} sheets text texts old mid new shows one rest = record {
   proofs = one.proof ∷ rest.proofs;
-  behind = λ before few is. rw (← append_assoc before (one.proof ∷ []) rest.proofs)
-      (rest.behind _ (omega (arith, length-append before (one.proof ∷ []))) (one.certificate before (omega arith) is));
+  after = λ before few is. rw (← append_assoc before (one.proof ∷ []) rest.proofs)
+      (rest.after _ (omega (arith, length-append before (one.proof ∷ []))) (one.certificate before (omega arith) is));
   can_be_said = (rw shows.resolution at one.proves.can_be_said, rest.can_be_said);
   proved =
       let is : IsAnswered dpi sheet text one.proof verdicts.Proved =
@@ -101,7 +101,7 @@ pub not_written : (dpi : Dpi) (job : List ℕ) (format : Option Format) (fault :
 not_written dpi job format fault came = grind arith
 
 pub written_output : {dpi : Dpi} {job : List ℕ} (format : Option Format) (output : Output) {pages : List Sheet} (old new : SoFar)
-    → HasPages dpi job pages → old.format ≡ format → old.bytes ≡ frame_bytes → IsBegun format old.certificate
+    → HasPages dpi job pages → old.format ≡ format → old.bytes ≡ frame_bytes → CertifiesNoPage format old.certificate
     → Hands TakesText dpi pages old new → output.job.items ≡ new.bytes ++ frame_bytes → output.certificate.items ≡ new.certificate
     → IsOutput dpi job format (Ok output)
 unfolding job_of_texts
@@ -119,7 +119,7 @@ written_output {dpi} {job} (Some format) output {pages} old new meaning same ope
       certified = record {
         proofs = p.proofs;
         can_be_said = (few, p.can_be_said);
-        spelled = whole ∙ p.behind [] (omega (arith, few)) none;
+        spelled = whole ∙ p.after [] (omega (arith, few)) none;
         proved = p.proved;
       };
     }

@@ -45,16 +45,16 @@ pub record IsFirstFailure (dpi : Dpi) (pages : List Sheet) (texts : List ℕ) (p
     : Type 0 where
   pub pages_before : List Sheet
   pub sheet : Sheet
-  pub pages_behind : List Sheet
-  pub pages_are : pages ≡ pages_before ++ sheet ∷ pages_behind
+  pub pages_after : List Sheet
+  pub pages_are : pages ≡ pages_before ++ sheet ∷ pages_after
   pub proofs_before : List PageProof
   pub proof : PageProof
-  pub proofs_behind : List PageProof
-  pub proofs_are : proofs ≡ proofs_before ++ proof ∷ proofs_behind
+  pub proofs_after : List PageProof
+  pub proofs_are : proofs ≡ proofs_before ++ proof ∷ proofs_after
   pub texts_before : List ℕ
   pub text : List ℕ
-  pub texts_behind : List ℕ
-  pub texts_are : texts ≡ texts_before ++ (text ++ texts_behind)
+  pub texts_after : List ℕ
+  pub texts_are : texts ≡ texts_before ++ (text ++ texts_after)
   pub proved_before : AreProved dpi pages_before texts_before proofs_before
   pub counted : number ≡ length pages_before + 1
   pub answered : IsAnswered dpi sheet text proof verdict

@@ -2,7 +2,7 @@
 
 ghost use Rattle.std.specs.Prelude.{◌≡◌, ℕ, List, Ok};
 ghost use Rattle.pcl_cert.specs.declared.format.Format.{Format};
-ghost use Rattle.pcl_cert.specs.ReadingCertificates.{Fails, certificate_at};
+ghost use Rattle.pcl_cert.specs.ReadingCertificates.{FailsAs, certificate_at};
 ghost use Rattle.pcl_tool.specs.JobVerdicts.{IsChecked};
 
 use crate::JobVerdict;
@@ -53,7 +53,7 @@ fn check_fault<P: Watcher>(
     dpi: Dpi,
     watcher: P,
 ) -> Result<JobVerdict, Fault>
-    ensures { (output certificate : List ℕ) → Fails fault (certificate_at dpi certificate)
+    ensures { (output certificate : List ℕ) → FailsAs fault (certificate_at dpi certificate)
         → IsChecked dpi input.now output certificate result }
 {
     match fault {

@@ -3,7 +3,7 @@
 ghost use Rattle.std.specs.Prelude.{IfOk};
 ghost use Rattle.pcl_tool.specs.Minimizing.{IsMinimized, IsFiltered, IsFilteredCert, IsOutputWritten};
 ghost use Rattle.pcl_tool.specs.Writing.{IsJobWritten};
-ghost use Rattle.pcl_tool.specs.inner.WrittenJobs.{IsBegun, IsOutput};
+ghost use Rattle.pcl_tool.specs.inner.WrittenJobs.{CertifiesNoPage, IsOutput};
 
 use crate::written_job::WrittenJob;
 use pcl_base::{Dpi, INPUT_LIMIT};
@@ -87,7 +87,7 @@ fn write_again<P: Watcher>(
 
 /// The certificate of no page, or nothing where none is wanted.
 fn begun_certificate(alloc: Global, format: Option<Format>) -> Result<Vec<u8>, AllocError>
-    ensures { IfOk result (λ certificate. IsBegun format certificate.items) }
+    ensures { IfOk result (λ certificate. CertifiesNoPage format certificate.items) }
 {
     let mut certificate = Vec::new(alloc);
     if let Some(format) = format {

@@ -29,11 +29,11 @@ pub struct Checker<'p, 'c, 't> {
 
 impl<'p, 'c, 't> Checker<'p, 'c, 't> {
     ghost use Rattle.std.specs.Prelude.{◌≡◌, drop};
-    ghost use Rattle.pcl_tool.specs.inner.CheckerSteps.{IsBegun, answer};
+    ghost use Rattle.pcl_tool.specs.inner.CheckerSteps.{IsNewChecker, answer};
 
     /// Before the first page, with the texts of an output.
     pub fn new(alloc: Global, output: &'t [u8], proofs: &'p [PageProof<'c>]) -> Checker<'p, 'c, 't>
-        ensures { IsBegun output.now proofs.now result }
+        ensures { IsNewChecker output.now proofs.now result }
     {
         let (texts, found) = match texts_of(output, proofs) {
             Some(texts) => (texts, JobVerdict::Proved),

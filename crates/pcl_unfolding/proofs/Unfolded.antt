@@ -1,6 +1,6 @@
 -- Performing and unfolding say the same.
 use Rattle.std.proofs.Common.{◌≡◌, ◌++◌, append_assoc, length-append, ℕ, ◌+◌, ◌-◌, zero, suc, Bool, true, false, List, [], ◌∷◌, length, Option, Some, None, Result, Ok, Err, refl, sym, ap, subst, ◌∙◌, if◌then◌else◌, arith, ◌&&◌}
-use Rattle.pcl_unfolding.proofs.Names.{end_of, option_map, Dpi, Kind, Operation, ControlMacros, Refusal, Value, macro_limit, operation_of, Settings, kept, Said, MacroBody, Action, Call, Keeping, Ends, Situation, Run, run_with, run_by, run_from, macro_ended, keeping_of, after_counted, defining, after_command, Performance, done, then_on, in_order, led_to, and_run, step, runs, after_end, Item, performed, enter, situations, now, ago, or_as_before, Unfolding, goes_on, unless, in_turn, keeps, control_in, body_run, commands_in, Bodies, with_body, with_command, add, ended_by, unfolded, performed_by, PerformingIsUnfolding}
+use Rattle.pcl_unfolding.proofs.Names.{end_of, option_map, Dpi, Kind, Operation, ControlMacros, Refusal, Value, macro_limit, operation_of, Settings, kept, Said, MacroBody, Action, Call, Keeping, Ends, Situation, Run, run_with, run_by, run_from, macro_ended, keeping_of, after_counted, defining, after_command, Performance, done, then_on, in_order, led_to, and_run, step, runs, after_end, Item, performed, enter, situations, now, ago, or_as_before, Unfolding, unrefused, unless, in_turn, keeps, control_in, body_run, body_said, Bodies, with_body, with_command, add, ended_by, unfolded, performed_by, PerformingIsUnfolding}
 use Rattle.pcl_page.specs.Performing.{unless as unless_performed}
 
 -- ---- lists that go on
@@ -108,7 +108,7 @@ module _ (dpi : Dpi) (run : Said → Run → Situation → Performance) (bodies 
       (if begun then defining dpi place keeping command (now dpi items) else after_counted dpi place command (now dpi items)))
       (λ (later : Situation).
       and_run (run command) (if begun then None else run_from (operation_of command.name) command.value later) later))
-      (if begun && keeps keeping then goes_on items else with_command bodies place command
+      (if begun && keeps keeping then unrefused items else with_command bodies place command
       (if begun then None else control_in (operation_of command.name) command.value)
       (if begun then defining dpi place keeping command (now dpi items) else after_counted dpi place command (now dpi items)) items)
   step_by place command items true Ends e = led_unfolded place command None items _ e
@@ -139,9 +139,9 @@ runs_unfolded zero dpi all command control body items = (refl, ([], refl))
 runs_unfolded (suc levels) dpi all command control body items =
     let begun = enter ∷ items in
     let ends = λ (later : Situation). done (macro_ended dpi (saved_by control (now dpi items)) later) in
-    let inner = in_turn (add dpi (unfolded levels dpi all)) body.from (commands_in all body) begun in
+    let inner = in_turn (add dpi (unfolded levels dpi all)) body.from (body_said all body) begun in
     let turn = turn_unfolded dpi (step dpi (runs levels dpi all)) (add dpi (unfolded levels dpi all))
-    (step_unfolded dpi _ (unfolded levels dpi all) (runs_unfolded levels dpi all)) body.from (commands_in all body) begun in
+    (step_unfolded dpi _ (unfolded levels dpi all) (runs_unfolded levels dpi all)) body.from (body_said all body) begun in
     let end = unfolded_on dpi inner.refusal inner.items ends (ended_by control begun) turn.1
     (end_unfolded dpi control items inner.items turn.1, one_more (end_of control (length inner.items - length begun)) ([], refl)) in
     (ap (λ (p : Performance). then_on p ends) turn.0 ∙ end.0, goes_on_more (one_more enter ([], refl)) end.1)

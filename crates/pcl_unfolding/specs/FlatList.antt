@@ -19,7 +19,7 @@ use Rattle.pcl_page.specs.declared.macros.Action.{Action}
 use Rattle.pcl_page.specs.declared.macros.Action.TheVariants.{Execute, Call}
 use Rattle.pcl_page.specs.declared.macros.Keeping.{Keeping}
 use Rattle.pcl_page.specs.declared.macros.Keeping.TheVariants.{Kept}
-use Rattle.pcl_page.specs.Situation.{Situation, at_begin, is_marked, end_raster, with_lasting}
+use Rattle.pcl_page.specs.Situation.{Situation, at_start, is_marked, end_raster, with_lasting}
 use Rattle.pcl_page.specs.Macros.{action_of, keeping_of, after_command, macro_now}
 use Rattle.pcl_page.specs.Performing.{Performance, then_on, after_end, performance}
 
@@ -47,12 +47,12 @@ returned dpi entered s =
 
 -- the newest of some situations, and the one this many items before it
 abbrev pub newest : List Situation → Situation
-newest [] = at_begin Stated
+newest [] = at_start Stated
 newest (s ∷ past) = s
 
 abbrev pub ago : ℕ → List Situation → Situation
 ago zero past = newest past
-ago (suc items) [] = at_begin Stated
+ago (suc items) [] = at_start Stated
 ago (suc items) (s ∷ past) = ago items past
 
 -- the situation after one item more, by those after the items before it, the newest first
@@ -64,7 +64,7 @@ after_item dpi (return items) past = returned dpi (ago items past) (newest past)
 
 -- the situations after a list, after the list without its newest item, and so on to the empty one
 abbrev pub situations : Dpi → List Item → List Situation
-situations dpi [] = at_begin Stated ∷ []
+situations dpi [] = at_start Stated ∷ []
 situations dpi (item ∷ older) = after_item dpi item (situations dpi older) ∷ situations dpi older
 
 abbrev pub now : Dpi → List Item → Situation
@@ -77,8 +77,8 @@ pub record Unfolding : Type 0 where
   pub items : List Item
   pub refusal : Option Refusal
 
-abbrev pub goes_on : List Item → Unfolding
-goes_on items = record { items = items; refusal = None }
+abbrev pub unrefused : List Item → Unfolding
+unrefused items = record { items = items; refusal = None }
 
 abbrev pub refused : Kind → Said → List Item → Unfolding
 refused kind command items = record { items = items; refusal = Some (refusal kind command.at command.name) }
@@ -93,7 +93,7 @@ and_on first next = unless first.refusal first.items next
 
 -- commands in order, of which the first stands at this place
 abbrev pub in_turn : (ℕ → Said → List Item → Unfolding) → ℕ → List Said → List Item → Unfolding
-in_turn add place [] items = goes_on items
+in_turn add place [] items = unrefused items
 in_turn add place (command ∷ commands) items = and_on (add place command items) (in_turn add (place + 1) commands)
 
 -- ---- one command
@@ -111,8 +111,8 @@ abbrev pub control_in : Option Operation → Value → Option Action
 control_in (Some ControlMacros) value = action_of value
 control_in other value = None
 
-abbrev pub control_of : Said → Situation → Option Action
-control_of command s = if is_some s.begun then None else control_in (operation_of command.name) command.value
+abbrev pub macro_control : Said → Situation → Option Action
+macro_control command s = if is_some s.begun then None else control_in (operation_of command.name) command.value
 
 -- the body that it runs, if any: that of the macro whose ID is set then
 abbrev pub body_run : Option Action → Situation → Option MacroBody
@@ -126,15 +126,15 @@ end_of (Some Call) items = return items
 end_of other items = leave
 
 -- the commands of a body, among all commands of the job
-abbrev pub commands_in : List Said → MacroBody → List Said
-commands_in all body = take (body.to - body.from) (drop body.from all)
+abbrev pub body_said : List Said → MacroBody → List Said
+body_said all body = take (body.to - body.from) (drop body.from all)
 
 -- what unfolding a body adds after its start: by a command and the control that it is
 abbrev pub Bodies : Type 0
 Bodies = Said → Option Action → MacroBody → List Item → Unfolding
 
 abbrev pub with_body : Bodies → Said → Option Action → Option MacroBody → List Item → Unfolding
-with_body bodies command control None items = goes_on items
+with_body bodies command control None items = unrefused items
 with_body bodies command control (Some body) items = bodies command control body items
 
 -- a command that is this macro control, if any, by what it leads to
@@ -145,21 +145,21 @@ with_command bodies place command control (Ok later) items =
 
 abbrev pub add : Dpi → Bodies → ℕ → Said → List Item → Unfolding
 add dpi bodies place command items =
-    if is_kept command (now dpi items) then goes_on items
-    else with_command bodies place command (control_of command (now dpi items)) (after_command dpi place command (now dpi items)) items
+    if is_kept command (now dpi items) then unrefused items
+    else with_command bodies place command (macro_control command (now dpi items)) (after_command dpi place command (now dpi items)) items
 
 -- ---- macros
 
 -- the end of a body is put after what was unfolded of it
 abbrev pub ended_by : Option Action → List Item → List Item → Unfolding
-ended_by control begun items = goes_on (end_of control (length items - length begun) ∷ items)
+ended_by control begun items = unrefused (end_of control (length items - length begun) ∷ items)
 
 -- A macro that a command runs, with this many levels left: its start, its commands in order, each with one level less, and its end.
 -- Where no level is left the command is refused.
 abbrev pub unfolded : ℕ → Dpi → List Said → Bodies
 unfolded zero dpi all command control body items = refused MacroDepth command items
 unfolded (suc levels) dpi all command control body items =
-    and_on (in_turn (add dpi (unfolded levels dpi all)) body.from (commands_in all body) (enter ∷ items)) (ended_by control (enter ∷ items))
+    and_on (in_turn (add dpi (unfolded levels dpi all)) body.from (body_said all body) (enter ∷ items)) (ended_by control (enter ∷ items))
 
 -- ---- a job
 

@@ -1,4 +1,4 @@
-//! Performing, told a second time: macros unfolded into one flat list of commands, with a look back where a call ends.
+//! Performing, described a second time: macros unfolded into one flat list of commands, where the end of a call looks back.
 #![tactic(auto)]
 
 ghost use Rattle.pcl_unfolding.specs.FlatList.{PerformingIsUnfolding};

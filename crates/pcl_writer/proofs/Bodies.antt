@@ -1,6 +1,6 @@
 -- The body of a page along the steps of its plan.
 use Rattle.std.proofs.Common.{◌≡◌, ℕ, ◌≤◌, Bool, true, false, List, [], ◌∷◌, ◌++◌, length, drop, refl, sym, ap, subst, ◌∙◌, inl, inr, append_assoc, arith, not, ◌&&◌, ◌==◌}
-use Rattle.pcl_writer.proofs.Names.{drop_of_length-le, cases_lt, nat_tests, flat_map, append-nil, drop_more, flat_map-append, Method, method_code, Picture, IsLeastLength, AppendsLeast, Walk, total, IsFeasible, Step, Skip, Switch, Row, Token, opening, method, skip, send, token_bytes, IsSpelled, bitmap_rows, Node, start, row_at, Leads, Ends, cost, stays_inside, node_after, least_spelling, node_number, StepsAndTable, IsTokenOf, opened, is_last, node, cost_opening, cost_send, least_alone, opened_more, spells_any, step_is_least, sent_is_least, width_of, above, IsBitmapPlan, IsWritable, HasRowData, AppendsRow, AppendsStep, AppendsBody}
+use Rattle.pcl_writer.proofs.Names.{drop_of_length-le, cases_lt, nat_tests, flat_map, append-nil, drop_more, flat_map-append, Method, method_code, Picture, IsLeastLength, AppendsLeast, Walk, total, IsFeasible, Step, Skip, Switch, Row, Token, opening, method, skip, send, token_bytes, IsSpelled, bitmap_rows, Node, start, row_at, Leads, Ends, cost, stays_inside, node_after, least_spelling, node_number, StepsAndTable, IsTokenOf, opened, none_follow, node, cost_opening, cost_send, least_alone, opened_more, spells_any, step_is_least, sent_is_least, width_of, above, IsBitmapPlan, IsWritable, HasRowData, AppendsRow, AppendsStep, AppendsBody}
 use Rattle.pcl_plan.specs.Plans.{Spells}
 
 pub page_joined : (old : List ℕ) {one two three : List ℕ} (start body tail : List ℕ) → one ≡ old ++ start → two ≡ one ++ body
@@ -28,17 +28,17 @@ row_token ends (send digits bytes) t = (bytes, ap (λ (d : List ℕ). send d byt
 row_token ends token t = absurd t
 
 -- another token of the same step leads to the same node, and costs the same
-pub record LeadsToo (picture : Picture) (place behind : Node) (token written : Token) (b : Node) : Type 0 where
-  pub there : b ≡ behind
+pub record LeadsToo (picture : Picture) (place after : Node) (token written : Token) (b : Node) : Type 0 where
+  pub there : b ≡ after
   pub leads : Leads (width_of picture) (bitmap_rows picture) (node place.row place.method true) written b
   pub costs : cost written ≡ cost token
-  pub within : behind.row ≤ length (bitmap_rows picture)
+  pub within : after.row ≤ length (bitmap_rows picture)
 
-leads_too : {picture : Picture} {place behind : Node} (step : Step) (ends : Bool) {token written : Token} {b : Node}
+leads_too : {picture : Picture} {place after : Node} (step : Step) (ends : Bool) {token written : Token} {b : Node}
     → place.row ≤ length (bitmap_rows picture) → IsTokenOf step ends token → IsTokenOf step ends written
     → HasRowData picture place.row place.method written
-    → behind ≡ node_after place step ends → Leads (width_of picture) (bitmap_rows picture) (node place.row place.method true) token b
-    → LeadsToo picture place behind token written b
+    → after ≡ node_after place step ends → Leads (width_of picture) (bitmap_rows picture) (node place.row place.method true) token b
+    → LeadsToo picture place after token written b
 leads_too (Skip count) ends {token} {written} before t w d p l =
     let led = rw (skip_token token t) at l in
     let same : written ≡ token = skip_token written w ∙ sym (skip_token token t) in
@@ -118,7 +118,7 @@ begin old is = record {
 pub record IsNextToken (picture : Picture) (plan : StepsAndTable) (place : Node) (step : Step) (more : List Step) : Type 0 where
   pub token : Token
   pub rest : List Token
-  pub is_of : IsTokenOf step (is_last more) token
+  pub is_of : IsTokenOf step (none_follow more) token
   pub spells : Spells (stays_inside step) more rest
   pub from : IsOpened picture (node_number plan.table) place.row place.method place.inside (token ∷ rest)
 
@@ -142,7 +142,7 @@ writable (Skip count) is w = tt
 writable (Switch next) is w = tt
 writable {picture} (Row count) {more} {place} is w =
     let n = next_token is w in
-    let one = row_token (is_last more) n.token n.is_of in
+    let one = row_token (none_follow more) n.token n.is_of in
     let walk = rw one.1 at n.from.walk in
     let total_is = rw one.1 at n.from.total_is in
     let least = sent_is_least (width_of picture) is.feasible place.row place.method walk.0 (least_spelling count) one.0 n.rest walk.1
@@ -156,14 +156,14 @@ goes_on_open (Switch next) e = sym (ap not e)
 goes_on_open (Row count) e = refl
 
 pub written_more : {picture : Picture} {plan : StepsAndTable} {old now new : List ℕ} {step : Step} {more : List Step}
-    {place behind : Node} → IsBitmapPlan picture plan → IsWrittenTo picture plan old now (step ∷ more) place
-    → AppendsStep picture place step (is_last more) now new → behind ≡ node_after place step (is_last more)
-    → IsWrittenTo picture plan old new more behind
-written_more {picture} {plan} {old} {step} {more} {place} {behind} is w a p =
+    {place after : Node} → IsBitmapPlan picture plan → IsWrittenTo picture plan old now (step ∷ more) place
+    → AppendsStep picture place step (none_follow more) now new → after ≡ node_after place step (none_follow more)
+    → IsWrittenTo picture plan old new more after
+written_more {picture} {plan} {old} {step} {more} {place} {after} is w a p =
     let n = next_token is w in
     let walk = n.from.walk in
     let from = node place.row place.method true in
-    let too = leads_too {picture = picture} {place = place} {behind = behind} step (is_last more) w.within n.is_of a.1 a.2 p walk.1 in
+    let too = leads_too {picture = picture} {place = place} {after = after} step (none_follow more) w.within n.is_of a.1 a.2 p walk.1 in
     let s = step_is_least (width_of picture) is.feasible from n.token n.rest walk.1 too.there walk.2 n.from.total_is in
     let token : List Token = opened place.inside (a.0 ∷ []) in
     record {
@@ -195,7 +195,7 @@ opened_bytes true token = sym (append-nil (token_bytes token))
 opened_bytes false token = simp append_assoc (ap (λ (t : List ℕ). token_bytes opening ++ t) (sym (append-nil (token_bytes token))))
 
 -- the last step by its place
-pub ends_at : (steps : List Step) {k : ℕ} → k ≤ length steps → is_last (drop k steps) ≡ (k == length steps)
+pub ends_at : (steps : List Step) {k : ℕ} → k ≤ length steps → none_follow (drop k steps) ≡ (k == length steps)
 ends_at steps {k} le =
     elim (cases_lt k (length steps)) [
       | inl lt ↦ rw (drop_more steps k (Skip 0) lt) (grind (arith, nat_tests))

@@ -12,6 +12,6 @@ pub use Rattle.pcl_output.proofs.Names.{Ends, IsLeastText, IsRowOf, IsSpelled, L
 pub use Rattle.pcl_output.proofs.{RowsFrom.bitmap_rows_are, RowsFrom.length_rows, RowsFrom.row_of_bytes, Texts.prints_of_walk, Texts.text_length, Texts.text_of_least, Texts.widths, TokenCosts.cost_opening, TokenCosts.cost_send, Walking.node}
 pub use Rattle.pcl_output.specs.declared.{node.Node.Node, step.Step.Step, step.Step.TheVariants.Row, step.Step.TheVariants.Skip, step.Step.TheVariants.Switch}
 pub use Rattle.pcl_plan.proofs.{LeastWalks.few_commands, LeastWalks.sent_is_least, LeastWalks.step_is_least, ReadSteps.opened_more, ReadSteps.spells_any}
-pub use Rattle.pcl_plan.proofs.Names.{IsPlan, IsPlanOf, IsTokenOf, StepsAndTable, is_last, opened}
+pub use Rattle.pcl_plan.proofs.Names.{IsPlan, IsPlanOf, IsTokenOf, StepsAndTable, none_follow, opened}
 pub use Rattle.pcl_writer.specs.{Appending.AppendsPage, Appending.IsWrittenPage, Appending.planned_bytes}
 pub use Rattle.pcl_writer.specs.inner.{Steps.AppendsBody, Steps.AppendsRow, Steps.AppendsStep, Steps.HasRowData, Steps.IsBitmapPlan, Steps.IsWritable, Steps.above, Steps.width_of}

@@ -10,7 +10,7 @@ use Rattle.pcl_plan.specs.Plans.{StepsAndTable}
 use Rattle.pcl_output.specs.LeastTexts.{IsLeastText, fixed_bytes}
 
 -- The text is one that a page is written as: it prints the page, in at most three commands a row beside those of its
--- begin and its end, and no text that prints the page is shorter.
+-- start and its end, and no text that prints the page is shorter.
 abbrev pub IsWrittenPage : Page → List ℕ → Type 0
 IsWrittenPage page text =
     (printed : PrintsPage page text) × (command_count printed.tokens ≤ 3 * page_height page.size page.dpi)

@@ -9,7 +9,7 @@
 //! case two dots                      the name of a case
 //!   dpi auto                         the resolution, 300 where none is said; auto is both
 //!   job ESC&l0E DOT [0C] DOT         the job, in the notation of `case_tables`; several such lines are one job
-//!   letters 20                       where there is none the job is pages of letters and rules, told by such lines: see `pages`
+//!   letters 20                       where there is none the job is pages of letters and rules, given by such lines: see `pages`
 //!   raster 300                       the resolution of their dots, where it isn't that of the job
 //!   again                            what the job is shrunk to is shrunk once more, and the answer is about that
 //!   answer Raster, 67 to 48          which candidate wins, the bytes that come in, and those that go out; this ends the case

@@ -32,7 +32,7 @@ use std::rt::Files;
 #[derive(Clone, Copy)]
 struct Table {
     name: &'static str,
-    /// What is printed behind the number of its cases that hold.
+    /// What is printed after the number of its cases that hold.
     words: &'static str,
 }
 

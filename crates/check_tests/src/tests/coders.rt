@@ -26,7 +26,7 @@ fn assert_decodes(
 }
 
 /// What a coder writes after a byte 9, by a table of its own and along the numbers of the row: the same.
-fn written_behind<C: RowCoder>(
+fn written_after<C: RowCoder>(
     rt: &impl Abort,
     alloc: Global,
     coder: &C,
@@ -54,7 +54,7 @@ fn data_of<C: RowCoder>(
     seed: &[u8],
 ) -> Result<Vec<u8>, AllocError> {
     assert!(rt; row.len() == seed.len() && row.len() <= 600);
-    let mut bytes = written_behind(rt, alloc, coder, row, seed)?;
+    let mut bytes = written_after(rt, alloc, coder, row, seed)?;
     assert!(rt; !bytes.is_empty() && bytes.remove(0) == 9);
     assert!(rt; bytes.len() == coder.least(row, seed));
     assert_decodes(rt, alloc, coder.method(), bytes.as_slice(), row, seed)?;

@@ -61,14 +61,14 @@ impl Element {
         literals: usize,
         stop: usize,
     ) -> Element {
-        let behind = best.get(stop).copied().unwrap_or(NONE).sum;
+        let after = best.get(stop).copied().unwrap_or(NONE).sum;
         let head = lengthening(offset).saturating_add(usize::from(control.is_some()));
         Element {
             control,
             offset,
             literals,
             stop,
-            sum: behind.saturating_add(head).saturating_add(literals),
+            sum: after.saturating_add(head).saturating_add(literals),
         }
     }
 
@@ -144,12 +144,12 @@ fn best_elements(
         let (old, wanted) = (&old[place..], &row[place..]);
         let same = first_difference(old, wanted);
         if same < wanted.len() {
-            let behind = best.get(place..).unwrap_or(&[]);
+            let after = best.get(place..).unwrap_or(&[]);
             let element = match method {
-                Method::Plain => Element::new(behind, None, 0, 1, 1),
-                Method::Runs => best_run(run_end(wanted, 0), behind),
-                Method::Packed => best_packed(run_end(wanted, 0), behind),
-                Method::Delta => best_replacement(same, behind),
+                Method::Plain => Element::new(after, None, 0, 1, 1),
+                Method::Runs => best_run(run_end(wanted, 0), after),
+                Method::Packed => best_packed(run_end(wanted, 0), after),
+                Method::Delta => best_replacement(same, after),
             };
             if let Some(slot) = best.get_mut(place) {
                 *slot = element;

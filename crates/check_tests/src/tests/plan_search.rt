@@ -25,9 +25,9 @@ impl Search<'_> {
     }
 
     /// The number of a node falls to `cost` and the number of another one.
-    fn fall(&mut self, row: usize, code: u8, inside: bool, cost: u32, behind: u32) {
+    fn fall(&mut self, row: usize, code: u8, inside: bool, cost: u32, after: u32) {
         if let Some(slot) = self.numbers.get_mut(place_of(row, code, inside)) {
-            *slot = (*slot).min(cost.saturating_add(behind));
+            *slot = (*slot).min(cost.saturating_add(after));
         }
     }
 
@@ -70,9 +70,9 @@ impl Search<'_> {
         let inside = self.number(row, code, true);
         self.fall(row, code, false, 3, inside);
         for next in 0..4u8 {
-            let behind = self.either(row, next);
+            let after = self.either(row, next);
             let cost = if next == 0 { 1 } else { 2 };
-            self.fall(row, code, true, cost, behind);
+            self.fall(row, code, true, cost, after);
         }
     }
 
@@ -81,16 +81,16 @@ impl Search<'_> {
         let next = row.saturating_add(1);
         for to in next..self.count().saturating_add(1) {
             if self.is_white(row, to) {
-                let behind = self.either(to, code);
-                self.fall(row, code, true, 2, behind);
+                let after = self.either(to, code);
+                self.fall(row, code, true, 2, after);
             }
         }
         if row < self.count() {
             let seed = if row == 0 { [0, 0] } else { self.row(row - 1) };
             let least = least_bytes(code, self.row(row), seed);
             let digits = if least == 0 { 0 } else { 1 };
-            let behind = self.number(next, code, false);
-            self.fall(row, code, true, least.saturating_add(1 + digits), behind);
+            let after = self.number(next, code, false);
+            self.fall(row, code, true, least.saturating_add(1 + digits), after);
         }
     }
 }

@@ -17,7 +17,7 @@ fn page_of(alloc: Global, size: Size, w: u64, h: u64) -> Result<Page, AllocError
     })
 }
 
-/// The verdict on the text with this begin and body.
+/// The verdict on the text with this start and body.
 fn verdict(
     alloc: Global,
     page: &Page,

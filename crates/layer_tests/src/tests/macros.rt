@@ -3,7 +3,7 @@ use pcl_base::{CallFault, Kind};
 use pcl_macros::{MacroControl, Macros};
 use std::alloc::Global;
 
-// Two definitions of an ID: the last one is its body. An end without a begin is refused.
+// Two definitions of an ID: the last one is its body. An end is refused where none is open.
 #[test]
 fn definitions(rt: HostRuntime) {
     let mut macros = Macros::new(rt.alloc());

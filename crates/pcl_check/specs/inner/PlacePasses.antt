@@ -76,6 +76,6 @@ abbrev pub ArePlaced : List ℕ → List ℕ → Type 0
 ArePlaced numbers sums = (place : ℕ) → place < length numbers → slice_index sums place ≡ place + slice_index numbers place
 
 -- the least of the replaced bytes and the number after them, for each place after a start
-abbrev pub AreBehindStarts : List ℕ → List ℕ → Type 0
-AreBehindStarts numbers sums = (start : ℕ) → start + 1 < length numbers
+abbrev pub AreAfterStarts : List ℕ → List ℕ → Type 0
+AreAfterStarts numbers sums = (start : ℕ) → start + 1 < length numbers
     → (len : ℕ) × IsLeastLen (drop start numbers) 1 (min (length numbers - 1 - start) 8) 0 1 len (slice_index sums (start + 1))

@@ -41,10 +41,10 @@ AreLeastSums numbers count least = (place stop : ℕ) → place ≤ stop → sto
     → slice_index least place ≤ stop + slice_index numbers stop
 
 -- no value is above what it was, or above what was that far after it
-pub record TakesBehind (count : ℕ) (old new : List ℕ) : Type 0 where
+pub record TakesLater (count : ℕ) (old new : List ℕ) : Type 0 where
   pub size : length new ≡ length old
   pub here : (place : ℕ) → slice_index new place ≤ slice_index old place
-  pub behind : (place : ℕ) → place + count < length old → slice_index new place ≤ slice_index old (place + count)
+  pub beyond : (place : ℕ) → place + count < length old → slice_index new place ≤ slice_index old (place + count)
 
 -- a replacement that starts up to a place doesn't undercut a number, since one of as few bytes that starts as far or
 -- farther doesn't

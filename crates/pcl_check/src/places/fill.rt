@@ -3,7 +3,7 @@
 ghost use Rattle.std.specs.Prelude.{◌≡◌, ℕ, ◌+◌, ◌-◌, ◌<◌, ◌≤◌, min, length, slice_index, drop};
 ghost use Rattle.pcl_base.specs.Limits.{row_limit};
 ghost use Rattle.pcl_coders.specs.inner.Choosing.{IsLeastLen};
-ghost use Rattle.pcl_check.specs.inner.PlacePasses.{AreRunStops, AreStartEnds, ArePlaced, AreBehindStarts};
+ghost use Rattle.pcl_check.specs.inner.PlacePasses.{AreRunStops, AreStartEnds, ArePlaced, AreAfterStarts};
 
 /// The numbers, wider.
 pub fn widen(numbers: &[u16], wide: &mut [u32])
@@ -77,7 +77,7 @@ pub fn fill_after_starts(numbers: &[u16], sums: &mut [u32])
     requires size { length sums.old ≡ length numbers.now }
     requires some { 0 < length numbers.now }
     requires small { length numbers.now ≤ row_limit + 1 }
-    ensures { AreBehindStarts numbers.now sums.new }
+    ensures { AreAfterStarts numbers.now sums.new }
 {
     for start in 0..numbers.len() - 1 {
         sums[start + 1] = least_after(&numbers[start..]);

@@ -8,7 +8,7 @@
 ghost use Rattle.std.specs.Prelude.{◌≡◌, ◌≢◌, ℕ, ◌+◌, ◌-◌, ◌<◌, ◌≤◌, length, slice_index, IsTrue};
 ghost use Rattle.pcl_base.specs.Limits.{row_limit};
 ghost use Rattle.pcl_check.specs.inner.PlacePasses.{IsGoodByte, AreGoodRuns, AreGoodLiterals, AreGoodReplacements};
-ghost use Rattle.pcl_check.specs.inner.SteadyNumbers.{most_number, IsSteady, IsNeedEnd, FallsByRun, FallsByStart, AreLeastSums, TakesBehind, IsKeptBefore, IsGoodFor};
+ghost use Rattle.pcl_check.specs.inner.SteadyNumbers.{most_number, IsSteady, IsNeedEnd, FallsByRun, FallsByStart, AreLeastSums, TakesLater, IsKeptBefore, IsGoodFor};
 
 use super::PLACES;
 use pcl_base::{Method, ROW_LIMIT};
@@ -133,8 +133,8 @@ fn fall_by_runs(row: &[u8], numbers: &[u16], end: usize) -> bool
     let mut excess = 0u16;
     for place in 0..end {
         let next = numbers[place + 1] + run_cost(row[place], row[place + 1]);
-        let behind = numbers[place + 2] + run_cost(row[place + 1], row[place + 2]);
-        let least = next.max(behind);
+        let beyond = numbers[place + 2] + run_cost(row[place + 1], row[place + 2]);
+        let least = next.max(beyond);
         excess = excess.max(numbers[place].saturating_sub(least));
     }
     excess == 0
@@ -159,10 +159,10 @@ fn are_good_literals(numbers: &[u16]) -> bool
     let mut room = [0; PLACES];
     let least = &mut room[..numbers.len()];
     fill_least_of_eight(numbers, least);
-    take_behind(least, 8);
-    take_behind(least, 16);
-    take_behind(least, 32);
-    take_behind(least, 64);
+    take_later(least, 8);
+    take_later(least, 16);
+    take_later(least, 32);
+    take_later(least, 64);
     greatest_excess(numbers, least) <= 1
 }
 
@@ -191,16 +191,16 @@ fn fill_least_of_eight(numbers: &[u16], least: &mut [u16])
     for place in 0..numbers.len() {
         least[place] = place as u16 + numbers[place];
     }
-    take_behind(least, 1);
-    take_behind(least, 2);
-    take_behind(least, 4);
+    take_later(least, 1);
+    take_later(least, 2);
+    take_later(least, 4);
 }
 
 /// Takes for each value the lesser one of it and the one that far after it.
 #[inline(always)]
-fn take_behind(least: &mut [u16], count: usize)
+fn take_later(least: &mut [u16], count: usize)
     requires { count ≤ 64 }
-    ensures { TakesBehind count least.old least.new }
+    ensures { TakesLater count least.old least.new }
 {
     for place in 0..least.len().saturating_sub(count) {
         least[place] = least[place].min(least[place + count]);

@@ -29,8 +29,8 @@ pub struct Parameter<'a> {
 pub fn read_parameter(text: &[u8]) -> Option<Parameter<'_>>
     ensures { MatchOption result (AreDigits text.now) (λ found. IsParameter text.now found) }
 {
-    let (digits, behind) = text.split_at(digit_count(text));
-    let (letter, rest) = behind.split_first()?;
+    let (digits, after) = text.split_at(digit_count(text));
+    let (letter, rest) = after.split_first()?;
     Some(Parameter {
         digits,
         number: number(digits),

@@ -32,7 +32,7 @@ pub record IsFirstEnd (old row : List ℕ) (end : ℕ) : Type 0 where
   pub first : (place : ℕ) → Ends old row place → end ≤ place
 
 -- a table that is filled where no more data is needed: with 0 from the first such place on
-pub record IsBegun (old row table : List ℕ) (end : ℕ) : Type 0 where
+pub record HasZeros (old row table : List ℕ) (end : ℕ) : Type 0 where
   pub same_size : length old ≡ length row
   pub small : length row ≤ row_limit
   pub size : length table ≡ length row + 1

@@ -2,7 +2,7 @@
 
 ghost use Rattle.std.specs.Prelude.{◌≡◌, Ok, Err, if◌then◌else◌};
 ghost use Rattle.pcl_env.specs.declared.effect.Effect.TheVariants.{Stay};
-ghost use Rattle.pcl_env.specs.Outcome.{outcome, Answers};
+ghost use Rattle.pcl_env.specs.Outcome.{outcome, AnswersAs};
 
 use super::Env;
 use crate::{Effect, Unsupported};
@@ -20,7 +20,7 @@ impl Env {
         is_marked: bool,
         dpi: Dpi,
     ) -> Result<Effect, Unsupported>
-        ensures { Answers (outcome dpi operation value is_marked self.old) result self.old self.new }
+        ensures { AnswersAs (outcome dpi operation value is_marked self.old) result self.old self.new }
     {
         match operation {
             Operation::Reset => self.reset(),

@@ -5,7 +5,7 @@ ghost use Rattle.pcl_base.specs.Value.{zero_value};
 ghost use Rattle.pcl_base.specs.declared.operation.Operation.TheVariants.{Shift, MacroId, FontId, CharacterCode};
 ghost use Rattle.pcl_env.specs.Settings.{select};
 ghost use Rattle.pcl_base.specs.declared.dpi.Dpi.TheVariants.{Dpi300};
-ghost use Rattle.pcl_env.specs.Outcome.{outcome, Answers};
+ghost use Rattle.pcl_env.specs.Outcome.{outcome, AnswersAs};
 
 use super::Env;
 use crate::{Effect, Unsupported};
@@ -15,7 +15,7 @@ impl Env {
     /// Takes the primary or the secondary font into use (PCL 5 manual, "Shift In", "Shift Out").
     #[tactic(auto, unfolding(crate::specs::Outcome::outcome))]
     pub fn shift(&mut self, side: Side) -> Result<Effect, Unsupported>
-        ensures { Answers (outcome Dpi300 (Shift side) zero_value false self.old) result self.old self.new }
+        ensures { AnswersAs (outcome Dpi300 (Shift side) zero_value false self.old) result self.old self.new }
     {
         self.setup.in_use = side;
         Ok(Effect::Stay)
@@ -24,7 +24,7 @@ impl Env {
     /// Sets the ID of the macro that is meant ("Macro ID").
     #[tactic(auto, unfolding(crate::specs::Outcome::outcome))]
     pub fn set_macro_id(&mut self, value: Value) -> Result<Effect, Unsupported>
-        ensures { Answers (outcome Dpi300 MacroId value false self.old) result self.old self.new }
+        ensures { AnswersAs (outcome Dpi300 MacroId value false self.old) result self.old self.new }
     {
         match value.count() {
             Some(id @ 0..=ID_LIMIT) => {
@@ -38,7 +38,7 @@ impl Env {
     /// Sets the ID of the font that is meant ("Font ID").
     #[tactic(auto, unfolding(crate::specs::Outcome::outcome))]
     pub fn set_font_id(&mut self, value: Value) -> Result<Effect, Unsupported>
-        ensures { Answers (outcome Dpi300 FontId value false self.old) result self.old self.new }
+        ensures { AnswersAs (outcome Dpi300 FontId value false self.old) result self.old self.new }
     {
         match value.count() {
             Some(id @ 0..=ID_LIMIT) => {
@@ -52,7 +52,7 @@ impl Env {
     /// Sets the code of the character that is meant ("Character Code").
     #[tactic(auto, unfolding(crate::specs::Outcome::outcome))]
     pub fn set_character_code(&mut self, value: Value) -> Result<Effect, Unsupported>
-        ensures { Answers (outcome Dpi300 CharacterCode value false self.old) result self.old self.new }
+        ensures { AnswersAs (outcome Dpi300 CharacterCode value false self.old) result self.old self.new }
     {
         match value.count() {
             Some(code @ 0..=255) => {

@@ -5,7 +5,7 @@ ghost use Rattle.pcl_base.specs.Value.{zero_value};
 ghost use Rattle.pcl_base.specs.declared.operation.Operation.TheVariants.{HalfLineFeed, HorizontalTab, LineFeed, FormFeed, CarriageReturn, VerticalMotionIndex, LineSpacing, PerforationSkip, HorizontalMotionIndex, LineTermination};
 ghost use Rattle.pcl_env.specs.Outcome.{return_carriage, before_feed, feed_limit, feed, tab_stop, line_spacings, is_one_of};
 ghost use Rattle.pcl_base.specs.declared.dpi.Dpi.TheVariants.{Dpi300};
-ghost use Rattle.pcl_env.specs.Outcome.{outcome, Answers};
+ghost use Rattle.pcl_env.specs.Outcome.{outcome, AnswersAs};
 
 use super::{Env, INCH};
 use crate::{Effect, Unsupported};
@@ -24,7 +24,7 @@ impl Env {
     /// Sets the line spacing (VMI) in 1/48 inch (PCL 5 manual, "Vertical Motion Index").
     #[tactic(auto, unfolding(crate::specs::Outcome::outcome))]
     pub fn set_vertical_motion_index(&mut self, value: Value) -> Result<Effect, Unsupported>
-        ensures { Answers (outcome Dpi300 VerticalMotionIndex value false self.old) result self.old self.new }
+        ensures { AnswersAs (outcome Dpi300 VerticalMotionIndex value false self.old) result self.old self.new }
     {
         value.count().ok_or(Unsupported)?;
         self.setup.vmi = value.scaled(VMI_UNIT) as u32;
@@ -34,7 +34,7 @@ impl Env {
     /// Sets the line spacing (VMI) in lines per inch ("Line Spacing").
     #[tactic(auto, unfolding(crate::specs::Outcome::outcome))]
     pub fn set_line_spacing(&mut self, value: Value) -> Result<Effect, Unsupported>
-        ensures { Answers (outcome Dpi300 LineSpacing value false self.old) result self.old self.new }
+        ensures { AnswersAs (outcome Dpi300 LineSpacing value false self.old) result self.old self.new }
     {
         let lines = value.count().ok_or(Unsupported)?;
         if !is_line_spacing(lines) {
@@ -47,7 +47,7 @@ impl Env {
     /// Sets the column width (HMI) in 1/120 inch ("Horizontal Motion Index").
     #[tactic(auto, unfolding(crate::specs::Outcome::outcome))]
     pub fn set_horizontal_motion_index(&mut self, value: Value) -> Result<Effect, Unsupported>
-        ensures { Answers (outcome Dpi300 HorizontalMotionIndex value false self.old) result self.old self.new }
+        ensures { AnswersAs (outcome Dpi300 HorizontalMotionIndex value false self.old) result self.old self.new }
     {
         value.count().ok_or(Unsupported)?;
         self.setup.hmi = value.scaled(HMI_UNIT) as u32;
@@ -58,7 +58,7 @@ impl Env {
     /// ("Line Termination").
     #[tactic(auto, unfolding(crate::specs::Outcome::outcome))]
     pub fn set_line_termination(&mut self, value: Value) -> Result<Effect, Unsupported>
-        ensures { Answers (outcome Dpi300 LineTermination value false self.old) result self.old self.new }
+        ensures { AnswersAs (outcome Dpi300 LineTermination value false self.old) result self.old self.new }
     {
         let (return_feeds, feed_returns) = match value.count() {
             Some(0) => (false, false),
@@ -75,7 +75,7 @@ impl Env {
     /// Sets whether a line feed past the bottom margin ejects the page ("Perforation Skip").
     #[tactic(auto, unfolding(crate::specs::Outcome::outcome))]
     pub fn set_perforation_skip(&mut self, value: Value) -> Result<Effect, Unsupported>
-        ensures { Answers (outcome Dpi300 PerforationSkip value false self.old) result self.old self.new }
+        ensures { AnswersAs (outcome Dpi300 PerforationSkip value false self.old) result self.old self.new }
     {
         self.setup.skips = match value.count() {
             Some(0) => false,
@@ -88,7 +88,7 @@ impl Env {
     /// HT: moves the cursor to the next tab stop, each eight columns from the left margin on.
     #[tactic(auto, unfolding(crate::specs::Outcome::outcome))]
     pub fn horizontal_tab(&mut self) -> Result<Effect, Unsupported>
-        ensures { Answers (outcome Dpi300 HorizontalTab zero_value false self.old) result self.old self.new }
+        ensures { AnswersAs (outcome Dpi300 HorizontalTab zero_value false self.old) result self.old self.new }
     {
         let stop = self.tab_stop();
         self.put_x(stop);
@@ -98,7 +98,7 @@ impl Env {
     /// CR: moves the cursor to the left margin, and down by a line where the line termination says so.
     #[tactic(auto, unfolding(crate::specs::Outcome::outcome))]
     pub fn carriage_return(&mut self) -> Result<Effect, Unsupported>
-        ensures { Answers (outcome Dpi300 CarriageReturn zero_value false self.old) result self.old self.new }
+        ensures { AnswersAs (outcome Dpi300 CarriageReturn zero_value false self.old) result self.old self.new }
     {
         let line = self.setup.vmi;
         let feeds = self.setup.return_feeds;
@@ -113,7 +113,7 @@ impl Env {
     /// LF: moves the cursor down by a line, or ejects the page.
     #[tactic(auto, unfolding(crate::specs::Outcome::outcome))]
     pub fn line_feed(&mut self) -> Result<Effect, Unsupported>
-        ensures { Answers (outcome Dpi300 LineFeed zero_value false self.old) result self.old self.new }
+        ensures { AnswersAs (outcome Dpi300 LineFeed zero_value false self.old) result self.old self.new }
     {
         let line = self.setup.vmi;
         self.before_feed();
@@ -123,7 +123,7 @@ impl Env {
     /// Moves the cursor down by half a line, or ejects the page ("Half-Line Feed").
     #[tactic(auto, unfolding(crate::specs::Outcome::outcome))]
     pub fn half_line_feed(&mut self) -> Result<Effect, Unsupported>
-        ensures { Answers (outcome Dpi300 HalfLineFeed zero_value false self.old) result self.old self.new }
+        ensures { AnswersAs (outcome Dpi300 HalfLineFeed zero_value false self.old) result self.old self.new }
     {
         let half_line = self.setup.vmi / 2;
         Ok(self.feed(half_line))
@@ -132,7 +132,7 @@ impl Env {
     /// FF: ejects the page.
     #[tactic(auto, unfolding(crate::specs::Outcome::outcome))]
     pub fn form_feed(&mut self) -> Result<Effect, Unsupported>
-        ensures { Answers (outcome Dpi300 FormFeed zero_value false self.old) result self.old self.new }
+        ensures { AnswersAs (outcome Dpi300 FormFeed zero_value false self.old) result self.old self.new }
     {
         self.before_feed();
         Ok(Effect::Eject)

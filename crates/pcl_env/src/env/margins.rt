@@ -5,7 +5,7 @@ ghost use Rattle.pcl_base.specs.Value.{zero_value};
 ghost use Rattle.pcl_base.specs.declared.operation.Operation.TheVariants.{ClearMargins, TopMargin, TextLength, LeftMargin};
 ghost use Rattle.pcl_env.specs.Outcome.{set_top, set_bottom, set_left};
 ghost use Rattle.pcl_base.specs.declared.dpi.Dpi.TheVariants.{Dpi300};
-ghost use Rattle.pcl_env.specs.Outcome.{outcome, Answers};
+ghost use Rattle.pcl_env.specs.Outcome.{outcome, AnswersAs};
 
 use super::{Env, MARGIN};
 use crate::{Effect, Unsupported};
@@ -15,7 +15,7 @@ impl Env {
     /// Sets the left margin to the page's left edge (PCL 5 manual, "Clear Horizontal Margins").
     #[tactic(auto, unfolding(crate::specs::Outcome::outcome))]
     pub fn clear_margins(&mut self) -> Result<Effect, Unsupported>
-        ensures { Answers (outcome Dpi300 ClearMargins zero_value false self.old) result self.old self.new }
+        ensures { AnswersAs (outcome Dpi300 ClearMargins zero_value false self.old) result self.old self.new }
     {
         self.setup.left = 0;
         Ok(Effect::Stay)
@@ -24,7 +24,7 @@ impl Env {
     /// Sets the top margin in lines; on an unmarked page the cursor goes to the first line ("Top Margin").
     #[tactic(auto, unfolding(crate::specs::Outcome::outcome))]
     pub fn set_top_margin(&mut self, value: Value, is_marked: bool) -> Result<Effect, Unsupported>
-        ensures { Answers (outcome Dpi300 TopMargin value is_marked self.old) result self.old self.new }
+        ensures { AnswersAs (outcome Dpi300 TopMargin value is_marked self.old) result self.old self.new }
     {
         let lines = value.count().ok_or(Unsupported)?;
         self.set_top(u64::from(lines) * u64::from(self.setup.vmi), is_marked);
@@ -34,7 +34,7 @@ impl Env {
     /// Sets the bottom margin, this many lines below the top margin ("Text Length").
     #[tactic(auto, unfolding(crate::specs::Outcome::outcome))]
     pub fn set_text_length(&mut self, value: Value) -> Result<Effect, Unsupported>
-        ensures { Answers (outcome Dpi300 TextLength value false self.old) result self.old self.new }
+        ensures { AnswersAs (outcome Dpi300 TextLength value false self.old) result self.old self.new }
     {
         let Some(lines @ 1..) = value.count() else {
             return Err(Unsupported);
@@ -46,7 +46,7 @@ impl Env {
     /// Sets the left margin in columns; a cursor left of it goes to it ("Left Margin").
     #[tactic(auto, unfolding(crate::specs::Outcome::outcome))]
     pub fn set_left_margin(&mut self, value: Value) -> Result<Effect, Unsupported>
-        ensures { Answers (outcome Dpi300 LeftMargin value false self.old) result self.old self.new }
+        ensures { AnswersAs (outcome Dpi300 LeftMargin value false self.old) result self.old self.new }
     {
         let columns = value.count().ok_or(Unsupported)?;
         self.set_left(u64::from(columns) * u64::from(self.setup.hmi));

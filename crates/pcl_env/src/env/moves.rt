@@ -6,7 +6,7 @@ ghost use Rattle.pcl_base.specs.declared.operation.Operation.TheVariants.{Move, 
 ghost use Rattle.pcl_env.specs.Settings.{put_x, put_y, put, first_line, advance};
 ghost use Rattle.pcl_env.specs.Outcome.{unit_of, origin_of, moved, push, pop, move_along, units_of_measure, is_one_of};
 ghost use Rattle.pcl_base.specs.declared.dpi.Dpi.TheVariants.{Dpi300};
-ghost use Rattle.pcl_env.specs.Outcome.{outcome, Answers};
+ghost use Rattle.pcl_env.specs.Outcome.{outcome, AnswersAs};
 
 use super::{Env, INCH};
 use crate::{Effect, Unsupported};
@@ -19,7 +19,7 @@ impl Env {
     /// Sets the PCL unit, by how many of them are in an inch (PCL 5 manual, "Unit of Measure").
     #[tactic(auto, unfolding(crate::specs::Outcome::outcome))]
     pub fn set_unit_of_measure(&mut self, value: Value) -> Result<Effect, Unsupported>
-        ensures { Answers (outcome Dpi300 UnitOfMeasure value false self.old) result self.old self.new }
+        ensures { AnswersAs (outcome Dpi300 UnitOfMeasure value false self.old) result self.old self.new }
     {
         let units = value.count().ok_or(Unsupported)?;
         if !is_unit_of_measure(units) {
@@ -38,7 +38,7 @@ impl Env {
         unit: Unit,
         value: Value,
     ) -> Result<Effect, Unsupported>
-        ensures { Answers (outcome Dpi300 (Move axis unit) value false self.old) result self.old self.new }
+        ensures { AnswersAs (outcome Dpi300 (Move axis unit) value false self.old) result self.old self.new }
     {
         let amount = scaled(value, self.unit_of(axis, unit));
         let origin = self.origin_of(axis, unit);
@@ -52,7 +52,7 @@ impl Env {
     /// Keeps the cursor on the stack, or takes the newest place back ("Push/Pop Cursor Position").
     #[tactic(auto, unfolding(crate::specs::Outcome::outcome))]
     pub fn cursor_stack(&mut self, value: Value) -> Result<Effect, Unsupported>
-        ensures { Answers (outcome Dpi300 CursorStack value false self.old) result self.old self.new }
+        ensures { AnswersAs (outcome Dpi300 CursorStack value false self.old) result self.old self.new }
     {
         match value.count() {
             Some(0) => self.push(),

@@ -5,7 +5,7 @@ ghost use Rattle.pcl_base.specs.Value.{zero_value};
 ghost use Rattle.pcl_base.specs.declared.operation.Operation.TheVariants.{Reset, UniversalExit, PageSize, Copies, FormFeed, Ask};
 ghost use Rattle.pcl_env.specs.Settings.{to_first_line, with_size};
 ghost use Rattle.pcl_base.specs.declared.dpi.Dpi.TheVariants.{Dpi300};
-ghost use Rattle.pcl_env.specs.Outcome.{outcome, is_asking_taken, is_offset_taken, Answers};
+ghost use Rattle.pcl_env.specs.Outcome.{outcome, is_asking_taken, is_offset_taken, AnswersAs};
 
 use super::{Env, MARGIN};
 use crate::offset::{lies_at, page_offset};
@@ -20,7 +20,7 @@ impl Env {
     /// Sets what a job begins with (PCL 5 manual, "Printer Reset").
     #[tactic(auto, unfolding(crate::specs::Outcome::outcome))]
     pub fn reset(&mut self) -> Result<Effect, Unsupported>
-        ensures { Answers (outcome Dpi300 Reset zero_value false self.old) result self.old self.new }
+        ensures { AnswersAs (outcome Dpi300 Reset zero_value false self.old) result self.old self.new }
     {
         *self = Env::new(self.setup.profile);
         Ok(Effect::EjectMarked)
@@ -29,7 +29,7 @@ impl Env {
     /// Sets what a job begins with, where the value is -12345 ("Universal Exit Language").
     #[tactic(auto, unfolding(crate::specs::Outcome::outcome))]
     pub fn universal_exit(&mut self, value: Value) -> Result<Effect, Unsupported>
-        ensures { Answers (outcome Dpi300 UniversalExit value false self.old) result self.old self.new }
+        ensures { AnswersAs (outcome Dpi300 UniversalExit value false self.old) result self.old self.new }
     {
         if value.is_exit_number() {
             self.reset()
@@ -41,7 +41,7 @@ impl Env {
     /// Sets the page size by its number, and with it the margins and the cursor ("Page Size").
     #[tactic(auto, unfolding(crate::specs::Outcome::outcome))]
     pub fn set_page_size(&mut self, value: Value) -> Result<Effect, Unsupported>
-        ensures { Answers (outcome Dpi300 PageSize value false self.old) result self.old self.new }
+        ensures { AnswersAs (outcome Dpi300 PageSize value false self.old) result self.old self.new }
     {
         match value.count().and_then(Size::from_code) {
             Some(size) => {
@@ -55,7 +55,7 @@ impl Env {
     /// Sets the copies of each page ("Number of Copies").
     #[tactic(auto, unfolding(crate::specs::Outcome::outcome))]
     pub fn set_copies(&mut self, value: Value) -> Result<Effect, Unsupported>
-        ensures { Answers (outcome Dpi300 Copies value false self.old) result self.old self.new }
+        ensures { AnswersAs (outcome Dpi300 Copies value false self.old) result self.old self.new }
     {
         match value.count() {
             Some(copies @ 1..=MOST_COPIES) => {
@@ -76,7 +76,7 @@ impl Env {
         value: Value,
         is_marked: bool,
     ) -> Result<Effect, Unsupported>
-        ensures { Answers (outcome Dpi300 (Ask what) value is_marked self.old) result self.old self.new }
+        ensures { AnswersAs (outcome Dpi300 (Ask what) value is_marked self.old) result self.old self.new }
     {
         if !self.is_asking_taken(what, value, is_marked) {
             return Err(Unsupported);

@@ -7,7 +7,7 @@ ghost use Rattle.pcl_env.specs.Settings.{Settings};
 ghost use Rattle.pcl_env.specs.Outcome.{resolutions, is_one_of, none_if_zero};
 ghost use Rattle.pcl_env.specs.Usable.{is_raster_resolution};
 ghost use Rattle.pcl_base.specs.declared.dpi.Dpi.TheVariants.{Dpi300};
-ghost use Rattle.pcl_env.specs.Outcome.{outcome, Answers};
+ghost use Rattle.pcl_env.specs.Outcome.{outcome, AnswersAs};
 
 use super::Env;
 use super::moves::scaled;
@@ -23,7 +23,7 @@ impl Env {
         unit: Unit,
         value: Value,
     ) -> Result<Effect, Unsupported>
-        ensures { Answers (outcome Dpi300 (RectangleSize axis unit) value false self.old) result self.old self.new }
+        ensures { AnswersAs (outcome Dpi300 (RectangleSize axis unit) value false self.old) result self.old self.new }
     {
         value.count().ok_or(Unsupported)?;
         let length = scaled(value, self.unit_of(axis, unit));
@@ -37,7 +37,7 @@ impl Env {
     /// Sets the raster resolution ("Raster Resolution").
     #[tactic(auto, unfolding(crate::specs::Outcome::outcome))]
     pub fn set_raster_resolution(&mut self, value: Value, dpi: Dpi) -> Result<Effect, Unsupported>
-        ensures { Answers (outcome dpi RasterResolution value false self.old) result self.old self.new }
+        ensures { AnswersAs (outcome dpi RasterResolution value false self.old) result self.old self.new }
     {
         let resolution = value.count().ok_or(Unsupported)?;
         if !is_resolution(resolution, dpi) {
@@ -50,7 +50,7 @@ impl Env {
     /// Sets the raster width in raster dots, or with 0 that there is none ("Source Raster Width").
     #[tactic(auto, unfolding(crate::specs::Outcome::outcome))]
     pub fn set_raster_width(&mut self, value: Value) -> Result<Effect, Unsupported>
-        ensures { Answers (outcome Dpi300 RasterWidth value false self.old) result self.old self.new }
+        ensures { AnswersAs (outcome Dpi300 RasterWidth value false self.old) result self.old self.new }
     {
         let width = value.count().ok_or(Unsupported)?;
         self.setup.raster_width = none_if_zero(width);
@@ -60,7 +60,7 @@ impl Env {
     /// Sets the raster height in raster dots, or with 0 that there is none ("Source Raster Height").
     #[tactic(auto, unfolding(crate::specs::Outcome::outcome))]
     pub fn set_raster_height(&mut self, value: Value) -> Result<Effect, Unsupported>
-        ensures { Answers (outcome Dpi300 RasterHeight value false self.old) result self.old self.new }
+        ensures { AnswersAs (outcome Dpi300 RasterHeight value false self.old) result self.old self.new }
     {
         let height = value.count().ok_or(Unsupported)?;
         self.setup.raster_height = none_if_zero(height);
@@ -70,7 +70,7 @@ impl Env {
     /// Sets the method of row data by its number ("Set Compression Method").
     #[tactic(auto, unfolding(crate::specs::Outcome::outcome))]
     pub fn set_raster_method(&mut self, value: Value) -> Result<Effect, Unsupported>
-        ensures { Answers (outcome Dpi300 RasterMethod value false self.old) result self.old self.new }
+        ensures { AnswersAs (outcome Dpi300 RasterMethod value false self.old) result self.old self.new }
     {
         let method = value
             .count()
@@ -83,7 +83,7 @@ impl Env {
     /// Sets method 0, as the end of a raster by one of its two commands does ("End Raster Graphics").
     #[tactic(auto, unfolding(crate::specs::Outcome::outcome))]
     pub fn reset_raster_method(&mut self) -> Result<Effect, Unsupported>
-        ensures { Answers (outcome Dpi300 EndRasterResetMethod zero_value false self.old) result self.old self.new }
+        ensures { AnswersAs (outcome Dpi300 EndRasterResetMethod zero_value false self.old) result self.old self.new }
     {
         self.set_method(Method::Plain);
         Ok(Effect::Stay)

@@ -15,10 +15,10 @@ unfoldable pub lines_from : ℕ → ℕ → List ℕ → Result (List ℕ) ℕ
 lines_from zero place bytes = Ok bytes
 lines_from (suc more) place bytes =
     let line = take (line_len bytes) bytes in
-    let behind = drop (line_len bytes) bytes in
+    let after = drop (line_len bytes) bytes in
     if not (is_job_line bytes) then Ok bytes
-    else (if not (names_language line) then lines_from more (place + line_len bytes) behind
-    else (if names_pcl line then Ok behind else Err place))
+    else (if not (names_language line) then lines_from more (place + line_len bytes) after
+    else (if names_pcl line then Ok after else Err place))
 
 -- each line has bytes
 abbrev pub lines_at : ℕ → List ℕ → Result (List ℕ) ℕ

@@ -145,9 +145,9 @@ abbrev pub step_view : Progress → Reads
 step_view step = record { said = said_of step.command; rest = step.rest.now; inside = step.inside }
 
 -- what a function returned is what a step reads
-abbrev pub Gives : Result Progress Refusal → Result Reads Refusal → Type 0
-Gives (Ok step) reads = reads ≡ Ok (step_view step)
-Gives (Err refusal) reads = reads ≡ Err refusal
+abbrev pub GivesReads : Result Progress Refusal → Result Reads Refusal → Type 0
+GivesReads (Ok step) reads = reads ≡ Ok (step_view step)
+GivesReads (Err refusal) reads = reads ≡ Err refusal
 
 -- ---- all steps
 
@@ -167,19 +167,19 @@ and_then (Ok reads) go_on = with_front (commands_said reads.said) (go_on reads)
 and_then (Err fault) go_on = Err fault
 
 -- what the reading of the bytes gives, in at most this many steps; the bytes begin at a place
-unfoldable pub outcome : Profile → ℕ → Option Prefix → ℕ → List ℕ → Result (List Said) Refusal
-outcome profile zero inside at bytes = Ok []
-outcome profile (suc steps) None at [] = Ok []
-outcome profile (suc steps) None at (byte ∷ bytes) =
+unfoldable pub read_outcome : Profile → ℕ → Option Prefix → ℕ → List ℕ → Result (List Said) Refusal
+read_outcome profile zero inside at bytes = Ok []
+read_outcome profile (suc steps) None at [] = Ok []
+read_outcome profile (suc steps) None at (byte ∷ bytes) =
     and_then (step_at profile None at (byte ∷ bytes))
-    (λ reads. outcome profile steps reads.inside (at + (length (byte ∷ bytes) - length reads.rest)) reads.rest)
-outcome profile (suc steps) (Some prefix) at bytes =
+    (λ reads. read_outcome profile steps reads.inside (at + (length (byte ∷ bytes) - length reads.rest)) reads.rest)
+read_outcome profile (suc steps) (Some prefix) at bytes =
     and_then (step_at profile (Some prefix) at bytes)
-    (λ reads. outcome profile steps reads.inside (at + (length bytes - length reads.rest)) reads.rest)
+    (λ reads. read_outcome profile steps reads.inside (at + (length bytes - length reads.rest)) reads.rest)
 
 -- each step but the last takes a byte
 abbrev pub outcome_of : Profile → List ℕ → Result (List Said) Refusal
-outcome_of profile job = outcome profile (suc (length job)) None 0 job
+outcome_of profile job = read_outcome profile (suc (length job)) None 0 job
 
 -- what a function returned is the outcome, with the commands that it gave, unless memory ran out
 abbrev pub Yields : Result (Unit {0}) JobFault → List Said → Result (List Said) Refusal → Type 0

@@ -9,7 +9,7 @@ HasRow width bytes row (Some rest) =
     (bits : List Bool) × (row_by_runs false width bytes ≡ Some (record { bits = bits; rest = rest }))
     × (row ≡ bytes_of ((width + 7) / 8) bits)
 
--- the rows that data give, if they do, stand behind those that stood there
+-- the rows that data give, if they do, stand after those that stood there
 abbrev pub HasRows : List ℕ → List ℕ → Bool → Option (List ℕ) → Type 0
 HasRows old new true given = (rows : List ℕ) × (given ≡ Some rows) × (new ≡ old ++ rows)
 HasRows old new false given = given ≡ None

@@ -210,14 +210,14 @@ IsTurned {S} takes dpi None s (Err (Refused kind)) new old_sink new_sink = (kind
 IsTurned {S} takes dpi outcome s (Err Memory) new old_sink new_sink = new_sink ≡ old_sink
 
 -- a command was performed, or it is refused, or memory ran out, before the page was handed over that it ejects or after that
-abbrev pub IsTried : {S : Type 0} → (S → Page → S → Type 0) → Dpi → Said → Situation → Result Operation CallFault → Performer → S → S
+abbrev pub IsHandled : {S : Type 0} → (S → Page → S → Type 0) → Dpi → Said → Situation → Result Operation CallFault → Performer → S → S
     → Type 0
-IsTried {S} takes dpi command s (Ok operation) new old_sink new_sink =
+IsHandled {S} takes dpi command s (Ok operation) new old_sink new_sink =
     (later : Situation) × (operation_of command.name ≡ Some operation) × (after_checked dpi command s ≡ Ok later) × IsIn dpi later new
     × HandsMore takes dpi s later old_sink new_sink
-IsTried {S} takes dpi command s (Err (Refused kind)) new old_sink new_sink =
+IsHandled {S} takes dpi command s (Err (Refused kind)) new old_sink new_sink =
     (after_checked dpi command s ≡ Err kind) × (new_sink ≡ old_sink)
-IsTried {S} takes dpi command s (Err Memory) new old_sink new_sink =
+IsHandled {S} takes dpi command s (Err Memory) new old_sink new_sink =
     (new_sink ≡ old_sink) ⊎ ((later : Situation) × (after_checked dpi command s ≡ Ok later) × HandsMore takes dpi s later old_sink new_sink)
 
 -- the input's end was performed, or it is refused at the end with the empty name, or memory ran out

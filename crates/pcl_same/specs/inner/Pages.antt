@@ -69,10 +69,10 @@ pub record IsFirstFound (found : List (Option Difference)) (number : ℕ) (diffe
   pub counted : number ≡ length before + 1
 
 -- how a number of pages differ from others, by what was found of each of these
-abbrev pub IsConcluded : ℕ → List (Option Difference) → Option PagesDifference → Type 0
-IsConcluded count found None = (length found ≡ count) × AllByRecursion IsAlike found
-IsConcluded count found (Some (pages.Count first second)) = (first ≡ count) × (second ≡ length found) × (first ≢ second)
-IsConcluded count found (Some (pages.Page number difference)) = (length found ≡ count) × IsFirstFound found number difference
+abbrev pub PagesDifferBy : ℕ → List (Option Difference) → Option PagesDifference → Type 0
+PagesDifferBy count found None = (length found ≡ count) × AllByRecursion IsAlike found
+PagesDifferBy count found (Some (pages.Count first second)) = (first ≡ count) × (second ≡ length found) × (first ≢ second)
+PagesDifferBy count found (Some (pages.Page number difference)) = (length found ≡ count) × IsFirstFound found number difference
 
 -- the same as an answer
 abbrev pub comparison_of : Option PagesDifference → PageComparison

@@ -38,7 +38,7 @@ BeginsWith output proofs texts (job.Page place verdict) = ⊥
 BeginsWith output proofs texts (job.Certificate fault) = ⊥
 BeginsWith output proofs texts job.PageCount = ⊥
 
-pub record IsBegun (output : List ℕ) (proofs : List PageProof) (checker : Checker) : Type 0 where
+pub record IsNewChecker (output : List ℕ) (proofs : List PageProof) (checker : Checker) : Type 0 where
   pub proofs_are : checker.proofs.now ≡ proofs
   pub none_taken : checker.taken ≡ 0
   pub begins : BeginsWith output proofs checker.texts.now checker.found

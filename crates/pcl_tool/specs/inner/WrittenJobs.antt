@@ -34,9 +34,9 @@ abbrev pub HasCount : Inside → Type 0
 HasCount a = IsCounted a.format a.certificate.items
 
 -- the certificate of no page
-abbrev pub IsBegun : Option Format → List ℕ → Type 0
-IsBegun None certificate = certificate ≡ []
-IsBegun (Some format) certificate = certificate ≡ certificate_bytes format []
+abbrev pub CertifiesNoPage : Option Format → List ℕ → Type 0
+CertifiesNoPage None certificate = certificate ≡ []
+CertifiesNoPage (Some format) certificate = certificate ≡ certificate_bytes format []
 
 -- what a certificate says of a page's text
 pub record Proves (format : Format) (page : Page) (text : List ℕ) (proof : PageProof) : Type 0 where

@@ -39,18 +39,18 @@ loop-row-preserved c =
     let after : c.loop-row.row ≡ row + 1 = omega arith in
     let on_page : row < page_height picture.size picture.dpi = omega (arith, height, c.loop-row.auto.row) in
     let inside : row < length rows = omega (arith, length_rows (page_height picture.size picture.dpi) width picture.bytes, on_page) in
-    let behind = rw after at c.loop-row.invariant in
+    let beyond = rw after at c.loop-row.invariant in
     let bytes = row_of_bytes row (page_height picture.size picture.dpi) width picture.bytes on_page in
     elim c.if-is_blank.branch [
       | then-is_blank w ↦
           let white : IsWhite (row_at rows row) =
           rw bytes (recursion_from_All (λ (byte : ℕ). byte ≡ 0) _ (c.is_blank.ensures.bytes.0 w.if-is_blank.true)) in
-          let next = behind.runs (row + 1) (omega arith) (omega arith) in
+          let next = beyond.runs (row + 1) (omega arith) (omega arith) in
           let end : ℕ = slice_index c.loop-row.ends (row + 1) in
           let more : end - row ≡ end - (row + 1) + 1 = omega (arith, next.0) in
-          rw w.ends-is (ends_more inside behind (omega (arith, next.0)) (rw more (run_more inside next.1 white)))
+          rw w.ends-is (ends_more inside beyond (omega (arith, next.0)) (rw more (run_more inside next.1 white)))
       | else-is_blank w ↦
           let inked : IsWhite (row_at rows row) → ⊥ = λ white.
           iff_false c.is_blank.ensures.bytes w.if-is_blank.false (All-from_recursion (λ (byte : ℕ). byte ≡ 0) _ (rw bytes at white)) in
-          let none : row - row ≡ 0 = omega arith in rw w.ends-is (ends_more inside behind (omega arith) (rw none (run_none inside inked)))
+          let none : row - row ≡ 0 = omega arith in rw w.ends-is (ends_more inside beyond (omega arith) (rw none (run_none inside inked)))
     ]

@@ -35,8 +35,8 @@ body_at {dpi} {text} {rest} start begun begins printed =
     let here : BeginsAs dpi text start.copies start.size start.rest.now = record { few = begun.1; text_is = begun.2 } in
     let found = size_read begins (begins_size here) in
     let same = same_size begins (begins_size here) (size_coded start.size) in
-    let behind = append_cancel_left (raster_start start.size dpi) start.rest.now rest (rw same at found.2) in
-    (found.0, sym same, rw (sym same, behind) printed)
+    let after = append_cancel_left (raster_start start.size dpi) start.rest.now rest (rw same at found.2) in
+    (found.0, sym same, rw (sym same, after) printed)
 
 -- rows of a page's size that begin its rows are all of them
 whole_page : (picture : Picture) {rows : List (List ℕ)} → length rows ≡ page_height picture.size picture.dpi

@@ -32,8 +32,8 @@ placed c =
           rw (w.start-is, w.best-is)
           (next_start_stays (rw after at (c.loop-place.invariant.next (omega (arith, more)))) w.if-old-place.false)
     ] in
-    let behind = subst (AreRightFrom Delta c.args.old.now row out) after c.loop-place.invariant.right in
-    let done = place_done c.requires size inside behind (delta_place c.requires size inside next).1 in
+    let beyond = subst (AreRightFrom Delta c.args.old.now row out) after c.loop-place.invariant.right in
+    let done = place_done c.requires size inside beyond (delta_place c.requires size inside next).1 in
     (next, done.0, done.1)
 
 pub overflow_add-out : goal.overflow_add-out

@@ -20,15 +20,15 @@ loop-place-preserved c =
     let after : c.loop-place.place ≡ place + 1 = omega arith in
     let inside : place < end = omega (arith, c.loop-place.auto.place) in
     let size : length out ≡ length row + 1 = c.loop-place.auto.out ∙ c.requires.size in
-    let behind = subst (AreRightFrom Packed (white_like row) row out) after c.loop-place.invariant.right in
+    let beyond = subst (AreRightFrom Packed (white_like row) row out) after c.loop-place.invariant.right in
     let has = subst (λ (at : ℕ). HasLiteralEnd out end at c.loop-place.best) after c.loop-place.invariant.literal in
     let is = c.literal_end-best.ensures end inside has in
     let from = subst (λ (p : ℕ). IsRunFrom row end p c.loop-place.run_end) after c.loop-place.invariant.run in
     let run : IsRunEnd row place c.if-place-end.run_end = run_next c.requires inside from (grind (arith, c.if-place-end.branch))
     (grind (arith, c.if-place-end.branch)) (grind (arith, c.if-place-end.branch)) in
-    let choice = packed_place c.requires size inside behind is run refl c.repeat_number.ensures.none
+    let choice = packed_place c.requires size inside beyond is run refl c.repeat_number.ensures.none
     c.repeat_number.ensures.some c.min.ensures in
-    let right = (place_done c.requires size inside behind choice.1).0 in
+    let right = (place_done c.requires size inside beyond choice.1).0 in
     record {
       right = right;
       run = record { first = λ at_end. absurd (omega arith); run = λ _. run };

@@ -14,13 +14,13 @@ loop-place-preserved c =
     let next : c.loop-place.place ≡ place + 1 = omega arith in
     let inside : place < end = omega (arith, c.loop-place.auto.place) in
     let size : length c.loop-place.out ≡ length row + 1 = c.loop-place.auto.out ∙ c.requires.size in
-    let behind = subst (AreRightFrom Runs (white_like row) row c.loop-place.out) next c.loop-place.invariant.right in
+    let beyond = subst (AreRightFrom Runs (white_like row) row c.loop-place.out) next c.loop-place.invariant.right in
     let from = subst (λ (p : ℕ). IsRunFrom row end p c.loop-place.run_end) next c.loop-place.invariant.run in
     let run : IsRunEnd row place c.if-place-end.run_end = run_next c.requires inside from (grind (arith, c.if-place-end.branch))
     (grind (arith, c.if-place-end.branch)) (grind (arith, c.if-place-end.branch)) in
     let len : ℕ = min (c.if-place-end.run_end - place) 256 in
     let at : c.min.result ≡ place + len = omega (arith, c.min.ensures, run.after) in
     record {
-      right = rw at (place_done c.requires size inside behind (runs_place c.requires size inside behind run refl)).0;
+      right = rw at (place_done c.requires size inside beyond (runs_place c.requires size inside beyond run refl)).0;
       run = record { first = λ at_end. absurd (omega arith); run = λ _. run };
     }

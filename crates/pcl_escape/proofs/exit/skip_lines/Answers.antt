@@ -7,7 +7,7 @@ use Rattle.pcl_escape.proofs.exit.skip_lines.Goals.{After-front-1}
 
 -- the line at the front is cut off
 cut_off : (c : After-front-1) → IsCut c.loop-line.rest.now c.split_at.result.0.now c.split_at.result.1.now
-cut_off c = record { job = c.loop-line-test.ensures.value; line_is = cc; behind_is = cc }
+cut_off c = record { job = c.loop-line-test.ensures.value; line_is = cc; after_is = cc }
 
 -- where it asks for a language, nothing more is skipped
 asking : (c : After-front-1) {pcl : Bool} → true ≡ names_language c.split_at.result.0.now → pcl ≡ names_pcl c.split_at.result.0.now
@@ -32,13 +32,13 @@ returns-else-eq c =
 pub loop-line-preserved : goal.loop-line-preserved
 loop-line-preserved c =
     let rest = c.loop-line.rest.now in
-    let behind = c.split_at.result.1.now in
+    let after = c.split_at.result.1.now in
     let at = c.args.place + (length c.args.bytes.now - length rest) in
     let other = slice_names_language c.split_at.result.0.now c.if-starts_with.ensures.value c.as_slice.ensures.value
     c.squeezed_front-front.ensures in
     let within : length rest ≤ length c.args.bytes.now = c.loop-line.invariant.within in
-    let fewer : length behind ≤ length rest = omega arith in
-    let place : c.args.place + (length c.args.bytes.now - length behind) ≡ at + (length rest - length behind) = omega arith in
+    let fewer : length after ≤ length rest = omega arith in
+    let place : c.args.place + (length c.args.bytes.now - length after) ≡ at + (length rest - length after) = omega arith in
     record {
       within = omega arith;
       same = rw place (sym (at_cut at (cut_off (goal.at.loop-line-preserved c).After-front-1) ∙ rw (← other) refl))

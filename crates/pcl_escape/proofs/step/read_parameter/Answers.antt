@@ -2,7 +2,7 @@ use Rattle.std.proofs.Common.{◌≡◌, false, refl, length}
 use Rattle.pcl_escape.specs.Checks.{parameter_checks}
 use Rattle.pcl_escape.proofs.Names.{spelled, field_value, in_range, checked_at}
 use Rattle.pcl_escape.specs.inner.Scan.{parameter_at}
-use Rattle.pcl_escape.proofs.Parameters.{nothing_behind, not_given, given, some_if}
+use Rattle.pcl_escape.proofs.Parameters.{nothing_after, not_given, given, some_if}
 use Rattle.pcl_escape.proofs.step.read_parameter.Goals as goal
 use Rattle.pcl_escape.proofs.step.read_parameter.Goals.{After-parameter_name-name}
 
@@ -16,7 +16,7 @@ checked c = rw (← c.read_field.ensures, c.in-Some.ensures.cases.0, ← c.if-no
 
 pub returns-in_default : goal.returns-in_default
 returns-in_default c = rw (c.refused.ensures, c.name.ensures)
-    (nothing_behind c.args.profile c.args.prefix c.args.at c.args.bytes.now c.read_field.result.1.now
+    (nothing_after c.args.profile c.args.prefix c.args.at c.args.bytes.now c.read_field.result.1.now
     c.read_field.ensures c.in_default.ensures.cases)
 
 pub returns-then-not-is_letter : goal.returns-then-not-is_letter

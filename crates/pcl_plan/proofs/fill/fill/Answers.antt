@@ -22,7 +22,7 @@ loop-row-preserved g c =
     let count = length_rows rows.count rows.width rows.bytes.now in
     let row : ℕ = c.loop-row.row - 1 in
     let after : c.loop-row.row ≡ row + 1 = omega arith in
-    let behind = subst (AreRightFrom rows.width (rows_of rows) c.loop-row.table) after c.loop-row.invariant.right in
+    let beyond = subst (AreRightFrom rows.width (rows_of rows) c.loop-row.table) after c.loop-row.invariant.right in
     let put : IsPut c.loop-row.table c.put-in-loop-row.new.self row c.if-row-run.numbers = record {
       size = c.put-in-loop-row.ensures.rows;
       changed = c.put-in-loop-row.ensures.changed;
@@ -33,11 +33,11 @@ loop-row-preserved g c =
       right = elim c.if-row-run.branch [
         | then-row-run w ↦
             let inside : row < length (rows_of rows) = omega (arith, count, c.loop-row-test.true, c.loop-row.auto.row) in
-            put_white inside (rw (w.numbers-is, w.at_end-numbers.ensures) at put) behind (white_to_end run (w.if-row-run.true ∙ sym count))
+            put_white inside (rw (w.numbers-is, w.at_end-numbers.ensures) at put) beyond (white_to_end run (w.if-row-run.true ∙ sym count))
         | else-row-run w ↦
             let ink : row + c.white_run-run.result < length (rows_of rows) = omega
             (arith, count, w.if-row-run.false, c.white_run-run.ensures.within) in
-            put_inked (rw w.numbers-is at put) behind (omega (arith, count, rows.few)) run ink w.row_numbers-numbers.ensures
+            put_inked (rw w.numbers-is at put) beyond (omega (arith, count, rows.few)) run ink w.row_numbers-numbers.ensures
       ];
       run = run;
     }

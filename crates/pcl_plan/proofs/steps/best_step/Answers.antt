@@ -51,7 +51,7 @@ returns-in_default-beginning_switch g c =
 pub overflow_add-row_cost : goal.overflow_add-row_cost
 overflow_add-row_cost g c =
     let below = inside_page c.args.rows.now c.requires.row in
-    let behind = small_number (right_table c.args.rows.now c.requires.right) (node (c.args.row + 1) c.args.method false) (omega arith) in
+    let after = small_number (right_table c.args.rows.now c.requires.right) (node (c.args.row + 1) c.args.method false) (omega arith) in
     omega (arith, c.row_cost.ensures.small, c.number-sent.ensures)
 
 pub returns-then-row_cost-sent : goal.returns-then-row_cost-sent

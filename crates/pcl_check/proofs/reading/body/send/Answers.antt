@@ -19,7 +19,7 @@ pub returns-then-place-height : goal.returns-then-place-height
 returns-then-place-height c = λ rows printed.
     no_send (told c.args.comparison.bitmap.now c.args.comparison.size c.args.above.now c.args.place _ c.requires.inside
     c.requires.parameter) c.requires.letter
-    (λ sent behind first m joined some row row_data.
+    (λ sent after first m joined some row row_data.
     let parts = c.in_ok-bytes.ensures in
     let same = same_fronts sent c.in_ok-bytes.bytes.now (omega (arith, c.requires.parameter.number_is, m, parts.0, parts.1))
     (sym joined ∙ parts.2) in

@@ -14,10 +14,10 @@ returns c =
     let text = c.args.text.now in
     let split = front_split is_digit text in
     let front = c.split_at.ensures.front ∙ ap (λ (n : ℕ). take n text) c.digit_count.ensures.count in
-    let behind = c.split_at.ensures.back ∙ ap (λ (n : ℕ). drop n text) c.digit_count.ensures.count in
+    let after = c.split_at.ensures.back ∙ ap (λ (n : ℕ). drop n text) c.digit_count.ensures.count in
     record {
       are_digits = rw front split.pass;
-      no_digit = rw (sym behind ∙ c.in_ok-letter.ensures.cases.0) at split.stops;
-      spelled = rw (front, sym c.in_ok-letter.ensures.cases.0, behind) split.joined;
+      no_digit = rw (sym after ∙ c.in_ok-letter.ensures.cases.0) at split.stops;
+      spelled = rw (front, sym c.in_ok-letter.ensures.cases.0, after) split.joined;
       number_is = c.number.ensures;
     }

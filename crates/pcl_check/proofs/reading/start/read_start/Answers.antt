@@ -29,7 +29,7 @@ returns-in_err-rest c =
     let none = strip_prefix_is Decides-eqb c.in_ok-code.rest.now c.raster_start.result.now None c.in_err-rest.ensures.cases in
     rw c.from_residual-in_err-rest.ensures
     (λ copies size rest some few e. no_raster (record { few = few; text_is = e }) read (sym c.in_ok-size.ensures)
-    (λ behind is. none behind (rw c.raster_start.ensures is)))
+    (λ after is. none after (rw c.raster_start.ensures is)))
 
 pub returns-then-copies-eq0 : goal.returns-then-copies-eq0
 returns-then-copies-eq0 c = λ copies size rest some few e.

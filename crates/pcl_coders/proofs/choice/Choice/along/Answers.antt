@@ -44,11 +44,11 @@ returns-in-Runs c =
     rw (c.in-Runs.is, c.from-sum.ensures) (along_run c.requires.same (rw c.in-Runs.is at c.requires.right)
     c.run_end.ensures c.min-len.ensures)
 
-pub behind-requires-clause-inside : goal.behind-requires-clause-inside
-behind-requires-clause-inside c =
+pub after-requires-clause-inside : goal.after-requires-clause-inside
+after-requires-clause-inside c =
     along_start c.requires.same (rw c.in-Delta.is at c.requires.right) c.requires.needed c.first_difference-start.ensures
 
 pub returns-in-Delta : goal.returns-in-Delta
 returns-in-Delta c =
     rw c.in-Delta.is (along_replacement c.requires.same c.requires.place.size (rw c.in-Delta.is at c.requires.right) c.requires.needed
-    c.first_difference-start.ensures c.behind.ensures)
+    c.first_difference-start.ensures c.after.ensures)

@@ -2,7 +2,7 @@ use Rattle.std.proofs.Common.{◌≡◌, length, ap, ◌∙◌, arith}
 use Rattle.pcl_same.proofs.Names.{accepted_pages, has_pages, Compared}
 use Rattle.pcl_same.proofs.Answered.{beside_kept}
 use Rattle.pcl_same.proofs.Beside.{found_all}
-use Rattle.pcl_same.proofs.comparing.compare_counting.Goals as goal
+use Rattle.pcl_same.proofs.comparing.compare_by_last_exit.Goals as goal
 
 pub returns : goal.returns
 returns c = λ first kept.

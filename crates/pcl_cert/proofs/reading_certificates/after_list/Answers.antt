@@ -1,7 +1,7 @@
 use Rattle.std.proofs.Common.{◌≡◌, ◌*◌, ◌∙◌, true, false, take, drop, List, ℕ, arith, refl}
 use Rattle.pcl_cert.proofs.Names.{ends_in_zero, numbers_from}
 use Rattle.pcl_cert.proofs.Lists.{list_checked}
-use Rattle.pcl_cert.proofs.reading_certificates.behind_list.Goals as goal
+use Rattle.pcl_cert.proofs.reading_certificates.after_list.Goals as goal
 
 pub returns-then-ends_in_zero : goal.returns-then-ends_in_zero
 returns-then-ends_in_zero c =
