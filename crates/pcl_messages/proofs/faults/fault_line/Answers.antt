@@ -29,13 +29,17 @@ returns c =
           (w.in_ok-extend_from_slice-in-NoSuchPage-2.ensures.items ∙ ap
           (λ (s : List ℕ). w.extend_from_slice-in-NoSuchPage.new.self.items ++ s) (w.as_bytes.ensures.value ∙ w.format.ensures.text))) ended
       | in-ReadFault+in_ok-extend_from_slice-in-ReadFault w ↦
-          said page begun w.in-ReadFault.is w.line-is w.in_ok-extend_from_slice-in-ReadFault.ensures.items ended
+          said page begun w.in-ReadFault.is w.line-is
+          (w.in_ok-extend_from_slice-in-ReadFault.ensures.items ∙ ap
+          (λ (s : List ℕ). c.in_ok-line.line.items ++ s) w.as_bytes-in-ReadFault.ensures.value) ended
       | in-TooLong+in_ok-extend_from_slice-in-TooLong w ↦
           said page begun w.in-TooLong.is w.line-is w.in_ok-extend_from_slice-in-TooLong.ensures.items ended
       | in-CertificateTooLong+in_ok-extend_from_slice-in-CertificateTooLong w ↦
           said page begun w.in-CertificateTooLong.is w.line-is w.in_ok-extend_from_slice-in-CertificateTooLong.ensures.items ended
       | in-WriteFault+in_ok-extend_from_slice-in-WriteFault w ↦
-          said page begun w.in-WriteFault.is w.line-is w.in_ok-extend_from_slice-in-WriteFault.ensures.items ended
+          said page begun w.in-WriteFault.is w.line-is
+          (w.in_ok-extend_from_slice-in-WriteFault.ensures.items ∙ ap
+          (λ (s : List ℕ). c.in_ok-line.line.items ++ s) w.as_bytes-in-WriteFault.ensures.value) ended
       | in-Memory+in_ok-extend_from_slice-in-Memory w ↦
           said page begun w.in-Memory.is w.line-is w.in_ok-extend_from_slice-in-Memory.ensures.items ended
     ]
