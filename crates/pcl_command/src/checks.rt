@@ -11,7 +11,7 @@ use pcl_tool::{CheckAnswer, check_images, check_job_watched};
 use std::alloc::Global;
 use std::io::Write;
 
-/// Reads the files, checks the job, and writes the line of the verdict. The input or the images are read first; the watcher is called
+/// Reads the files, checks the job, and writes the line of the verdict. The input or the images are read first; the reporter is called
 /// for each page that is done, and at the end, before the line is written. Nothing is written after any fault but of a write, and
 /// then a prefix of the line.
 pub fn check<F: JobFiles, W: Write, P: Watcher>(
@@ -19,7 +19,7 @@ pub fn check<F: JobFiles, W: Write, P: Watcher>(
     alloc: Global,
     asked: CheckedFiles<'_>,
     out: &mut W,
-    watcher: P,
+    reporter: P,
 ) -> Result<CheckAnswer, Fault>
     ensures { IsCheckRun F.acts files.now asked.entry (W.contents out.old) (W.contents out.new) result }
 {
@@ -39,7 +39,7 @@ pub fn check<F: JobFiles, W: Write, P: Watcher>(
         &output,
         &certificate,
         dpi,
-        watcher,
+        reporter,
     )?;
     let line = answer_line(alloc, asked.layout, &answer)?;
     write_all(out, &line)?;
@@ -54,15 +54,15 @@ fn answer<P: Watcher>(
     output: &[u8],
     certificate: &[u8],
     dpi: Dpi,
-    watcher: P,
+    reporter: P,
 ) -> Result<CheckAnswer, Fault>
     ensures { IsCheckedBeside beside dpi input.now output.now certificate.now result }
 {
     match beside {
         Beside::Input => {
-            let verdict = check_job_watched(alloc, input, output, certificate, dpi, watcher)?;
+            let verdict = check_job_watched(alloc, input, output, certificate, dpi, reporter)?;
             Ok(CheckAnswer::Job(verdict))
         }
-        Beside::Images => check_images(alloc, input, output, certificate, dpi, watcher),
+        Beside::Images => check_images(alloc, input, output, certificate, dpi, reporter),
     }
 }

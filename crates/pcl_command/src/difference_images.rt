@@ -7,8 +7,8 @@ ghost use Rattle.pcl_command.specs.DifferenceImages.{dotted_page, DifferInDots, 
 use pcl_base::{Dpi, Profile};
 use pcl_bitmap::Bitmap;
 use pcl_files::{JobFiles, settle};
-use pcl_same::{Difference, PageComparison, differing_dots, read_by};
 use pcl_preview::{page_dots, write_image};
+use pcl_same::{Difference, PageComparison, differing_dots, read_by};
 use pcl_streams::Fault;
 use std::alloc::Global;
 
