@@ -1,5 +1,6 @@
 pub mod Names
 pub mod Written
+pub mod Left
 pub mod SamePages
 pub mod Drawn
 pub mod ComparedFor

@@ -8,8 +8,6 @@ use Rattle.pcl_base.specs.declared.refusal.Refusal.{Refusal}
 use Rattle.pcl_page.specs.Delivering.{IsRefusal}
 use Rattle.pcl_streams.specs.declared.fault.Fault.{Fault}
 use Rattle.pcl_streams.specs.declared.fault.Fault.TheVariants.{Refused, Memory, ReadFault, TooLong, CertificateTooLong, WriteFault, NoSuchPage}
-use Rattle.pcl_tool.specs.declared.job_verdict.JobVerdict.{JobVerdict}
-use Rattle.pcl_tool.specs.declared.job_verdict.JobVerdict.TheVariants as job
 use Rattle.pcl_tool.specs.declared.job_verdict.CheckAnswer.{CheckAnswer}
 use Rattle.pcl_tool.specs.declared.job_verdict.CheckAnswer.TheVariants as answer
 use Rattle.pcl_streams.specs.JobFaults.{RefusedOrMemory}

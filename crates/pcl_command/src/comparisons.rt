@@ -6,7 +6,7 @@ ghost use Rattle.pcl_request.specs.Resolutions.{IsFirstCommon};
 ghost use Rattle.pcl_request.specs.declared.request.Resolution.TheVariants.{FirstAccepted};
 ghost use Rattle.pcl_command.specs.Comparisons.{AreComparedAt, IsComparedFor, IsCompareRun, IsFiner};
 
-use crate::difference_images::draw_difference;
+use crate::difference_images::{ComparedJobs, draw_difference};
 use pcl_base::{Dpi, Profile};
 use pcl_files::{JobFiles, read_file};
 use pcl_messages::{CompareFault, comparison_line};
@@ -39,16 +39,13 @@ pub fn compare<F: JobFiles, W: Write>(
     let comparison = compare_jobs(alloc, asked.asks, &first, &second, asked.profile, dpi)?;
     let line = comparison_line(alloc, asked.layout, &comparison)?;
     let pages = comparison.of_pages();
-    draw_difference(
-        files,
-        alloc,
-        asked.image,
-        &first,
-        &second,
-        asked.profile,
+    let jobs = ComparedJobs {
+        first: &first,
+        second: &second,
+        widest: asked.profile,
         dpi,
-        &pages,
-    )?;
+    };
+    draw_difference(files, alloc, asked.image, jobs, &pages)?;
     write_all(out, &line)?;
     Ok(comparison)
 }

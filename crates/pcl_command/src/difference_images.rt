@@ -12,24 +12,31 @@ use pcl_same::{Difference, PageComparison, differing_dots, read_by};
 use pcl_streams::Fault;
 use std::alloc::Global;
 
+/// Two jobs as they were compared, by this widest profile.
+#[derive(Clone, Copy)]
+pub struct ComparedJobs<'a> {
+    pub first: &'a [u8],
+    pub second: &'a [u8],
+    pub widest: Profile,
+    pub dpi: Dpi,
+}
+
 /// Makes the file that is asked for, with an image of the dots that differ on the first page that does; none where that page
-/// differs in something else. The jobs are read as they were compared, by this widest profile.
+/// differs in something else. The jobs are read as they were compared.
 pub fn draw_difference<F: JobFiles>(
     files: &mut F,
     alloc: Global,
     image: Option<&str>,
-    first: &[u8],
-    second: &[u8],
-    widest: Profile,
-    dpi: Dpi,
+    jobs: ComparedJobs<'_>,
     comparison: &PageComparison,
 ) -> Result<(), Fault>
-    requires { IsComparison widest dpi first.now second.now comparison.now }
-    ensures { IsImageDrawn F.acts image.entry widest dpi first.now second.now comparison.now files.old files.new result }
+    requires { IsComparison jobs.widest jobs.dpi jobs.first.now jobs.second.now comparison.now }
+    ensures { IsImageDrawn F.acts image.entry jobs.entry.widest jobs.entry.dpi jobs.entry.first.now jobs.entry.second.now comparison.now
+        files.old files.new result }
 {
     match (image, dotted_page(comparison)) {
         (Some(name), Some(page)) => {
-            let image = differing_page(alloc, first, second, page, widest, dpi)?;
+            let image = differing_page(alloc, jobs, page)?;
             make_image(files, alloc, name, &image)
         }
         _ => Ok(()),
@@ -51,17 +58,16 @@ fn dotted_page(comparison: &PageComparison) -> Option<usize>
 
 /// An image of the dots in which the pages of a number differ, which both jobs have, of one size. It fails where memory runs
 /// out.
-fn differing_page(
-    alloc: Global,
-    first: &[u8],
-    second: &[u8],
-    page: usize,
-    widest: Profile,
-    dpi: Dpi,
-) -> Result<Bitmap, Fault>
-    requires { DifferInDots widest dpi first.now second.now page }
-    ensures { IsDifferingPage widest dpi first.now second.now page result }
+fn differing_page(alloc: Global, jobs: ComparedJobs<'_>, page: usize) -> Result<Bitmap, Fault>
+    requires { DifferInDots jobs.widest jobs.dpi jobs.first.now jobs.second.now page }
+    ensures { IsDifferingPage jobs.entry.widest jobs.entry.dpi jobs.entry.first.now jobs.entry.second.now page result }
 {
+    let ComparedJobs {
+        first,
+        second,
+        widest,
+        dpi,
+    } = jobs;
     let profile = read_by(alloc, first, second, widest, dpi)?;
     let one = page_dots(alloc, first, page, profile, dpi)?;
     let other = page_dots(alloc, second, page, profile, dpi)?;

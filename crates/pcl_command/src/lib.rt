@@ -11,6 +11,7 @@ mod profiles;
 mod reporting;
 mod rewriting;
 mod running;
+mod surroundings;
 
 pub use comparisons::{compare_jobs, compared_at};
 pub use rewriting::rewrite;

@@ -22,15 +22,15 @@ unread acts asked name held other r u = absurd (read_fault acts _ name other r)
 
 -- what is known of the bytes of the three files, whatever lent them to the checker
 seen_beside : {F : Type 0} {acts : F → FileAct → F → Type 0} {files : F} (asked : CheckedFiles) {input output certificate : Vec ℕ}
-    (dpi : Dpi) (result : Result CheckAnswer Fault) {lent one other i o k : List ℕ} → IsFileRead acts files asked.input.now (Ok input)
+    (dpi : Dpi) (result : Result CheckAnswer Fault) {lent one other third : List ℕ} → IsFileRead acts files asked.input.now (Ok input)
     → IsFileRead acts files asked.output.now (Ok output) → IsFileRead acts files asked.certificate.now (Ok certificate)
-    → lent ≡ performed asked.beside one other → one ≡ input.items → other ≡ output.items → IsSeenAt asked.resolution Stated lent dpi
-    → i ≡ input.items → o ≡ output.items → k ≡ certificate.items → IsCheckedBeside asked.beside dpi i o k result
+    → lent ≡ performed asked.beside one other → one ≡ input.items → other ≡ output.items → third ≡ certificate.items
+    → IsSeenAt asked.resolution Stated lent dpi → IsCheckedBeside asked.beside dpi one other third result
     → AreRead acts files asked input output certificate × IsSeenAt asked.resolution Stated
     (performed asked.beside input.items output.items) dpi
     × IsCheckedBeside asked.beside dpi input.items output.items certificate.items result
-seen_beside asked dpi result a b c lent p q seen r s t checked =
-    (record { input_is = a; output_is = b; certificate_is = c }, rw (← p, ← q, ← lent) seen, rw (← r, ← s, ← t) checked)
+seen_beside asked dpi result a b c lent p q r seen checked =
+    (record { input_is = a; output_is = b; certificate_is = c }, rw (← p, ← q, ← lent) seen, rw (← p, ← q, ← r) checked)
 
 -- a job of the files that isn't performed
 unchecked : {F : Type 0} {acts : F → FileAct → F → Type 0} {files : F} {asked : CheckedFiles} (held : Option (List ℕ))
@@ -66,22 +66,22 @@ returns-in_err-answer g c =
     rw (p.1, p.2)
     (unchecked _ _ _ _ c.in_ok-dpi.dpi c.in_err-answer.field-0.0
     (seen_beside c.args.asked c.in_ok-dpi.dpi (Err c.in_err-answer.field-0.0) c.in_ok-input.ensures c.in_ok-output.ensures
-    c.in_ok-certificate.ensures c.performed.ensures c.deref.ensures.value c.deref-2.ensures.value c.in_ok-dpi.ensures
-    c.deref-3.ensures.value c.deref-4.ensures.value c.deref-5.ensures.value c.in_err-answer.ensures))
+    c.in_ok-certificate.ensures c.performed-performed.ensures c.deref.ensures.value c.deref-2.ensures.value c.deref-3.ensures.value
+    c.in_ok-dpi.ensures c.in_err-answer.ensures))
 
 pub returns-in_err-write_all : goal.returns-in_err-write_all
 returns-in_err-write_all g c =
     let p = err_from_is_err_and c.from_residual-in_err-write_all.result c.from_residual-in_err-write_all.ensures.1 in
     let s = seen_beside c.args.asked c.in_ok-dpi.dpi (Ok c.in_ok-answer.answer) c.in_ok-input.ensures c.in_ok-output.ensures
-    c.in_ok-certificate.ensures c.performed.ensures c.deref.ensures.value c.deref-2.ensures.value c.in_ok-dpi.ensures
-    c.deref-3.ensures.value c.deref-4.ensures.value c.deref-5.ensures.value c.in_ok-answer.ensures in
+    c.in_ok-certificate.ensures c.performed-performed.ensures c.deref.ensures.value c.deref-2.ensures.value c.deref-3.ensures.value
+    c.in_ok-dpi.ensures c.in_ok-answer.ensures in
     rw (p.1, p.2)
-    (stops _ _ c.in_ok-answer.answer c.deref-6.result.now c.in_err-write_all.field-0.0 (_, _, _, _, s.0, s.1, s.2)
-    (c.deref-6.ensures.value ∙ c.in_ok-line.ensures) c.in_err-write_all.ensures)
+    (stops _ _ c.in_ok-answer.answer c.deref-4.result.now c.in_err-write_all.field-0.0 (_, _, _, _, s.0, s.1, s.2)
+    (c.deref-4.ensures.value ∙ c.in_ok-line.ensures) c.in_err-write_all.ensures)
 
 pub returns : goal.returns
 returns g c =
     let s = seen_beside c.args.asked c.in_ok-dpi.dpi (Ok c.in_ok-answer.answer) c.in_ok-input.ensures c.in_ok-output.ensures
-    c.in_ok-certificate.ensures c.performed.ensures c.deref.ensures.value c.deref-2.ensures.value c.in_ok-dpi.ensures
-    c.deref-3.ensures.value c.deref-4.ensures.value c.deref-5.ensures.value c.in_ok-answer.ensures in
-    ((_, _, _, _, s.0, s.1, s.2), rw (c.deref-6.ensures.value, c.in_ok-line.ensures) at c.in_ok-write_all.ensures)
+    c.in_ok-certificate.ensures c.performed-performed.ensures c.deref.ensures.value c.deref-2.ensures.value c.deref-3.ensures.value
+    c.in_ok-dpi.ensures c.in_ok-answer.ensures in
+    ((_, _, _, _, s.0, s.1, s.2), rw (c.deref-4.ensures.value, c.in_ok-line.ensures) at c.in_ok-write_all.ensures)

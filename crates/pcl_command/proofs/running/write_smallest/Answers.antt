@@ -1,4 +1,4 @@
-use Rattle.pcl_command.proofs.Names.{err_from_is_err_and, IsRefusedEverywhereUnder, IsWrittenEverywhereUnder}
+use Rattle.pcl_command.proofs.Names.{err_from_is_err_and, Keeps-refl, IsRefusedEverywhereUnder, IsWrittenEverywhereUnder}
 use Rattle.pcl_command.proofs.Written.{written, unwritten, unshrunk_everywhere, written_everywhere_under}
 use Rattle.pcl_command.proofs.running.write_smallest.Goals as goal
 
@@ -10,6 +10,11 @@ returns-in_err-shrunk g c =
     rw (p.1, p.2)
     (unwritten (IsWrittenEverywhereUnder how.readers how.profiles job) (IsRefusedEverywhereUnder how.profiles job) _ _
     (unshrunk_everywhere how.readers how.profiles job c.in_err-shrunk.field-0.0 c.in_err-shrunk.ensures))
+
+pub returns-in_err-report_shrunk : goal.returns-in_err-report_shrunk
+returns-in_err-report_shrunk g c =
+    let p = err_from_is_err_and c.from_residual-in_err-report_shrunk.result c.from_residual-in_err-report_shrunk.ensures.1 in
+    rw (p.1, p.2) (Keeps-refl _)
 
 pub returns : goal.returns
 returns g c =

@@ -1,0 +1,38 @@
+use Rattle.std.proofs.Common.{Result, inl, inr, refl}
+use Rattle.pcl_messages.specs.declared.failures.Failure.{Failure}
+use Rattle.pcl_command.proofs.Left.{left_so}
+use Rattle.pcl_command.specs.Runs.{HasWrittenTo}
+use Rattle.pcl_command.specs.World.{world}
+use Rattle.pcl_command.specs.inner.Surroundings.{world_found}
+use Rattle.pcl_command.proofs.running.write_result.Goals as goal
+use Rattle.pcl_command.proofs.running.write_result.Goals.{in-StandardOutput, in-File+in-Ok, in-File+in-Err}
+
+pub returns : goal.returns
+returns g c =
+    let task = c.in-Task.task in
+    let before = world_found g.R.Read.remaining g.W.Write.contents c.args.surroundings in
+    let Holds : g.row.F.Denot → g.row.R.Denot → g.row.W.Denot → Result (Unit {0}) Failure → Type 0 =
+    λ files reader out ended. HasWrittenTo g.F.JobFiles.acts task c.args.run.resolution c.args.run.target before
+    (world files (g.R.Read.remaining reader) (g.W.Write.contents out)) ended in
+    rw c.in-Task.is
+    (elim c.match-run-2.branch [
+      | in-StandardOutput w ↦ left_so Holds w.files-is w.reader-is w.out-is w.result-is
+          (rw w.in-StandardOutput.is (_, refl, w.do_read-done.ensures, rw w.page.ensures at w.outcome.ensures))
+      | in-File+in-Ok w ↦ left_so Holds w.files-is w.reader-is w.out-is w.result-is
+          (rw w.in-File.is (
+            refl,
+            inr (
+              _,
+              _,
+              _,
+              _,
+              _,
+              w.in-Ok.ensures.begun,
+              w.do_read-done-in-Ok.ensures,
+              w.settle-settled.ensures,
+              rw w.page-in-Ok.ensures at w.outcome-in-Ok.ensures,
+            ),
+          ))
+      | in-File+in-Err w ↦ left_so Holds w.files-is w.reader-is w.out-is w.result-is
+          (rw w.in-File.is (refl, inl (_, _, w.in-Err.ensures.unbegun, refl, refl, w.of_file.ensures)))
+    ])

@@ -1,0 +1,2 @@
+-- What only proofs and contracts of private functions cite.
+pub mod Surroundings
