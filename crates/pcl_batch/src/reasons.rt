@@ -5,7 +5,9 @@ ghost use Rattle.pcl_messages.specs.Faults.{status_for};
 ghost use Rattle.pcl_batch.specs.Failing.{HasFailingStatus};
 ghost use Rattle.pcl_batch.specs.inner.Jobs.{IsFailing};
 
-use pcl_messages::{Failure, TROUBLE_STATUS, USAGE_STATUS, fault_line, fault_status, text_in};
+use pcl_messages::{
+    Failure, TROUBLE_STATUS, UNREAD, USAGE_STATUS, fault_line, fault_status, text_in,
+};
 use pcl_streams::Fault;
 use std::alloc::{AllocError, Global};
 
@@ -77,7 +79,7 @@ impl Reason {
     {
         Ok(Reason {
             status: TROUBLE_STATUS,
-            said: format!(in alloc; "cannot read: the name on line {line} isn't text")?,
+            said: format!(in alloc; "{UNREAD}: the name on line {line} isn't text")?,
         })
     }
 

@@ -58,8 +58,6 @@ pub(crate) fn sums_text(
 /// What a file of digests says.
 #[derive(Clone, Copy)]
 pub(crate) struct Sums<'w> {
-    /// The program's version, its command and the resolution.
-    pub how: &'w str,
     /// The digest of the job as it came.
     pub input: &'w str,
     /// Whether a certificate is among what was written.
@@ -72,10 +70,9 @@ impl<'w> Sums<'w> {
         let text = std::str::from_utf8(bytes).ok()?;
         let mut lines = text.lines();
         let head = lines.next()?.strip_prefix("# ")?;
-        let (how, input) = head.rsplit_once(" of ")?;
+        let (_, input) = head.rsplit_once(" of ")?;
         lines.next()?;
         Some(Sums {
-            how,
             input,
             has_certificate: lines.next().is_some(),
         })
