@@ -1,7 +1,7 @@
 -- What is drawn, text and fonts: the performer follows the situation.
 use Rattle.std.proofs.Common.{◌≡◌, ℕ, suc, ◌+◌, ◌-◌, ◌*◌, Bool, true, cond, List, ◌∷◌, Option, Some, None, unwrap_or, ℤ, pos, negsuc, refl, sym, subst, ◌∙◌, rules, arith, ◌==◌}
 use Rattle.pcl_fonts.specs.Fields.{quarter_dot}
-use Rattle.pcl_page.proofs.Names.{Dpi, Side, NoFont, Black, Said, Font, Character, FontInfo, info_of, Settings, put_x, advance, font_of, font_in_use, Performer, Printed, Mark, prints, character_mark, are_spaces, select, select_there, text_refusal, after_character, after_blank, Situation, raster_from, row_painted, blank_passed, code_printed, codes_printed, blanks_passed, text_in, character_at, IsIn, IsFollowed, IsDrawn, IsInked, IsAtCursor, IsLastInked, IsSent, HasSettings}
+use Rattle.pcl_page.proofs.Names.{Dpi, Side, NoFont, RasterRow, Black, Said, Font, Character, FontInfo, info_of, Settings, put_x, advance, font_of, font_in_use, Performer, Printed, Mark, prints, character_mark, are_spaces, select, select_there, text_refusal, after_character, after_blank, Situation, raster_from, drawn, blank_passed, code_printed, codes_printed, blanks_passed, text_in, character_at, IsIn, IsFollowed, IsDrawn, IsInked, IsAtCursor, IsLastInked, IsSent, HasSettings}
 use Rattle.pcl_page.proofs.Turns.{still_sized, drawn_in}
 
 pub settings_in : {dpi : Dpi} {settings : Settings} {s : Situation} {old new : Performer} → IsIn dpi s old → HasSettings settings old new
@@ -13,7 +13,7 @@ settings_in {settings = settings} {s} {new = new} i h =
 -- ---- rectangles and rows
 
 pub row_in : {dpi : Dpi} {s : Situation} {old new : Performer} (command : Said) → IsIn dpi s old → IsSent dpi command.bytes old new
-    → IsIn dpi (row_painted dpi command.bytes s) new
+    → IsIn dpi (drawn dpi RasterRow command s) new
 row_in {dpi} {s} command i m =
     let raster : m.raster ≡ unwrap_or s.raster (raster_from dpi 0 s.settings) = cc in
     rw (raster, i.settings) at (drawn_in i m.followed m.drawn m.sent)

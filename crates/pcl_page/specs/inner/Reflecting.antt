@@ -31,7 +31,7 @@ use Rattle.pcl_page.specs.Asks.{with_page, asks_of}
 use Rattle.pcl_page.specs.Marks.{Mark, is_black, dot_at}
 use Rattle.pcl_page.specs.Text.{dots_per_bit}
 use Rattle.pcl_page.specs.Raster.{Raster, raster_from, row_sent, with_row, row_mark, ends_raster}
-use Rattle.pcl_page.specs.Situation.{Sheet, Situation, settings_below, is_marked, turned, at_end, page_refusal, after_checked}
+use Rattle.pcl_page.specs.Situation.{Sheet, Situation, settings_below, is_marked, turned, at_end, page_refusal, after, counted_in_limit, within_page_limit, ◌|>◌}
 use Rattle.pcl_page.specs.Delivering.{Hands}
 
 -- a bitmap shows marks
@@ -208,6 +208,10 @@ IsTurned {S} takes dpi (Some done) s (Err (Refused kind)) new old_sink new_sink 
 IsTurned {S} takes dpi None s (Ok unit) new old_sink new_sink = ⊥
 IsTurned {S} takes dpi None s (Err (Refused kind)) new old_sink new_sink = (kind ≡ UnsupportedValue) × (new_sink ≡ old_sink)
 IsTurned {S} takes dpi outcome s (Err Memory) new old_sink new_sink = new_sink ≡ old_sink
+
+-- the situation after a command that counts, the page that it ejects among its pages, or the first reason to refuse it; macros aside
+abbrev pub after_checked : Dpi → Said → Situation → Result Situation Kind
+after_checked dpi command s = counted_in_limit s |> after dpi (operation_of command.name) command |> within_page_limit
 
 -- a command was performed, or it is refused, or memory ran out, before the page was handed over that it ejects or after that
 abbrev pub IsHandled : {S : Type 0} → (S → Page → S → Type 0) → Dpi → Said → Situation → Result Operation CallFault → Performer → S → S

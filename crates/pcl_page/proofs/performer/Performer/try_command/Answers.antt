@@ -2,6 +2,7 @@ use Rattle.std.proofs.Common.{◌≤◌, ◌∙◌, Bool, cond, Option, None, re
 use Rattle.pcl_page.proofs.Names.{err_from_is_err_and, view, Raster, rows_in, ends_raster}
 use Rattle.pcl_page.proofs.Turns.{prepared_in}
 use Rattle.pcl_page.proofs.Steps.{counted_in, checked_as, checked_ignored, refused_by, checked_drawn, checked_undrawn}
+use Rattle.pcl_page.specs.Situation.{after}
 use Rattle.pcl_page.proofs.performer.Performer.try_command.Goals as goal
 
 -- a raster that may have ended has no more rows than before
@@ -9,6 +10,7 @@ rows_left : (ends : Bool) (raster : Option Raster) → rows_in (cond ends None r
 rows_left ends raster = grind arith
 
 pub returns-in_default : goal.returns-in_default
+unfolding after
 returns-in_default g c = λ s i. (
   checked_as c.args.dpi (view c.args.command.now) s (omega (arith, i.performed)) (sym c.with_name.ensures ∙ c.in_default.is),
   refl,
