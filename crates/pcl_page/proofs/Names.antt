@@ -17,8 +17,8 @@ pub use Rattle.pcl_fonts.specs.{History.font_after}
 pub use Rattle.pcl_fonts.specs.declared.{header.FontInfo.FontInfo}
 pub use Rattle.pcl_macros.proofs.Names.{Begun, Controls, MacroEvent, control, is_begun, macro_at}
 pub use Rattle.pcl_macros.specs.declared.{table.MacroControl.MacroControl}
-pub use Rattle.pcl_page.specs.{Alike.AllAlike, Alike.AreAlike, Asks.Asks, Asks.Exit, Asks.asks_of, Asks.exit_of, Asks.lasting_if, Asks.of_job, Asks.restarted, Asks.with_page, Delivering.AllShow, Delivering.DeliversBy, Delivering.Hands, Delivering.HandsOver, Delivering.IsPerformed, Delivering.IsRefusal, Delivering.IsRefusalBy, Delivering.IsStopped, Jobs.HasAsks, Jobs.HasAsksBy, Jobs.HasPages, Jobs.HasPagesBy, Macros.Run, Macros.acted, Macros.action_of, Macros.after_command, Macros.control_keeping, Macros.after_counted, Macros.defining, Macros.definition_ended, Macros.keeping_of, Macros.lasting_by, Macros.macro_ended, Macros.macro_now, Macros.after_macros, Macros.run_by, Macros.run_from, Macros.run_of, Macros.run_with, Marks.Mark, Marks.are_marked, Marks.dot_at, Marks.dots_of, Marks.is_black, Performing.Performance, Performing.Shows, Performing.after_end, Performing.and_run, Performing.asks_among, Performing.commands_left, Performing.led_to, Performing.done, Performing.end_refusal, Performing.ended, Performing.in_order, Performing.pages_of, Performing.performance, Performing.runs, Performing.step, Performing.stopped, Performing.then_on, Performing.unless, Raster.Raster, Raster.bytes_of_width, Raster.cleared_past, Raster.ends_raster, Raster.first_bits, Raster.is_below_height, Raster.is_ignored_in_raster, Raster.raster_from, Raster.row_mark, Raster.row_sent, Raster.rows_in, Raster.scale_of, Situation.Sheet, Situation.Situation, Situation.asked_for, Situation.at_start, Situation.at_end, Situation.blank_passed, Situation.blanks_passed, Situation.code_printed, Situation.codes_printed, Situation.counted_in_limit, Situation.draw_refusal, Situation.drawn, Situation.ejects, Situation.end_raster, Situation.font_now, Situation.ink_of, Situation.is_ignored, Situation.is_marked, Situation.page_refusal, Situation.prepared, Situation.put_back, Situation.with_lasting, Situation.settings_below, Situation.sheet_of, Situation.taken, Situation.text_in, Situation.turned, Situation.turned_by, Situation.turned_page, Situation.unless_refused, Situation.with_character, Situation.with_event, Situation.within_page_limit, Situation.◌|>◌, Text.are_spaces, Text.after_blank, Text.after_character, Text.character_mark, Text.character_refusal, Text.dots_per_bit, Text.prints, Text.select_there, Text.text_refusal}
+pub use Rattle.pcl_page.specs.{Alike.AllAlike, Alike.AreAlike, Asks.Asks, Asks.Exit, Asks.asks_of, Asks.exit_of, Asks.lasting_if, Asks.of_job, Asks.restarted, Asks.with_page, Delivering.AllShow, Delivering.DeliversBy, Delivering.Hands, Delivering.HandsOver, Delivering.IsPerformed, Delivering.IsRefusal, Delivering.IsRefusalBy, Delivering.IsStopped, Jobs.HasAsks, Jobs.HasAsksBy, Jobs.HasPages, Jobs.HasPagesBy, Macros.Run, Macros.acted, Macros.action_of, Macros.after_command, Macros.control_keeping, Macros.after_counted, Macros.defining, Macros.definition_ended, Macros.keeping_of, Macros.lasting_by, Macros.macro_ended, Macros.macro_now, Macros.after_macros, Macros.run_by, Macros.run_from, Macros.run_of, Macros.run_with, Marks.Mark, Marks.are_marked, Marks.dot_at, Marks.dots_of, Marks.is_black, Performing.Performance, Performing.Shows, Performing.after_end, Performing.and_run, Performing.asks_among, Performing.commands_left, Performing.led_to, Performing.done, Performing.end_refusal, Performing.ended, Performing.in_order, Performing.pages_of, Performing.performance, Performing.runs, Performing.step, Performing.stopped, Performing.then_on, Performing.unless, Raster.Raster, Raster.bytes_of_width, Raster.cleared_past, Raster.ends_raster, Raster.first_bits, Raster.is_below_height, Raster.is_ignored_in_raster, Raster.raster_from, Raster.row_mark, Raster.row_sent, Raster.raster_rows, Raster.scale_of, Situation.Sheet, Situation.Situation, Situation.asked_for, Situation.at_start, Situation.at_end, Situation.blank_passed, Situation.blanks_passed, Situation.code_printed, Situation.codes_printed, Situation.counted_in_limit, Situation.draw_refusal, Situation.drawn, Situation.ejects, Situation.end_raster, Situation.font_now, Situation.ink_of, Situation.is_ignored, Situation.is_marked, Situation.page_refusal, Situation.prepared, Situation.put_back, Situation.with_lasting, Situation.settings_below, Situation.sheet_of, Situation.taken, Situation.text_in, Situation.turned, Situation.turned_by, Situation.turned_page, Situation.unless_refused, Situation.with_character, Situation.with_event, Situation.within_page_limit, Situation.◌|>◌, Text.are_spaces, Text.after_blank, Text.after_character, Text.character_mark, Text.character_refusal, Text.dots_per_bit, Text.prints, Text.select_there, Text.text_refusal}
 pub use Rattle.pcl_page.specs.contracts.{raster.Raster.the_view}
 pub use Rattle.pcl_page.specs.declared.{accepting.Counted.Counted, interpreter.Interpreter.Interpreter, interpreter.Running.Running, macros.Action.Action, macros.Action.TheVariants.Begin, macros.Action.TheVariants.Call, macros.Action.TheVariants.Control, macros.Action.TheVariants.End, macros.Action.TheVariants.Execute, macros.Keeping.Keeping, macros.Keeping.TheVariants.Ends, macros.Keeping.TheVariants.Kept, performer.Performer.Performer, text.Printed.Printed}
-pub use Rattle.pcl_page.specs.inner.{Reflecting.Draws, Reflecting.EndDone, Reflecting.HandsMore, Reflecting.HasSettings, Reflecting.IsAtCursor, Reflecting.IsDrawn, Reflecting.IsEjected, Reflecting.IsFollowed, Reflecting.IsHanded, Reflecting.IsHandled, Reflecting.IsIn, Reflecting.IsInked, Reflecting.IsLastInked, Reflecting.IsPainted, Reflecting.IsPrepared, Reflecting.IsSent, Reflecting.IsTurned, Reflecting.IsWhite, Reflecting.Takes, Reflecting.after_checked, Reflecting.character_at, Unfolding.Enters, Unfolding.GoesOn, Unfolding.HandsFirst, Unfolding.HasLevel, Unfolding.InterpreterEnds, Unfolding.IsActed, Unfolding.IsAsking, Unfolding.IsAt, Unfolding.IsEntered, Unfolding.IsStepped, Unfolding.begun_among, Unfolding.entered, Unfolding.left_in, Unfolding.rest_of, Unfolding.resumed, Unfolding.run_in, Unfolding.work_left}
+pub use Rattle.pcl_page.specs.inner.{Reflecting.Draws, Reflecting.EndDone, Reflecting.HandsMore, Reflecting.HasSettings, Reflecting.IsAtCursor, Reflecting.IsDrawn, Reflecting.IsEjected, Reflecting.IsFollowed, Reflecting.IsHanded, Reflecting.IsHandled, Reflecting.IsIn, Reflecting.IsInked, Reflecting.IsLastInked, Reflecting.IsPainted, Reflecting.IsPrepared, Reflecting.IsSent, Reflecting.IsTurned, Reflecting.IsBlank, Reflecting.Takes, Reflecting.after_checked, Reflecting.drawn_character, Unfolding.Enters, Unfolding.GoesOn, Unfolding.HandsFirst, Unfolding.HasLevel, Unfolding.InterpreterEnds, Unfolding.IsActed, Unfolding.IsAsking, Unfolding.IsAt, Unfolding.IsEntered, Unfolding.IsStepped, Unfolding.begun_among, Unfolding.entered, Unfolding.left_in, Unfolding.rest_of, Unfolding.resumed, Unfolding.run_in, Unfolding.work_left}
 pub use Rattle.pcl_page.proofs.{Parts.after_all, Parts.drawn_on}
