@@ -1,6 +1,6 @@
 //! What is found in a job.
 
-ghost use Rattle.std.specs.Prelude.{◌≡◌, IfOk};
+ghost use Rattle.std.specs.Prelude.{◌≡◌};
 
 use pcl_base::{Kind, Refusal, Value};
 use std::alloc::{AllocError, Global};

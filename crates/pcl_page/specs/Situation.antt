@@ -13,7 +13,7 @@ use Rattle.pcl_base.specs.declared.size.Size.{Size}
 use Rattle.pcl_base.specs.declared.value.Value.{Value}
 use Rattle.pcl_base.specs.Dpi.{units_per_dot}
 use Rattle.pcl_base.specs.Limits.{command_limit, page_limit}
-use Rattle.pcl_base.specs.Operation.{operation_of, is_stated}
+use Rattle.pcl_base.specs.Operation.{is_stated}
 use Rattle.pcl_base.specs.Value.{whole_of, signed_whole, count_of}
 use Rattle.pcl_bitmap.specs.declared.ink.Ink.{Ink}
 use Rattle.pcl_bitmap.specs.declared.ink.Ink.TheVariants.{Black, White}
