@@ -36,4 +36,4 @@ pub record IsLeastTable (method : Method) (seed row table : List ℕ) : Type 0 w
   pub table_is : IsRowTable method seed row table
   pub attained : (place : ℕ) → place ≤ length row
       → IsAttained (StepsOver method (base method seed) row) (NeedsNoMore (base method seed) row) element_cost place
-          (slice_index table place)
+      (slice_index table place)

@@ -29,7 +29,7 @@ pub fn first_number_is_least()
 pub fn numbers_are_least()
     ensures { (method : Method) (seed row table : List ℕ) (place : ℕ) → IsLeastTable method seed row table → place ≤ length row
         → IsLeastCost (StepsOver method (base method seed) row) (NeedsNoMore (base method seed) row) element_cost place
-            (slice_index table place) }
+        (slice_index table place) }
 {}
 
 /// An earlier start of a replacement is never shorter. For elements of method 3 that give the rest of a row there

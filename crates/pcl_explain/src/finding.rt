@@ -79,7 +79,11 @@ impl Findings {
             self.first.count(finding);
             return Ok(());
         }
-        match self.later.iter_mut().find(|other| finding.is_same_thing(**other)) {
+        match self
+            .later
+            .iter_mut()
+            .find(|other| finding.is_same_thing(**other))
+        {
             Some(other) => other.count(finding),
             None => self.later.push(finding)?,
         }

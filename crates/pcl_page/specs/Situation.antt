@@ -292,7 +292,7 @@ after dpi None command s = Err UnsupportedCommand
 after dpi (Some operation) command s =
     if is_ignored operation s then Ok s
     else (taken dpi operation command.value (prepared dpi operation s)
-        |> λ now. unless_refused (draw_refusal dpi operation command now) (drawn dpi operation command now))
+    |> λ now. unless_refused (draw_refusal dpi operation command now) (drawn dpi operation command now))
 
 -- one page more than there may be was ejected
 abbrev pub page_refusal : Situation → Option Kind

@@ -10,7 +10,7 @@ is_drawn : (c : goal.After-pass_glyph) (s : Situation) → IsIn c.args.dpi s c.a
     → IsInked (drawn_character c.args.dpi c.args.font (character_in c.args.glyph.now) c.args.here.x c.args.here.y) c.args.self.now)
     → (begun : Performer) × IsFollowed c.args.self.now.environment.size c.args.self.now begun
     × IsDrawn (drawn_character c.args.dpi c.args.font (character_in c.args.glyph.now) c.args.here.x c.args.here.y)
-        begun c.if-not-is_inked.self
+    begun c.if-not-is_inked.self
     × (c.if-not-is_inked.self.raster ≡ begun.raster)
 is_drawn c s i inked =
     elim c.if-not-is_inked.branch [
