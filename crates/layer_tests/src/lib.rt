@@ -1,5 +1,5 @@
-//! The tests of the public calls of the layers below pages, in a crate of its own, so that no layer is proved a second
-//! time for them. There is nothing here but tests.
+//! The tests of the public calls of layers, and those that cross the crates and that no table of jobs can hold: laws, and devices that
+//! fail. They are a crate of their own, so that no layer is proved a second time for them. There is nothing here but tests.
 #![tactic(auto)]
 
 #[cfg(test)]

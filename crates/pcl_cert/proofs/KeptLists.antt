@@ -1,6 +1,6 @@
 -- Lists that are put one after the other, and the tables that they stand for.
 use Rattle.std.proofs.Common.{◌≡◌, ℕ, zero, suc, ◌+◌, ◌-◌, ◌*◌, ◌^◌, ◌<◌, ◌≤◌, true, false, List, [], ◌∷◌, ◌++◌, length, take, drop, get_or, replicate, refl, sym, ap, subst, ◌∙◌, append_assoc, arith, inl, inr}
-use Rattle.pcl_cert.proofs.Names.{nat_eq, AllByRecursion, cases_lt, ext_get_or, get_or_append_left, get_or-append_right, get_or-replicate, get_or_past, get_or-take, length-append, length-replicate, length-take, length-drop, drop_at, append-nil, take-append-le, drop-append-le, map_push, length-map, drop_of_length-le, IsList, list_bytes, ends_in_zero, numbers_from, count_of, list_from, lists_within, IsListAt, table_of, AreLeastTables, Method, Plain, Runs, Packed, Delta, method_code, base, IsLeastTable, length-base, page_height, page_row_bytes, Picture, row_at, row_above, bitmap_rows, length_rows, method_small, Lists, IsTrimmed, HasListMore, HasRowMore, HoldsRows, HoldsRowsOf, AreWhole, listed}
+use Rattle.pcl_cert.proofs.Names.{nat_eq, AllByRecursion, cases_lt, ext_get_or, get_or_append_left, get_or-append_right, get_or-replicate, get_or_past, get_or-take, length-append, length-replicate, length-take, length-drop, drop_at, append-nil, take-append-le, drop-append-le, map_push, length-map, drop_of_length-le, IsList, list_bytes, ends_in_zero, numbers_from, count_at_front, list_from, lists_within, IsListAt, table_of, AreLeastTables, Method, Plain, Runs, Packed, Delta, method_code, base, IsLeastTable, length-base, page_height, page_row_bytes, Picture, row_at, row_above, bitmap_rows, length_rows, method_small, Lists, IsTrimmed, HasListMore, HasRowMore, HoldsRows, HoldsRowsOf, AreWhole, listed}
 use Rattle.pcl_cert.proofs.FieldsRead.{two_bytes}
 use Rattle.pcl_cert.proofs.Lists.{all_both}
 use Rattle.pcl_cert.proofs.Numbers.{numbers_of_front}
@@ -54,10 +54,10 @@ list_stays : {bytes : List ℕ} (more : List ℕ) {start : ℕ} → IsListAt byt
     → (list_from (drop start (bytes ++ more)) ≡ list_from (drop start bytes)) × IsListAt (bytes ++ more) start
 list_stays {bytes} more {start} is =
     let list : List ℕ = drop start bytes in
-    let room : 2 + 2 * count_of list ≤ length list = omega (arith, is.whole, length-drop start bytes) in
+    let room : 2 + 2 * count_at_front list ≤ length list = omega (arith, is.whole, length-drop start bytes) in
     let moved : drop start (bytes ++ more) ≡ list ++ more = drop-append-le start bytes more (omega (arith, is.whole)) in
     let front = take-append-le 2 list more (omega (arith, room)) in
-    let numbers = numbers_stay (count_of list) (drop 2 list) more (omega (arith, room, length-drop 2 list)) in
+    let numbers = numbers_stay (count_at_front list) (drop 2 list) more (omega (arith, room, length-drop 2 list)) in
     let whole = length-append bytes more in
     (rw (moved, front, drop-append-le 2 list more (omega (arith, room))) numbers, record { whole = rw (moved, front) (omega arith) })
 
@@ -82,7 +82,7 @@ list_more {old} {new} {numbers} {list} whole few small is bytes_are starts_are =
     let start : ℕ = length bytes in
     let size : length list ≤ length numbers = omega (arith, ap length is.front, length-take is.len numbers) in
     let small_list : AllByRecursion (λ n. n < 2 ^ 16) list = rw is.front (small_front numbers is.len small) in
-    let count : count_of text ≡ length list = two_bytes.again (length list) (omega (arith, size, few)) in
+    let count : count_at_front text ≡ length list = two_bytes.again (length list) (omega (arith, size, few)) in
     let front : list_from text ≡ list = rw count (rw append-nil at (numbers_again list [] small_list)) in
     let there : drop start (bytes ++ text) ≡ text = drop_at bytes text start refl in
     let stay = lists_stay bytes text old.starts.items whole in

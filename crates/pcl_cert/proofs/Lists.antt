@@ -1,6 +1,6 @@
 -- Reading row tables: where the lists stand in the bytes.
 use Rattle.std.proofs.Common.{◌≡◌, ℕ, ◌+◌, ◌-◌, ◌*◌, ◌<◌, ◌≤◌, false, List, [], ◌∷◌, ◌++◌, length, take, drop, Result, Ok, Err, sym, ap, ◌∙◌, arith, nat_lt, if◌then◌else◌}
-use Rattle.pcl_cert.proofs.Names.{w16, AllByRecursion, numbers_from, count_of, list_from, lists_within, IsListAt, ltb-false, le-ltb, drop-drop, length-drop, length-append, map_push, CertFault, Short, Places, ends_in_zero, FailsAs, beyond, uint_at, list_after, lists_at}
+use Rattle.pcl_cert.proofs.Names.{w16, AllByRecursion, numbers_from, count_at_front, list_from, lists_within, IsListAt, ltb-false, le-ltb, drop-drop, length-drop, length-append, map_push, CertFault, Short, Places, ends_in_zero, FailsAs, beyond, uint_at, list_after, lists_at}
 use Rattle.pcl_cert.specs.ReadingCertificates.{list_at}
 use Rattle.pcl_cert.proofs.FieldsRead.{step_ok, passed, same_ok}
 use Rattle.pcl_cert.proofs.Numbers.{numbers_of_front}
@@ -39,25 +39,25 @@ list_checked {most} bytes {count} {rest} read few long =
 -- a list that is read stands there, whole
 pub record IsFound (most : ℕ) (bytes : List ℕ) (numbers rest : List ℕ) : Type 0 where
   pub numbers_are : numbers ≡ list_from bytes
-  pub whole : 2 + 2 * count_of bytes ≤ length bytes
-  pub rest_is : rest ≡ drop (2 + 2 * count_of bytes) bytes
-  pub few : count_of bytes ≤ most
+  pub whole : 2 + 2 * count_at_front bytes ≤ length bytes
+  pub rest_is : rest ≡ drop (2 + 2 * count_at_front bytes) bytes
+  pub few : count_at_front bytes ≤ most
   pub ends : ends_in_zero numbers ≡ false
 
 pub list_found : {most : ℕ} {bytes numbers rest : List ℕ} → list_at most bytes ≡ Ok (numbers, rest) → IsFound most bytes numbers rest
 unfolding list_at
 list_found {most} {bytes} {numbers} {rest} e =
     let long = (passed (nat_lt (length bytes) 2) Short (step_ok (uint_at w16 bytes) e).1).0 in
-    let read : list_after most (count_of bytes, drop 2 bytes) ≡ Ok (numbers, rest) = rw long at e in
-    let few = passed (nat_lt most (count_of bytes)) Places read in
-    let there = passed (nat_lt (length (drop 2 bytes)) (2 * count_of bytes)) Short few.1 in
+    let read : list_after most (count_at_front bytes, drop 2 bytes) ≡ Ok (numbers, rest) = rw long at e in
+    let few = passed (nat_lt most (count_at_front bytes)) Places read in
+    let there = passed (nat_lt (length (drop 2 bytes)) (2 * count_at_front bytes)) Short few.1 in
     let ends = passed (ends_in_zero (list_from bytes)) Places there.1 in
     let made = same_ok ends.1 in
     let numbers_are : numbers ≡ list_from bytes = sym (ap (λ (x : List ℕ × List ℕ). x.0) made) in
     record {
       numbers_are = numbers_are;
       whole = omega (arith, ltb-false _ _ long, ltb-false _ _ there.0, length-drop 2 bytes);
-      rest_is = sym (ap (λ (x : List ℕ × List ℕ). x.1) made) ∙ drop-drop (2 * count_of bytes) 2 bytes;
+      rest_is = sym (ap (λ (x : List ℕ × List ℕ). x.1) made) ∙ drop-drop (2 * count_at_front bytes) 2 bytes;
       few = ltb-false _ _ few.0;
       ends = rw numbers_are ends.0;
     }
@@ -75,13 +75,14 @@ pub next_list : {count most done : ℕ} {bytes rest starts : List ℕ} (numbers 
 next_list {count} {most} {done} {bytes} {rest} {starts} numbers after lt read stands =
     let start : ℕ = length bytes - length rest in
     let found = list_found read in
-    let taken : length after ≡ length rest - (2 + 2 * count_of rest) = ap length found.rest_is ∙ length-drop (2 + 2 * count_of rest) rest in
-    let place : start + (2 + 2 * count_of rest) ≡ length bytes - length after = omega (arith, taken, found.whole, stands.within) in
+    let taken : length after ≡ length rest - (2 + 2 * count_at_front rest) =
+    ap length found.rest_is ∙ length-drop (2 + 2 * count_at_front rest) rest in
+    let place : start + (2 + 2 * count_at_front rest) ≡ length bytes - length after = omega (arith, taken, found.whole, stands.within) in
     record {
       read = rw (map_push (λ (s : ℕ). list_from (drop s bytes)) starts start, ← stands.suffix, ← found.numbers_are)
           (goes_on (lists_are_many most) stands.read numbers after lt read);
-      suffix = rw (← place) (found.rest_is ∙ ap (drop (2 + 2 * count_of rest)) stands.suffix
-          ∙ drop-drop (2 + 2 * count_of rest) start bytes);
+      suffix = rw (← place) (found.rest_is ∙ ap (drop (2 + 2 * count_at_front rest)) stands.suffix
+          ∙ drop-drop (2 + 2 * count_at_front rest) start bytes);
       within = omega (arith, taken, stands.within);
       whole = all_both (IsListAt bytes) starts (start ∷ []) stands.whole
           (record { whole = rw (← stands.suffix) (omega (arith, found.whole, stands.within)) }, tt);

@@ -1,6 +1,6 @@
 -- Lists of row tables: whatever is read is spelled so, and what is spelled is read.
 use Rattle.std.proofs.Common.{◌≡◌, ℕ, zero, suc, ◌+◌, ◌*◌, ◌^◌, ◌<◌, false, List, [], ◌∷◌, ◌++◌, length, take, drop, Option, Some, None, Ok, refl, ap, ◌∙◌, arith}
-use Rattle.pcl_cert.proofs.Names.{w16, to_be_bytes, flat_map, AllByRecursion, nat_lt, le-ltb, drop_at, take-append-drop, length-append, flat_map-cons, Format, One, Two, IsList, list_bytes, lists_bytes, HasLists, count_of, lists_at}
+use Rattle.pcl_cert.proofs.Names.{w16, to_be_bytes, flat_map, AllByRecursion, nat_lt, le-ltb, drop_at, take-append-drop, length-append, flat_map-cons, Format, One, Two, IsList, list_bytes, lists_bytes, HasLists, count_at_front, lists_at}
 use Rattle.pcl_cert.specs.RowTables.{numbers_from}
 use Rattle.pcl_cert.specs.ReadingCertificates.{list_at, places_at}
 use Rattle.pcl_cert.proofs.FieldsRead.{AreBytes, rest_bytes, front_bytes, step_ok, same_ok, two_bytes}
@@ -45,15 +45,15 @@ pub list_spells : {most : ℕ} → most < 2 ^ 16 → Spells (list_at most) list_
 list_spells few = record {
   found = λ bytes x are e.
       let found = list_found e in
-      let text : list_bytes x.0 ≡ take (2 + 2 * count_of bytes) bytes =
+      let text : list_bytes x.0 ≡ take (2 + 2 * count_at_front bytes) bytes =
       ap list_bytes found.numbers_are ∙ list_spelled bytes are found.whole in (
         record {
-          joined = cc (found.rest_is, text, take-append-drop (2 + 2 * count_of bytes) bytes);
-          rest_are = rw found.rest_is (rest_bytes (2 + 2 * count_of bytes) bytes are);
+          joined = cc (found.rest_is, text, take-append-drop (2 + 2 * count_at_front bytes) bytes);
+          rest_are = rw found.rest_is (rest_bytes (2 + 2 * count_at_front bytes) bytes are);
         },
         record {
-          short = omega (arith, found.few, ap length found.numbers_are, length_numbers (count_of bytes) (drop 2 bytes));
-          small = rw found.numbers_are (numbers_small (count_of bytes) (drop 2 bytes) (rest_bytes 2 bytes are));
+          short = omega (arith, found.few, ap length found.numbers_are, length_numbers (count_at_front bytes) (drop 2 bytes));
+          small = rw found.numbers_are (numbers_small (count_at_front bytes) (drop 2 bytes) (rest_bytes 2 bytes are));
           ends = found.ends;
         },
       );

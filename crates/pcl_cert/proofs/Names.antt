@@ -16,6 +16,6 @@ pub use Rattle.pcl_output.proofs.Names.{AreOfWidth, Ends, IsLeastText, IsTableOf
 pub use Rattle.pcl_output.specs.declared.{node.Node.Node, table.RowNumbers.RowNumbers}
 pub use Rattle.pcl_check.proofs.{Beginnings.code_few, Beginnings.start_is, GoodNumbers.feasible_good, GoodNumbers.good_feasible, GoodNumbers.numbers_by_bounds, PlaceSteps.table_of_good}
 pub use Rattle.pcl_check.proofs.Names.{AreGoodNumbers, BoundData, FindsPlace, IsFirstPlace, IsGoodPlace, IsLeastOfRow, raster_start}
-pub use Rattle.pcl_cert.specs.{CertificateFields.ends_in_zero, CertificateFields.magic, CertificateFields.size_with_height, Certificates.AreProofs, Certificates.AreSmall, Certificates.FitFormat, Certificates.FitsFormat, Certificates.HasLists, Certificates.IsList, Certificates.IsProof, Certificates.certificate_bytes, Certificates.list_bytes, Certificates.lists_bytes, Certificates.pair_bytes, Certificates.proof_bytes, Certificates.proof_in, Certificates.proofs_in, Certificates.row_bytes, Certificates.rows_in, Certificates.table_bytes, Checking.AreEdgesGood, Checking.AreLeastOf, Checking.AreOfPage, Checking.ArePlacesGood, Checking.HasLeastLists, Checking.IsBounded, Checking.IsGoodInTables, Checking.IsVerdict, Checking.Tables, PageTables.AreLeastTables, PageTables.AreLeastTablesOf, PageTables.table_of, ReadingCertificates.FailsAs, ReadingCertificates.Gives, ReadingCertificates.beyond, ReadingCertificates.certificate_at, ReadingCertificates.contents_of, ReadingCertificates.format_at, ReadingCertificates.list_at, ReadingCertificates.list_after, ReadingCertificates.lists_at, ReadingCertificates.places_at, ReadingCertificates.proof_at, ReadingCertificates.proofs_at, ReadingCertificates.row_numbers_at, ReadingCertificates.sized, ReadingCertificates.table_at, ReadingCertificates.uint_at, RowTables.list_of, RowTables.number_at_place, RowTables.numbers_from, TablesModel.IsListAt, TablesModel.contents, TablesModel.count_of, TablesModel.list_from, TablesModel.lists_within}
+pub use Rattle.pcl_cert.specs.{CertificateFields.ends_in_zero, CertificateFields.magic, CertificateFields.size_with_height, Certificates.AreProofs, Certificates.AreSmall, Certificates.FitFormat, Certificates.FitsFormat, Certificates.HasLists, Certificates.IsList, Certificates.IsProof, Certificates.certificate_bytes, Certificates.list_bytes, Certificates.lists_bytes, Certificates.pair_bytes, Certificates.proof_bytes, Certificates.proof_in, Certificates.proofs_in, Certificates.row_bytes, Certificates.rows_in, Certificates.table_bytes, Checking.AreEdgesGood, Checking.AreLeastOf, Checking.AreOfPage, Checking.ArePlacesGood, Checking.HasLeastLists, Checking.IsBounded, Checking.IsGoodInTables, Checking.IsVerdict, Checking.Tables, PageTables.AreLeastTables, PageTables.AreLeastTablesOf, PageTables.table_of, ReadingCertificates.FailsAs, ReadingCertificates.Gives, ReadingCertificates.beyond, ReadingCertificates.certificate_at, ReadingCertificates.contents_of, ReadingCertificates.format_at, ReadingCertificates.list_at, ReadingCertificates.list_after, ReadingCertificates.lists_at, ReadingCertificates.places_at, ReadingCertificates.proof_at, ReadingCertificates.proofs_at, ReadingCertificates.row_numbers_at, ReadingCertificates.sized, ReadingCertificates.table_at, ReadingCertificates.uint_at, RowTables.list_of, RowTables.number_at_place, RowTables.numbers_from, TablesModel.IsListAt, TablesModel.contents, TablesModel.count_at_front, TablesModel.list_from, TablesModel.lists_within}
 pub use Rattle.pcl_cert.specs.declared.{check.places.BadPlace.BadPlace, fault.CertFault.CertFault, fault.CertFault.TheVariants.BadMagic, fault.CertFault.TheVariants.Extra, fault.CertFault.TheVariants.Memory, fault.CertFault.TheVariants.Places, fault.CertFault.TheVariants.Short, format.Format.Format, format.Format.TheVariants.One, format.Format.TheVariants.Two, listing.Lists.Lists, page_proof.PageProof.PageProof}
 pub use Rattle.pcl_cert.specs.inner.{FirstBad.FindsBadBelow, FirstBad.FindsBadIn, Listing.AreWhole, Listing.HasListMore, Listing.HasRowMore, Listing.HoldsRows, Listing.HoldsRowsOf, Listing.IsTrimmed, Listing.listed}

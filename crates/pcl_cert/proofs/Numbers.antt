@@ -1,6 +1,6 @@
 -- Numbers of two bytes, one after the other.
 use Rattle.std.proofs.Common.{◌≡◌, ℕ, zero, suc, ◌+◌, ◌-◌, ◌*◌, ◌<◌, ◌≤◌, false, nat_eq, List, length, get_or, take, drop, refl, ap, arith}
-use Rattle.pcl_cert.proofs.Names.{w16, from_be_bytes, to_be_bytes, flat_map, drop-drop, drop-take, take-take, length-drop, flat_map-cons, take-add, list_bytes, ends_in_zero, count_of, list_from}
+use Rattle.pcl_cert.proofs.Names.{w16, from_be_bytes, to_be_bytes, flat_map, drop-drop, drop-take, take-take, length-drop, flat_map-cons, take-add, list_bytes, ends_in_zero, count_at_front, list_from}
 use Rattle.pcl_cert.specs.RowTables.{numbers_from}
 use Rattle.pcl_cert.proofs.FieldsRead.{AreBytes, rest_bytes, two_bytes, front_spelled}
 
@@ -49,10 +49,10 @@ numbers_spelled (suc n) bytes are long =
     let whole = take-add 2 (2 * n) bytes in cc
 
 -- the list at the front of bytes, spelled
-pub list_spelled : (bytes : List ℕ) → AreBytes bytes → 2 + 2 * count_of bytes ≤ length bytes
-    → list_bytes (list_from bytes) ≡ take (2 + 2 * count_of bytes) bytes
+pub list_spelled : (bytes : List ℕ) → AreBytes bytes → 2 + 2 * count_at_front bytes ≤ length bytes
+    → list_bytes (list_from bytes) ≡ take (2 + 2 * count_at_front bytes) bytes
 list_spelled bytes are long =
-    let count : ℕ = count_of bytes in
+    let count : ℕ = count_at_front bytes in
     let numbers = numbers_spelled count (drop 2 bytes) (rest_bytes 2 bytes are) (omega (arith, length-drop 2 bytes)) in
     let first : to_be_bytes w16 count ≡ take 2 bytes = front_spelled two_bytes bytes are (omega arith) in
     let size = length_numbers count (drop 2 bytes) in

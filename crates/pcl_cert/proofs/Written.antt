@@ -1,6 +1,6 @@
 -- Writing certificates: one thing after the other.
 use Rattle.std.proofs.Common.{◌≡◌, ℕ, zero, suc, ◌+◌, ◌*◌, ◌<◌, ◌≤◌, List, [], ◌∷◌, length, take, drop, get_or, refl, sym, ap, arith}
-use Rattle.pcl_cert.proofs.Names.{AllByRecursion, w16, from_be_bytes, get_or_past, drop-drop, length-map, Dpi, Method, method_code, method_small, Format, One, Two, PageProof, FitsFormat, FitFormat, IsProof, AreProofs, proof_in, proofs_in, list_of, count_of, list_from, lists_within}
+use Rattle.pcl_cert.proofs.Names.{AllByRecursion, w16, from_be_bytes, get_or_past, drop-drop, length-map, Dpi, Method, method_code, method_small, Format, One, Two, PageProof, FitsFormat, FitFormat, IsProof, AreProofs, proof_in, proofs_in, list_of, count_at_front, list_from, lists_within}
 use Rattle.pcl_cert.proofs.Numbers.{length_numbers, number_within}
 
 -- ---- pages
@@ -23,19 +23,19 @@ listed_number bytes [] k lt is = absurd (omega arith)
 
 -- the number of a place, and 0 after the list
 module _ (bytes starts : List ℕ) {k start place : ℕ} (lt : k < length starts) (is : start ≡ get_or starts k start) where
-  pub number_there : place < count_of (drop start bytes)
+  pub number_there : place < count_at_front (drop start bytes)
       → get_or (get_or (lists_within bytes starts) k []) place 0 ≡ from_be_bytes w16 (take 2 (drop (start + 2 + 2 * place) bytes))
   number_there within =
       let list : List ℕ = drop start bytes in
       let from_start : start + (2 + 2 * place) ≡ start + 2 + 2 * place = omega arith in
-      let number = number_within (count_of list) place (drop 2 list) within in
+      let number = number_within (count_at_front list) place (drop 2 list) within in
       rw (listed_number bytes starts k lt is, number, drop-drop (2 * place) 2 list, drop-drop (2 + 2 * place) start bytes, from_start)
 
-  pub number_past : count_of (drop start bytes) ≤ place → get_or (get_or (lists_within bytes starts) k []) place 0 ≡ 0
+  pub number_past : count_at_front (drop start bytes) ≤ place → get_or (get_or (lists_within bytes starts) k []) place 0 ≡ 0
   number_past past =
       let list : List ℕ = drop start bytes in
       rw (listed_number bytes starts k lt is)
-      (get_or_past (list_from list) place 0 (omega (arith, length_numbers (count_of list) (drop 2 list))))
+      (get_or_past (list_from list) place 0 (omega (arith, length_numbers (count_at_front list) (drop 2 list))))
 
 -- a method's list is one of four
 module _ {self : List (List ℕ)} (bytes starts : List ℕ) (row : ℕ) (method : Method) {code : ℕ} (view : self ≡ lists_within bytes starts)

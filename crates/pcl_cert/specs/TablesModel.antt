@@ -8,15 +8,15 @@ use Rattle.pcl_cert.specs.declared.tables.RowTables.TheInside.{Inside}
 use Rattle.pcl_cert.specs.RowTables.{numbers_from}
 
 -- a list at the front of bytes: how many numbers it has, and these
-abbrev pub count_of : List ℕ → ℕ
-count_of bytes = from_be_bytes w16 (take 2 bytes)
+abbrev pub count_at_front : List ℕ → ℕ
+count_at_front bytes = from_be_bytes w16 (take 2 bytes)
 
 abbrev pub list_from : List ℕ → List ℕ
-list_from bytes = numbers_from (count_of bytes) (drop 2 bytes)
+list_from bytes = numbers_from (count_at_front bytes) (drop 2 bytes)
 
 -- a list begins at a place of the bytes, and is whole
 pub record IsListAt (bytes : List ℕ) (start : ℕ) : Type 0 where
-  pub whole : start + 2 + 2 * count_of (drop start bytes) ≤ length bytes
+  pub whole : start + 2 + 2 * count_at_front (drop start bytes) ≤ length bytes
 
 -- ---- how they are kept
 

@@ -3,7 +3,7 @@
 ghost use Rattle.std.specs.Prelude.{◌≡◌, ◌++◌, ◌+◌, ◌*◌, ◌/◌, ◌^◌, ◌<◌, ◌≤◌, ◌↔◌, [], length, take, drop, IsTrue, OnOk};
 ghost use Rattle.std.specs.Int.{w16, from_be_bytes};
 ghost use Rattle.pcl_cert.specs.RowTables.{numbers_from, list_of, number_at_place};
-ghost use Rattle.pcl_cert.specs.TablesModel.{contents, count_of, list_from, lists_within, IsListAt};
+ghost use Rattle.pcl_cert.specs.TablesModel.{contents, count_at_front, list_from, lists_within, IsListAt};
 ghost use Rattle.std.specs.List.{flat_map, AllByRecursion};
 ghost use Rattle.pcl_cert.specs.Certificates.{list_bytes};
 ghost use Rattle.pcl_cert.specs.PageTables.{table_of};
@@ -140,7 +140,7 @@ fn list_at(bytes: &[u8], start: usize) -> &[u8]
 /// The bytes of the numbers of the list that begins at a place.
 fn numbers_at(bytes: &[u8], start: usize) -> &[u8]
     requires { IsListAt bytes.now start }
-    ensures size { length result.now ≡ 2 * count_of (drop start bytes.now) }
+    ensures size { length result.now ≡ 2 * count_at_front (drop start bytes.now) }
     ensures numbers { numbers_from (length result.now / 2) result.now ≡ list_from (drop start bytes.now) }
 {
     let count = usize::from(word(bytes, start));

@@ -3,13 +3,13 @@ use Rattle.std.specs.Prelude.{◌≡◌, ℕ, ◌+◌, ◌<◌, ◌≤◌, List,
 use Rattle.pcl_base.specs.declared.method.Method.{Method}
 use Rattle.pcl_rows.specs.Elements.{Element}
 use Rattle.pcl_rows.specs.Decoding.{base}
-use Rattle.pcl_coders.specs.RowWalks.{Leads, Ends, cost, IsRowTable}
+use Rattle.pcl_coders.specs.RowWalks.{StepsOver, NeedsNoMore, element_cost, IsRowTable}
 
 -- no element that agrees with the row undercuts the number of the place, and it is 0 where no more data is needed
 pub record IsGoodPlace (method : Method) (seed row numbers : List ℕ) (place : ℕ) : Type 0 where
-  pub steps : (e : Element) (next : ℕ) → Leads method (base method seed) row place e next
-      → slice_index numbers place ≤ cost e + slice_index numbers next
-  pub ends : Ends (base method seed) row place → slice_index numbers place ≡ 0
+  pub steps : (e : Element) (next : ℕ) → StepsOver method (base method seed) row place e next
+      → slice_index numbers place ≤ element_cost e + slice_index numbers next
+  pub ends : NeedsNoMore (base method seed) row place → slice_index numbers place ≡ 0
 
 -- the first place, up to a last one, of which a fact doesn't hold
 pub record IsFirstPlace (Good : ℕ → Type 0) (last place : ℕ) : Type 0 where

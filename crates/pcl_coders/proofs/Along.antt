@@ -1,6 +1,6 @@
 -- The choice of an element along a table that is right.
 use Rattle.std.proofs.Common.{◌≡◌, ℕ, ◌+◌, ◌<◌, ◌≤◌, min, List, [], ◌∷◌, length, drop, inl, inr, arith}
-use Rattle.pcl_coders.proofs.Names.{slice_index, drop-drop, length-drop, get_or-drop, run_part, Method, Runs, Packed, Delta, IsFirstDifference, IsRunEnd, offset_of, Element, given, stop, Walk, total, IsLatestStart, replacement_bytes, Leads, Ends, cost, NoLiteral, IsLiteralLen, AreRightFrom, Shape, Run, LiteralRun, RepeatRun, Replace, element_of, shape_stop, IsShapeChoice, IsReplacement}
+use Rattle.pcl_coders.proofs.Names.{slice_index, drop-drop, length-drop, get_or-drop, run_part, Method, Runs, Packed, Delta, IsFirstDifference, IsRunEnd, offset_of, Element, given, stop, Walk, total, IsLatestStart, replacement_bytes, StepsOver, NeedsNoMore, element_cost, NoLiteral, IsLiteralLen, AreRightFrom, Shape, Run, LiteralRun, RepeatRun, Replace, element_of, shape_stop, IsShapeChoice, IsReplacement}
 use Rattle.pcl_coders.proofs.Shapes.{packed_shape}
 use Rattle.pcl_coders.proofs.Prefixes.{IsRunLen, run_len_of, same_len_of}
 use Rattle.pcl_coders.proofs.Choices.{agrees_gives, IsShapeElement, step_choice, runs_choice, repeat_step, literal_step, replace_step, within_run}
@@ -77,7 +77,7 @@ no_literal_repeat old wanted numbers run end size some right needed is run-is no
 
 -- right numbers bound walks from places of the row
 walk_bounds : {old row table : List ℕ} (es : List Element) {place : ℕ} → length old ≡ length row → AreRightFrom Delta old row table 0
-    → place ≤ length row → Walk (Leads Delta old row) (Ends old row) place es → slice_index table place ≤ total cost es
+    → place ≤ length row → Walk (StepsOver Delta old row) (NeedsNoMore old row) place es → slice_index table place ≤ total element_cost es
 walk_bounds [] {place} size right within walk = omega (arith, (right place (omega arith) within).ends walk)
 walk_bounds {old} {row} {table} (e ∷ es) {place} size right within walk =
     let inside = stop_within Delta old row place e size walk.1.element walk.1.agrees in

@@ -1,6 +1,6 @@
 -- The best element of each method.
 use Rattle.std.proofs.Common.{◌≡◌, ℕ, ◌+◌, ◌-◌, ◌*◌, ◌<◌, ◌≤◌, min, List, ◌++◌, length, take, drop, replicate, refl, sym, ap, ◌∙◌, inl, inr, arith, flat_map}
-use Rattle.pcl_coders.proofs.Names.{slice_index, take_at, drop_at, drop-drop, take-append-drop, length-append, length-drop, length-take, length-take-le, length-replicate, get_or-drop, once_each, run_part, first_byte, Method, Plain, Runs, Packed, Delta, head_bytes, offset_of, Element, IsElement, given, stop, Agrees, cost, IsLeastLen, replacement, replacement_bytes, Shape, SingleByte, Run, LiteralRun, RepeatRun, Replace, element_of, shape_stop, IsShapeWithin, IsShapeChoice}
+use Rattle.pcl_coders.proofs.Names.{slice_index, take_at, drop_at, drop-drop, take-append-drop, length-append, length-drop, length-take, length-take-le, length-replicate, get_or-drop, once_each, run_part, first_byte, Method, Plain, Runs, Packed, Delta, head_bytes, offset_of, Element, IsElement, given, stop, Agrees, element_cost, IsLeastLen, replacement, replacement_bytes, Shape, SingleByte, Run, LiteralRun, RepeatRun, Replace, element_of, shape_stop, IsShapeWithin, IsShapeChoice}
 use Rattle.pcl_coders.proofs.Prefixes.{IsRunLen, IsSameLen}
 use Rattle.pcl_coders.proofs.RowWalks.{stop_within}
 use Rattle.pcl_coders.proofs.Shapes.{given_copies, IsRepeat, plain_shape, runs_shape, packed_shape, delta_shape, replacement_is}
@@ -37,7 +37,7 @@ pub record IsShapeElement (method : Method) (old wanted : List ℕ) (shape : Sha
   pub element : IsElement method (element_of shape wanted)
   pub agrees : Agrees old wanted (element_of shape wanted)
   pub stop_is : stop (element_of shape wanted) ≡ shape_stop shape
-  pub bytes_are : cost (element_of shape wanted) ≡ bytes
+  pub bytes_are : element_cost (element_of shape wanted) ≡ bytes
 
 -- some element that agrees, which stops at a place and has no more than this many bytes
 abbrev pub HasShapeElement : Method → List ℕ → List ℕ → ℕ → ℕ → Type 0
@@ -47,7 +47,7 @@ HasShapeElement method old wanted stops most =
 -- what no element of the method goes below
 abbrev pub IsBelow : Method → List ℕ → List ℕ → List ℕ → ℕ → Type 0
 IsBelow method old wanted numbers sum =
-    (d : Element) → IsElement method d → Agrees old wanted d → 0 < stop d → sum ≤ cost d + slice_index numbers (stop d)
+    (d : Element) → IsElement method d → Agrees old wanted d → 0 < stop d → sum ≤ element_cost d + slice_index numbers (stop d)
 
 pub step_choice : {method : Method} {old wanted numbers : List ℕ} {shape : Shape} {bytes sum : ℕ}
     → IsShapeElement method old wanted shape bytes → 0 < shape_stop shape → sum ≡ bytes + slice_index numbers (shape_stop shape)

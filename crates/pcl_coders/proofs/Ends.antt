@@ -1,19 +1,19 @@
 -- The first place from which no more data is needed.
 use Rattle.std.proofs.Common.{◌≡◌, ◌≢◌, ℕ, ◌+◌, ◌-◌, ◌<◌, ◌≤◌, List, length, get_or, drop, replicate, sym, ◌∙◌, arith}
-use Rattle.pcl_coders.proofs.Names.{ext_get_or, drop-drop, length-drop, length-replicate, get_or-drop, get_or-replicate, get_or_past, IsTrimmedLen, Ends, IsFirstEnd}
+use Rattle.pcl_coders.proofs.Names.{ext_get_or, drop-drop, length-drop, length-replicate, get_or-drop, get_or-replicate, get_or_past, IsTrimmedLen, NeedsNoMore, IsFirstEnd}
 
 -- the bytes of two rows from a place on, one by one
 pub ends_by : (old row : List ℕ) (place : ℕ) → length old ≡ length row
-    → ((k : ℕ) → place ≤ k → k < length row → get_or row k 0 ≡ get_or old k 0) → Ends old row place
+    → ((k : ℕ) → place ≤ k → k < length row → get_or row k 0 ≡ get_or old k 0) → NeedsNoMore old row place
 ends_by old row place size same =
     ext_get_or 0 (drop place row) (drop place old) (omega (arith, length-drop place row, length-drop place old))
     (λ k below. grind (arith, get_or-drop, length-drop place row, same (place + k)))
 
-pub ends_at : (old row : List ℕ) {place : ℕ} (k : ℕ) → Ends old row place → place ≤ k → get_or row k 0 ≡ get_or old k 0
+pub ends_at : (old row : List ℕ) {place : ℕ} (k : ℕ) → NeedsNoMore old row place → place ≤ k → get_or row k 0 ≡ get_or old k 0
 ends_at old row {place} k end low = grind (arith, get_or-drop place row (k - place) 0, get_or-drop place old (k - place) 0)
 
 -- after such a place there are only such places
-pub ends_on : (old row : List ℕ) {place q : ℕ} → Ends old row place → place ≤ q → Ends old row q
+pub ends_on : (old row : List ℕ) {place q : ℕ} → NeedsNoMore old row place → place ≤ q → NeedsNoMore old row q
 ends_on old row {place} {q} end low =
     let at : place + (q - place) ≡ q = omega arith in cc (drop-drop (q - place) place row, drop-drop (q - place) place old)
 

@@ -1,6 +1,6 @@
 -- A table that is filled from the row's end, and data along it.
 use Rattle.std.proofs.Common.{◌≡◌, ◌≢◌, ℕ, zero, suc, ◌+◌, ◌-◌, ◌*◌, ◌<◌, ◌≤◌, List, [], ◌∷◌, ◌++◌, length, get_or, set, drop, refl, sym, ap, ◌∙◌, inl, inr, append_assoc, arith}
-use Rattle.pcl_coders.proofs.Names.{slice_index, flat_map, cases_lt, append-nil, drop-drop, drop_all, length-drop, get_or-drop, get_or-set_same, get_or-set_other, get_or_past, drop_more, flat_map-append, first_byte, Method, Plain, Runs, Packed, Delta, Element, element_bytes, stop, base, IsRowData, spelling_has_byte, Walk, total, IsAttained, Leads, Ends, cost, IsRowTable, IsLeastTable, IsCodable, IsLeastLength, AppendsLeast, IsPlaceNumber, AreRightFrom, AppendsWalk, Shape, SingleByte, Run, LiteralRun, Replace, element_of, shape_stop, IsShapeChoice, feasible_bounds}
+use Rattle.pcl_coders.proofs.Names.{slice_index, flat_map, cases_lt, append-nil, drop-drop, drop_all, length-drop, get_or-drop, get_or-set_same, get_or-set_other, get_or_past, drop_more, flat_map-append, first_byte, Method, Plain, Runs, Packed, Delta, Element, element_bytes, stop, base, IsRowData, spelling_has_byte, Walk, total, IsAttained, StepsOver, NeedsNoMore, element_cost, IsRowTable, IsLeastTable, IsCodable, IsLeastLength, AppendsLeast, IsPlaceNumber, AreRightFrom, AppendsWalk, Shape, SingleByte, Run, LiteralRun, Replace, element_of, shape_stop, IsShapeChoice, feasible_bounds}
 use Rattle.pcl_coders.proofs.RowWalks.{length-base, total_is, stop_within, walk_of_data, data_of_walk}
 use Rattle.pcl_coders.proofs.Choices.{HasShapeElement, byte_step, run_step, literal_step, replace_step}
 
@@ -21,7 +21,7 @@ number_after table at number place after = let other : place ≢ at = omega arit
 
 -- where more data is needed
 pub number_of_choice : {method : Method} {old row : List ℕ} (table : List ℕ) {place : ℕ} {shape : Shape} {sum : ℕ} → place < length row
-    → length table ≡ length row + 1 → (Ends old row place → ⊥)
+    → length table ≡ length row + 1 → (NeedsNoMore old row place → ⊥)
     → IsShapeChoice method (drop place old) (drop place row) (drop place table) shape sum → sum ≤ 2 * (length row - place)
     → IsPlaceNumber method old row (set table place sum) place
 number_of_choice {row} table {place} {shape} {sum} inside size more c small =
@@ -38,10 +38,10 @@ choice_small {method} old row table {place} {sum} inside c small =
 -- ---- places from which no more data is needed
 
 pub ends_here : (old row : List ℕ) {place : ℕ} → length old ≡ length row → place < length row → get_or row place 0 ≡ get_or old place 0
-    → Ends old row (place + 1) → Ends old row place
+    → NeedsNoMore old row (place + 1) → NeedsNoMore old row place
 ends_here old row {place} size inside same end = cc (drop_more row place 0 inside, drop_more old place 0 (omega arith))
 
-pub ends_after : (old row : List ℕ) (place : ℕ) → Ends old row place → Ends old row (place + 1)
+pub ends_after : (old row : List ℕ) (place : ℕ) → NeedsNoMore old row place → NeedsNoMore old row (place + 1)
 ends_after old row place end = cc (drop-drop 1 place row, drop-drop 1 place old)
 
 -- one more number
@@ -57,14 +57,14 @@ right_more {method} {old} {row} {table} {place} number after here q low high =
 -- ---- a whole table
 
 -- past the row's end no more data is needed
-pub ends_past : (old row : List ℕ) {place : ℕ} → length old ≡ length row → length row ≤ place → Ends old row place
+pub ends_past : (old row : List ℕ) {place : ℕ} → length old ≡ length row → length row ≤ place → NeedsNoMore old row place
 ends_past old row {place} size past = drop_all place row past ∙ sym (drop_all place old (omega arith))
 
 pub attained_from : {method : Method} {old row table : List ℕ} (rest : ℕ) {place : ℕ} → length old ≡ length row
     → AreRightFrom method old row table 0 → place ≤ length row → length row - place ≤ rest
-    → IsAttained (Leads method old row) (Ends old row) cost place (slice_index table place)
+    → IsAttained (StepsOver method old row) (NeedsNoMore old row) element_cost place (slice_index table place)
 attained_from {old} {row} zero {place} size right within left =
-    let end : Ends old row place = ends_past old row size (omega arith) in
+    let end : NeedsNoMore old row place = ends_past old row size (omega arith) in
     ([], end, sym ((right place (omega arith) within).ends end))
 attained_from {method} {old} {row} (suc rest) {place} size right within left =
     let is = right place (omega arith) within in
@@ -74,7 +74,7 @@ attained_from {method} {old} {row} (suc rest) {place} size right within left =
           let e : Element = next.0 in
           let inside = stop_within method old row place e size next.1.element next.1.agrees in
           let walk = attained_from rest size right (omega arith) (omega (arith, next.1.goes_on)) in
-          let first : Leads method old row place e (place + stop e) =
+          let first : StepsOver method old row place e (place + stop e) =
           record { element = next.1.element; agrees = next.1.agrees; next_is = refl } in
           (e ∷ walk.0, (place + stop e, first, walk.1), omega (arith, walk.2, next.1.number_is))
     ]
@@ -114,7 +114,7 @@ row_table_small {method} {seed} {row} (suc rest) place same is at =
 
 -- data along a walk of least cost
 pub least_along : {method : Method} {seed row table : List ℕ} (es : List Element) → IsCodable seed row → IsRowTable method seed row table
-    → Walk (Leads method (base method seed) row) (Ends (base method seed) row) 0 es → total cost es ≡ slice_index table 0
+    → Walk (StepsOver method (base method seed) row) (NeedsNoMore (base method seed) row) 0 es → total element_cost es ≡ slice_index table 0
     → IsRowData method seed row (flat_map element_bytes es) × IsLeastLength method seed row (length (flat_map element_bytes es))
 least_along {method} {seed} {row} {table} es codable is walk total-is =
     let small = row_table_small (length row) 0 codable.same_size is (omega arith) in
@@ -139,8 +139,9 @@ pub record IsAppendedTo (method : Method) (old row table before now : List ℕ) 
   pub within : place ≤ length row
   pub done : List Element
   pub joined : now ≡ before ++ flat_map element_bytes done
-  pub goes_on : (es : List Element) → Walk (Leads method old row) (Ends old row) place es → total cost es ≡ slice_index table place
-      → Walk (Leads method old row) (Ends old row) 0 (done ++ es) × (total cost (done ++ es) ≡ slice_index table 0)
+  pub goes_on : (es : List Element) → Walk (StepsOver method old row) (NeedsNoMore old row) place es
+      → total element_cost es ≡ slice_index table place
+      → Walk (StepsOver method old row) (NeedsNoMore old row) 0 (done ++ es) × (total element_cost (done ++ es) ≡ slice_index table 0)
 
 pub appended_more : {method : Method} {old row table before now : List ℕ} {place : ℕ} {shape : Shape} {sum : ℕ} {now' : List ℕ} {place' : ℕ}
     → length old ≡ length row → AreRightFrom method old row table 0 → 0 < slice_index table place
@@ -153,9 +154,9 @@ appended_more {method} {old} {row} {table} {before} {place} {shape} {place'} siz
     let is = right place (omega arith) a.within in
     let inside = stop_within method old row place e size c.choice.element c.choice.agrees in
     let next : place' ≡ place + stop e = omega (arith, c.stop_is) in
-    let number : slice_index table place ≡ cost e + slice_index table (place + stop e) =
+    let number : slice_index table place ≡ element_cost e + slice_index table (place + stop e) =
     grind (arith, is.steps e c.choice.element c.choice.agrees, c.choice.least, get_or-drop place table) in
-    let past : length row ≤ place → Ends old row place = ends_past old row size in
+    let past : length row ≤ place → NeedsNoMore old row place = ends_past old row size in
     let begins : place < length row = grind (arith, is.ends) in
     record {
       within = omega arith;
@@ -169,7 +170,7 @@ appended_more {method} {old} {row} {table} {before} {place} {shape} {place'} siz
 pub appended_all : {method : Method} {old row table before now : List ℕ} {place : ℕ} → AreRightFrom method old row table 0
     → slice_index table place ≡ 0 → IsAppendedTo method old row table before now place → AppendsWalk method old row table before now
 appended_all {method} {old} {row} {before} {place} right none a =
-    let end : Ends old row place = elim (right place (omega arith) a.within).attained [
+    let end : NeedsNoMore old row place = elim (right place (omega arith) a.within).attained [
       | inl end ↦ end
       | inr next ↦ absurd (omega (arith, next.1.number_is, spelling_has_byte method next.0 next.1.element))
     ] in

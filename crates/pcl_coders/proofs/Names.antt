@@ -7,6 +7,6 @@ pub use Rattle.pcl_base.specs.declared.{method.Method.Method, method.Method.TheV
 pub use Rattle.pcl_bitmap.proofs.Names.{IsFirstDifference, IsRunEnd, IsTrimmedLen}
 pub use Rattle.pcl_rows.proofs.Names.{AreElements, Count, Element, Far, Head, IsCutIntoElements, IsElement, IsInRange, IsRowData, Itself, Literal, Near, Repeat, RowFrom, Skipped, after_element, after_elements, base, copies_of, element_bytes, given, given_by, head_bytes, method_of, new_count, offset_of, overlaid, reach, stop}
 pub use Rattle.pcl_rows.proofs.{Decoded.decoded_is, Overlays.overlaid_within, Readings.after_none, Readings.plain_elements, Readings.row_of_plain, Readings.some_element, Spellings.spelling_has_byte}
-pub use Rattle.pcl_coders.specs.{Coding.AppendsLeast, Coding.IsCodable, Coding.IsLeastLength, RowWalks.Agrees, RowWalks.Ends, RowWalks.IsLeastTable, RowWalks.IsRowTable, RowWalks.Leads, RowWalks.cost, Starts.IsLatestStart, Starts.StartsAt, Windows.IsLeastOf, Windows.IsQueue, Windows.Numbers}
+pub use Rattle.pcl_coders.specs.{Coding.AppendsLeast, Coding.IsCodable, Coding.IsLeastLength, RowWalks.Agrees, RowWalks.NeedsNoMore, RowWalks.IsLeastTable, RowWalks.IsRowTable, RowWalks.StepsOver, RowWalks.element_cost, Starts.IsLatestStart, Starts.StartsAt, Windows.IsLeastOf, Windows.IsQueue, Windows.Numbers}
 pub use Rattle.pcl_coders.specs.declared.{shape.Shape.Shape, shape.Shape.TheVariants.LiteralRun, shape.Shape.TheVariants.RepeatRun, shape.Shape.TheVariants.Replace, shape.Shape.TheVariants.Run, shape.Shape.TheVariants.SingleByte}
 pub use Rattle.pcl_coders.specs.inner.{Choosing.IsLeastLen, Choosing.IsLiteralLen, Choosing.NoLiteral, Filling.AppendsWalk, Filling.AreRightFrom, Filling.HasLiteralEnd, Filling.HasZeros, Filling.IsFirstEnd, Filling.IsLiteralEnd, Filling.IsNext, Filling.IsPlaceNumber, Filling.white_like, Replacement.replacement, Replacement.replacement_bytes, Shape.IsReplacement, Shape.IsShapeChoice, Shape.IsShapeWithin, Shape.element_of, Shape.shape_stop}

@@ -1,6 +1,6 @@
 -- The numbers of places, one after the other from the row's end.
 use Rattle.std.proofs.Common.{◌≡◌, ◌≢◌, ℕ, zero, suc, ◌+◌, ◌-◌, ◌*◌, ◌<◌, ◌≤◌, min, List, length, set, take, drop, replicate, refl, sym, ap, ◌∙◌, subst, inl, inr, arith}
-use Rattle.pcl_coders.proofs.Names.{slice_index, cases_lt, nat_tests, drop-drop, length-drop, length-replicate, get_or-drop, get_or-set_same, run_from_rest, Method, Runs, Packed, Delta, IsRunEnd, offset_of, Element, IsElement, given, stop, Agrees, Ends, cost, IsLatestStart, IsLeastLen, replacement_bytes, IsPlaceNumber, AreRightFrom, HasZeros, Shape, Run, LiteralRun, RepeatRun, Replace, element_of, IsShapeChoice}
+use Rattle.pcl_coders.proofs.Names.{slice_index, cases_lt, nat_tests, drop-drop, length-drop, length-replicate, get_or-drop, get_or-set_same, run_from_rest, Method, Runs, Packed, Delta, IsRunEnd, offset_of, Element, IsElement, given, stop, Agrees, NeedsNoMore, element_cost, IsLatestStart, IsLeastLen, replacement_bytes, IsPlaceNumber, AreRightFrom, HasZeros, Shape, Run, LiteralRun, RepeatRun, Replace, element_of, IsShapeChoice}
 use Rattle.pcl_coders.proofs.Shapes.{IsRepeat, runs_shape, packed_shape}
 use Rattle.pcl_coders.proofs.Prefixes.{IsSameLen, run_len_of, same_len_of}
 use Rattle.pcl_coders.proofs.Choices.{agrees_gives, HasShapeElement, run_step, repeat_step, literal_step, step_choice, replace_step, delta_below, runs_choice}
@@ -11,7 +11,7 @@ use Rattle.pcl_coders.proofs.Ends.{ends_on, ends_at, white_byte}
 
 pub begun_right : {method : Method} {old row table : List ℕ} {end : ℕ} → HasZeros old row table end → AreRightFrom method old row table end
 begun_right {old} {row} begun q low high =
-    let here = begun.zeros q low in let end : Ends old row q = ends_on old row begun.first_end.ends low in grind arith
+    let here = begun.zeros q low in let end : NeedsNoMore old row q = ends_on old row begun.first_end.ends low in grind arith
 
 -- the best element of a place gives its number
 pub place_done : {method : Method} {old row first table : List ℕ} {end place : ℕ} {shape : Shape} {sum : ℕ} → HasZeros old row first end
@@ -21,7 +21,7 @@ pub place_done : {method : Method} {old row first table : List ℕ} {end place :
 place_done {old} {row} {first} {table} {place} {sum} begun size inside beyond c =
     let within : place < length row = omega (arith, begun.first_end.within) in
     let small = choice_small old row table within c (beyond (place + 1) (omega arith) (omega arith)).small in
-    let more : Ends old row place → ⊥ = λ e. omega (arith, begun.first_end.first place e) in
+    let more : NeedsNoMore old row place → ⊥ = λ e. omega (arith, begun.first_end.first place e) in
     (right_more sum beyond (number_of_choice table within size more c small), small)
 
 -- ---- methods 1 and 2: numbers never grow to the right
@@ -38,7 +38,7 @@ repeat_after wanted e r none gives more =
 -- a method whose elements can be made shorter: one gives a byte less, one place further on
 abbrev pub CanShorten : Method → Type 0
 CanShorten method = (old wanted : List ℕ) (e : Element) → length old ≡ length wanted → IsElement method e → Agrees old wanted e
-    → 1 < stop e → HasShapeElement method (drop 1 old) (drop 1 wanted) (stop e - 1) (cost e)
+    → 1 < stop e → HasShapeElement method (drop 1 old) (drop 1 wanted) (stop e - 1) (element_cost e)
 
 pub runs_shorten : CanShorten Runs
 runs_shorten old wanted e size element agrees more =
@@ -133,8 +133,8 @@ pub record IsRunFrom (row : List ℕ) (end place run_end : ℕ) : Type 0 where
 pub last_differs : {old row first : List ℕ} {end : ℕ} (place : ℕ) → HasZeros old row first end → place + 1 ≡ end
     → slice_index old place ≢ slice_index row place
 last_differs {old} {row} {first} place begun last same =
-    let beyond : Ends old row (place + 1) = subst (Ends old row) (sym last) begun.first_end.ends in
-    let here : Ends old row place = ends_here old row begun.same_size (omega (arith, begun.first_end.within)) (sym same) beyond in
+    let beyond : NeedsNoMore old row (place + 1) = subst (NeedsNoMore old row) (sym last) begun.first_end.ends in
+    let here : NeedsNoMore old row place = ends_here old row begun.same_size (omega (arith, begun.first_end.within)) (sym same) beyond in
     absurd (omega (arith, begun.first_end.first place here))
 
 -- the last run ends where no more data is needed

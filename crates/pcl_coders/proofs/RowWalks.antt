@@ -1,6 +1,6 @@
 -- Whole data for a row is a walk from its first place, of the same cost, and each such walk is data.
 use Rattle.std.proofs.Common.{◌≡◌, ℕ, ◌+◌, ◌-◌, ◌<◌, ◌≤◌, ◌⊎◌, List, [], ◌∷◌, ◌++◌, length, take, drop, refl, sym, ap, ◌∙◌, subst, inl, inr, append_assoc, arith}
-use Rattle.pcl_coders.proofs.Names.{flat_map, append-nil, take_all, drop_at, drop-drop, length-append, length-take, length-drop, length-replicate, drop-nil, length-copied, Method, Delta, Head, Near, Far, head_bytes, new_count, offset_of, Element, IsElement, AreElements, element_bytes, given, given_by, stop, reach, base, after_element, after_elements, RowFrom, IsRowData, IsCutIntoElements, after_none, some_element, spelling_has_byte, decoded_is, Walk, total, Agrees, Leads, Ends, cost}
+use Rattle.pcl_coders.proofs.Names.{flat_map, append-nil, take_all, drop_at, drop-drop, length-append, length-take, length-drop, length-replicate, drop-nil, length-copied, Method, Delta, Head, Near, Far, head_bytes, new_count, offset_of, Element, IsElement, AreElements, element_bytes, given, given_by, stop, reach, base, after_element, after_elements, RowFrom, IsRowData, IsCutIntoElements, after_none, some_element, spelling_has_byte, decoded_is, Walk, total, Agrees, StepsOver, NeedsNoMore, element_cost}
 
 -- the untreated bytes stay after the elements
 abbrev pub kept : List ℕ → List ℕ
@@ -10,7 +10,7 @@ pub length-base : (method : Method) (seed : List ℕ) → length (base method se
 length-base Delta seed = refl
 length-base _ seed = length-replicate (length seed) 0
 
-pub total_is : (es : List Element) → total cost es ≡ length (flat_map element_bytes es)
+pub total_is : (es : List Element) → total element_cost es ≡ length (flat_map element_bytes es)
 total_is [] = refl
 total_is (e ∷ es) = omega (arith, total_is es, length-append (element_bytes e) (flat_map element_bytes es))
 
@@ -23,7 +23,7 @@ given_or_nothing_left h bytes e = inl refl
 -- elements within the row that make the wanted bytes are a walk
 pub walk_from_elements : (method : Method) (old row : List ℕ) (es : List Element) (place : ℕ) → length old ≡ length row
     → AreElements method es → reach es ≤ length row - place
-    → after_elements es kept (drop place old) ≡ drop place row → Walk (Leads method old row) (Ends old row) place es
+    → after_elements es kept (drop place old) ≡ drop place row → Walk (StepsOver method old row) (NeedsNoMore old row) place es
 walk_from_elements method old row [] place size are within made = sym made
 walk_from_elements method old row (e ∷ es) place size are within made =
     let before : List ℕ = take (offset_of e.head) (drop place old) in
@@ -45,7 +45,7 @@ stop_within method old row place e size is agrees =
 
 -- a walk makes the wanted bytes
 pub walk_makes : (method : Method) (old row : List ℕ) (es : List Element) (place : ℕ) → length old ≡ length row
-    → Walk (Leads method old row) (Ends old row) place es
+    → Walk (StepsOver method old row) (NeedsNoMore old row) place es
     → AreElements method es × (reach es ≤ length row - place) × (after_elements es kept (drop place old) ≡ drop place row)
 walk_makes method old row [] place size w = (tt, omega arith, sym w)
 walk_makes method old row (e ∷ es) place size w =
@@ -82,7 +82,8 @@ length-after (e ∷ es) old within = grind (arith, length-append, length-take, l
 
 -- whole data for a row is a walk
 pub walk_of_data : {method : Method} {seed row bytes : List ℕ} → length seed ≡ length row → IsRowData method seed row bytes
-    → (es : List Element) × Walk (Leads method (base method seed) row) (Ends (base method seed) row) 0 es × (total cost es ≡ length bytes)
+    → (es : List Element) × Walk (StepsOver method (base method seed) row) (NeedsNoMore (base method seed) row) 0 es
+    × (total element_cost es ≡ length bytes)
 walk_of_data {method} {seed} {row} {bytes} size has =
     let old : List ℕ = base method seed in
     let same : length old ≡ length row = length-base method seed ∙ size in
@@ -94,8 +95,9 @@ walk_of_data {method} {seed} {row} {bytes} size has =
     (w.0, walk_from_elements method old row w.0 0 same w.1 (omega (arith, w.3)) made, total_is w.0 ∙ ap length (sym w.2))
 
 -- a walk is whole data
-pub data_of_walk : {method : Method} {seed row : List ℕ} (es : List Element) → length seed ≡ length row → total cost es ≤ 65535
-    → Walk (Leads method (base method seed) row) (Ends (base method seed) row) 0 es → IsRowData method seed row (flat_map element_bytes es)
+pub data_of_walk : {method : Method} {seed row : List ℕ} (es : List Element) → length seed ≡ length row → total element_cost es ≤ 65535
+    → Walk (StepsOver method (base method seed) row) (NeedsNoMore (base method seed) row) 0 es
+    → IsRowData method seed row (flat_map element_bytes es)
 data_of_walk {method} {seed} {row} es size small walk =
     let old : List ℕ = base method seed in
     let same : length old ≡ length row = length-base method seed ∙ size in

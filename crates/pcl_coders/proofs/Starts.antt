@@ -1,6 +1,6 @@
 -- An earlier start of a replacement is never shorter than the latest.
 use Rattle.std.proofs.Common.{◌≡◌, ℕ, ◌+◌, ◌-◌, ◌≤◌, List, [], ◌∷◌, length, drop, sym, inl, inr, arith}
-use Rattle.pcl_coders.proofs.Names.{cases_lt, length-drop, Delta, offset_of, Element, Walk, total, Leads, Ends, cost, IsLatestStart, StartsAt, replacement_bytes, Replace, element_of}
+use Rattle.pcl_coders.proofs.Names.{cases_lt, length-drop, Delta, offset_of, Element, Walk, total, StepsOver, NeedsNoMore, element_cost, IsLatestStart, StartsAt, replacement_bytes, Replace, element_of}
 use Rattle.pcl_coders.proofs.Shapes.{delta_shape, replacement_is}
 use Rattle.pcl_coders.proofs.Choices.{agrees_gives, replace_step}
 use Rattle.pcl_coders.proofs.Ends.{ends_at}
@@ -9,7 +9,7 @@ use Rattle.pcl_coders.proofs.Places.{command_grows, command_joins, same_to_start
 -- a replacement at the latest start, and a walk on from where it stops
 latest_step : {old row : List ℕ} {place start next most : ℕ} (len : ℕ) (es : List Element) → length old ≡ length row
     → IsLatestStart old row place start → 1 ≤ len → len ≤ 8 → next ≡ start + len → next ≤ length row
-    → Walk (Leads Delta old row) (Ends old row) next es → replacement_bytes (start - place) + len + total cost es ≤ most
+    → Walk (StepsOver Delta old row) (NeedsNoMore old row) next es → replacement_bytes (start - place) + len + total element_cost es ≤ most
     → StartsAt old row place start most
 latest_step {old} {row} {place} {start} {next} len es size is some few next-is fits walk cheap =
     let last : ℕ = start - place in
@@ -31,18 +31,18 @@ pub record IsDeltaStep (old row : List ℕ) (place start next : ℕ) (e : Elemen
   pub early : offset_of e.head ≤ start - place
   pub next_is : next ≡ place + (offset_of e.head + len)
   pub within : next ≤ length row
-  pub cost_is : cost e ≡ replacement_bytes (offset_of e.head) + len
+  pub cost_is : element_cost e ≡ replacement_bytes (offset_of e.head) + len
 
 pub delta_step : {old row : List ℕ} {place start next : ℕ} {e : Element} → length old ≡ length row → IsLatestStart old row place start
-    → Leads Delta old row place e next → IsDeltaStep old row place start next e
+    → StepsOver Delta old row place e next → IsDeltaStep old row place start next e
 delta_step {old} {row} {place} {e} size is l =
     let g = agrees_gives (drop place old) (omega (arith, length-drop place row, length-drop place old)) l.element l.agrees in
     let early = (same_to_start size is).longest (offset_of e.head) (omega (arith, g.0)) g.1 in
     grind (arith, delta_shape e.head l.element.head_is.method_is l.element.head_is.in_range l.element.complete, length-drop place row)
 
 pub latest_is_as_good : (old row : List ℕ) (steps : List Element) (place start : ℕ) → length old ≡ length row
-    → IsLatestStart old row place start → Walk (Leads Delta old row) (Ends old row) place steps
-    → StartsAt old row place start (total cost steps)
+    → IsLatestStart old row place start → Walk (StepsOver Delta old row) (NeedsNoMore old row) place steps
+    → StartsAt old row place start (total element_cost steps)
 latest_is_as_good old row [] place start size is walk = absurd (is.differs (sym (ends_at old row start walk is.order)))
 latest_is_as_good old row (e ∷ es) place start size is walk =
     let last : ℕ = start - place in

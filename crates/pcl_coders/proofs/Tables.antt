@@ -1,6 +1,6 @@
 -- Tables that are known without being filled, and what a table of least numbers says of its places.
 use Rattle.std.proofs.Common.{◌≡◌, ℕ, ◌+◌, ◌-◌, ◌⊎◌, List, [], ◌∷◌, ◌++◌, length, take, drop, refl, sym, ap, ◌∙◌, subst, inl, inr, arith, zero-add}
-use Rattle.pcl_coders.proofs.Names.{slice_index, cases_lt, length-take-le, drop_at, take-append-drop, Method, Plain, Element, stop, base, RowFrom, IsRowData, overlaid, overlaid_within, plain_elements, row_of_plain, decoded_is, spelling_has_byte, Walk, total, Leads, Ends, cost, IsRowTable, IsLeastTable, IsCodable, IsLeastLength, AppendsLeast, IsNext, AreRightFrom, IsFirstEnd, feasible_bounds}
+use Rattle.pcl_coders.proofs.Names.{slice_index, cases_lt, length-take-le, drop_at, take-append-drop, Method, Plain, Element, stop, base, RowFrom, IsRowData, overlaid, overlaid_within, plain_elements, row_of_plain, decoded_is, spelling_has_byte, Walk, total, StepsOver, NeedsNoMore, element_cost, IsRowTable, IsLeastTable, IsCodable, IsLeastLength, AppendsLeast, IsNext, AreRightFrom, IsFirstEnd, feasible_bounds}
 use Rattle.pcl_coders.proofs.RowWalks.{length-base, data_of_walk}
 use Rattle.pcl_coders.proofs.Filling.{row_table_small}
 
@@ -62,8 +62,9 @@ plain_appended {seed} {row} {end} codable first = record {
 
 -- the next element of least data goes on
 attained_here : {method : Method} {seed row table : List ℕ} (place : ℕ) (es : List Element) → IsRowTable method seed row table
-    → Walk (Leads method (base method seed) row) (Ends (base method seed) row) place es → total cost es ≡ slice_index table place
-    → Ends (base method seed) row place ⊎ ((e : Element) × IsNext method (base method seed) row table place e)
+    → Walk (StepsOver method (base method seed) row) (NeedsNoMore (base method seed) row) place es
+    → total element_cost es ≡ slice_index table place
+    → NeedsNoMore (base method seed) row place ⊎ ((e : Element) × IsNext method (base method seed) row table place e)
 attained_here place [] is walk total-is = inl walk
 attained_here {method} place (e ∷ es) is walk total-is =
     let next = walk.1.next_is in

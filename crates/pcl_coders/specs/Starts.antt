@@ -4,7 +4,7 @@ use Rattle.pcl_base.specs.declared.method.Method.TheVariants.{Delta}
 use Rattle.pcl_rows.specs.Heads.{offset_of}
 use Rattle.pcl_rows.specs.Elements.{Element}
 use Rattle.pcl_base.specs.Walks.{Walk, total}
-use Rattle.pcl_coders.specs.RowWalks.{Leads, Ends, cost}
+use Rattle.pcl_coders.specs.RowWalks.{StepsOver, NeedsNoMore, element_cost}
 
 -- the latest start of a replacement at a place: the first byte from there on that differs from the row before
 pub record IsLatestStart (old row : List ℕ) (place start : ℕ) : Type 0 where
@@ -18,5 +18,5 @@ pub record StartsAt (old row : List ℕ) (place start most : ℕ) : Type 0 where
   pub first : Element
   pub rest : List Element
   pub offset_is : offset_of first.head ≡ start - place
-  pub walk : Walk (Leads Delta old row) (Ends old row) place (first ∷ rest)
-  pub cheap : total cost (first ∷ rest) ≤ most
+  pub walk : Walk (StepsOver Delta old row) (NeedsNoMore old row) place (first ∷ rest)
+  pub cheap : total element_cost (first ∷ rest) ≤ most

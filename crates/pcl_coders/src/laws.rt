@@ -8,7 +8,7 @@ ghost use Rattle.pcl_base.specs.declared.method.Method.TheVariants as methods;
 ghost use Rattle.pcl_rows.specs.Elements.{Element};
 ghost use Rattle.pcl_base.specs.Walks.{Walk, total, IsLeastCost};
 ghost use Rattle.pcl_coders.specs.Starts.{IsLatestStart, StartsAt};
-ghost use Rattle.pcl_coders.specs.RowWalks.{IsRowTable, IsLeastTable, Leads, Ends, cost};
+ghost use Rattle.pcl_coders.specs.RowWalks.{IsRowTable, IsLeastTable, StepsOver, NeedsNoMore, element_cost};
 ghost use Rattle.pcl_coders.specs.Coding.{IsCodable, IsLeastLength};
 
 /// No whole data for a row is shorter than the first number of a row table. The table may come from
@@ -28,12 +28,14 @@ pub fn first_number_is_least()
 /// the row have fewer bytes, and some have as many.
 pub fn numbers_are_least()
     ensures { (method : Method) (seed row table : List ℕ) (place : ℕ) → IsLeastTable method seed row table → place ≤ length row
-        → IsLeastCost (Leads method (base method seed) row) (Ends (base method seed) row) cost place (slice_index table place) }
+        → IsLeastCost (StepsOver method (base method seed) row) (NeedsNoMore (base method seed) row) element_cost place
+        (slice_index table place) }
 {}
 
 /// An earlier start of a replacement is never shorter. For elements of method 3 that give the rest of a row there
 /// are others of no more bytes whose first one starts at the first byte that differs from the row before.
 pub fn latest_start_is_as_good()
     ensures { (old row : List ℕ) (steps : List Element) (place start : ℕ) → length old ≡ length row → IsLatestStart old row place start
-        → Walk (Leads methods.Delta old row) (Ends old row) place steps → StartsAt old row place start (total cost steps) }
+        → Walk (StepsOver methods.Delta old row) (NeedsNoMore old row) place steps
+        → StartsAt old row place start (total element_cost steps) }
 {}

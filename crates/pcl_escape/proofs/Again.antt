@@ -1,6 +1,6 @@
 -- All steps: bytes that are whole pieces are read as these, and the first fault is found; so what is read says what the bytes are.
 use Rattle.std.proofs.Common.{◌≡◌, ℕ, zero, suc, ◌+◌, ◌-◌, ◌<◌, List, [], ◌∷◌, ◌++◌, length, Option, Some, None, Result, Ok, Err, refl, ap, ◌⊎◌, inl, inr, ◌∙◌, append_assoc, append-nil, length-append, add-zero, zero-add, ◌&&◌, ◌==◌, not, is_some, false, arith}
-use Rattle.pcl_escape.proofs.Names.{Profile, nat_tests, flat_map, AllByRecursion, JobFault, Refused, Memory, Refusal, Prefix, prefix_bytes, joined, Said, Reads, step_at, parameter_at, with_front, and_then, outcome_of, Yields, Parameter, Piece, combined, IsPrefix, IsPiece, ArePieces, IsMiddle, IsReading, parameter_bytes, spelling, command_of, parameter_commands, first_place, commands_from, commands_of, Fails, in_parameter, in_line, IsUngrouped, place_after, IsFault, IsFaultOf, unknown_control, lone_escape, no_sequence, unknown_two, no_group, bad_group}
+use Rattle.pcl_escape.proofs.Names.{Profile, nat_tests, flat_map, AllByRecursion, JobFault, Refused, Memory, Refusal, Prefix, prefix_bytes, joined, Said, Reads, step_at, parameter_at, with_front, and_then, scan_outcome, Yields, Parameter, Piece, combined, IsPrefix, IsPiece, ArePieces, IsMiddle, IsReading, parameter_bytes, spelling, command_of, parameter_commands, first_place, commands_from, commands_of, Fails, in_parameter, in_line, IsUngrouped, place_after, IsFault, IsFaultOf, unknown_control, lone_escape, no_sequence, unknown_two, no_group, bad_group}
 use Rattle.pcl_escape.specs.inner.Scan.{start_at, sequence_at, prefix_at, read_outcome, named_at}
 use Rattle.pcl_escape.proofs.Lines.{foreign}
 use Rattle.pcl_escape.proofs.Steps.{Inside, inside_shorter, is_middle, is_end, is_wrong, Stays, parameter_step, parameter_joined, inside_reads, grouped_stays, middle_grouped}
@@ -231,12 +231,12 @@ fault_found (bad_group p u g) = grind (arith, nat_tests)
 
 -- a reading of the job is what is read
 pub reading_again : {profile : Profile} {job : List ℕ} {commands : List Said} → IsReading profile job commands
-    → outcome_of profile job ≡ Ok commands
+    → scan_outcome profile job ≡ Ok commands
 unfolding read_outcome
 reading_again {profile} r = rw (r.spelled, r.said) (simp append-nil at (pieces_again profile r.pieces 0 [] r.each))
 
 -- a first fault of the job is what is found
-pub fault_found_of : {profile : Profile} {job : List ℕ} {fault : Refusal} → IsFault profile job fault → outcome_of profile job ≡ Err fault
+pub fault_found_of : {profile : Profile} {job : List ℕ} {fault : Refusal} → IsFault profile job fault → scan_outcome profile job ≡ Err fault
 fault_found_of {profile} f = rw (f.spelled, pieces_again profile f.front 0 f.after f.each, zero-add, fault_found f.fails) refl
 
 -- each job has the one or the other
@@ -252,14 +252,14 @@ pub job_known : (profile : Profile) (job : List ℕ)
 job_known profile job = known (is_read profile (suc (length job)) 0 job (omega arith))
 
 -- so what is read says what the job is
-pub reading_of : {profile : Profile} {job : List ℕ} {commands : List Said} → outcome_of profile job ≡ Ok commands
+pub reading_of : {profile : Profile} {job : List ℕ} {commands : List Said} → scan_outcome profile job ≡ Ok commands
     → IsReading profile job commands
 reading_of {profile} {job} {commands} e = elim (job_known profile job) [
   | inl r ↦ let same : r.0 ≡ commands = (let again = reading_again r.1 in cc) in rw same at r.1
   | inr f ↦ absurd (let found = fault_found_of f.1 in cc)
 ]
 
-pub fault_of : {profile : Profile} (job : List ℕ) (fault : Refusal) → outcome_of profile job ≡ Err fault → IsFault profile job fault
+pub fault_of : {profile : Profile} (job : List ℕ) (fault : Refusal) → scan_outcome profile job ≡ Err fault → IsFault profile job fault
 fault_of {profile} job fault e = elim (job_known profile job) [
   | inl r ↦ absurd (let again = reading_again r.1 in cc)
   | inr f ↦ let same : f.0 ≡ fault = (let found = fault_found_of f.1 in cc) in rw same at f.1
@@ -267,7 +267,7 @@ fault_of {profile} job fault e = elim (job_known profile job) [
 
 -- what yields a fault finds the first one
 pub fault_of_scan : (profile : Profile) (job : List ℕ) (fault : JobFault) (commands : List Said)
-    → Yields (Err fault) commands (outcome_of profile job)
+    → Yields (Err fault) commands (scan_outcome profile job)
     → IsFaultOf profile job fault
 fault_of_scan profile job (Refused fault) commands y = fault_of job fault y
 fault_of_scan profile job Memory commands y = tt

@@ -1,6 +1,6 @@
 -- The value of a field of the code, whose digits before the point are read up to a limit.
 use Rattle.std.proofs.Common.{◌≡◌, ℕ, ◌+◌, ◌*◌, ◌≤◌, min, nat_le, if◌then◌else◌, List, [], Option, Some, None, arith}
-use Rattle.pcl_escape.proofs.Names.{nat_tests, then_some, Bor, unwrap_or, Sign, Value, contents, fraction_parts, greatest_parts, in_range, ten_thousandths}
+use Rattle.pcl_escape.proofs.Names.{nat_tests, then_some, Bor, unwrap_or, Sign, Value, digits_of, fraction_parts, greatest_parts, in_range, ten_thousandths}
 
 -- the value of a number and its decimals
 abbrev pub value_with : Sign → ℕ → ℕ → Value
@@ -18,5 +18,5 @@ value_read sign n t v e d g = let limit = reach sign in rw (v, e, d, g) (grind (
 
 -- the digits after the point, none where there is no point
 pub fraction_read : (fraction : Option (Bor (List ℕ))) (none : Bor (List ℕ)) → none.now ≡ []
-    → ten_thousandths (unwrap_or fraction none).now ≡ fraction_parts (contents fraction)
+    → ten_thousandths (unwrap_or fraction none).now ≡ fraction_parts (digits_of fraction)
 fraction_read fraction none e = grind arith

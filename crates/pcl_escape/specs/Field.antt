@@ -62,10 +62,10 @@ in_range value = nat_le value.parts (greatest_parts value.sign)
 -- ---- a field of the code
 
 -- the digits of a slice
-abbrev pub contents : Option (Bor (List ℕ)) → Option (List ℕ)
-contents None = None
-contents (Some digits) = Some digits.now
+abbrev pub digits_of : Option (Bor (List ℕ)) → Option (List ℕ)
+digits_of None = None
+digits_of (Some digits) = Some digits.now
 
 -- the field as it is spelled
 abbrev pub spelled : Field → Spelled
-spelled field = record { sign = field.sign; whole = field.whole.now; fraction = contents field.fraction }
+spelled field = record { sign = field.sign; whole = field.whole.now; fraction = digits_of field.fraction }

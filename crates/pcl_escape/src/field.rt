@@ -2,7 +2,7 @@
 
 ghost use Rattle.std.specs.Prelude.{◌≡◌, ◌≤◌, if◌then◌else◌, Some, None, min, length};
 ghost use Rattle.std.specs.List.{prefix_len};
-ghost use Rattle.pcl_escape.specs.Field.{spelled, contents, digit_at, ten_thousandths, field_value, in_range};
+ghost use Rattle.pcl_escape.specs.Field.{spelled, digits_of, digit_at, ten_thousandths, field_value, in_range};
 ghost use Rattle.pcl_base.specs.Digits.{is_digit, number_of};
 ghost use Rattle.pcl_escape.specs.inner.Fields.{digits_at, sign_at, fraction_at, field_at};
 
@@ -57,7 +57,7 @@ fn read_sign(bytes: &[u8]) -> (Sign, &[u8])
 
 /// The point and the digits at the front of the bytes, if a point is there, and the bytes after them.
 fn read_fraction(bytes: &[u8]) -> (Option<&[u8]>, &[u8])
-    ensures { (contents result.0, result.1.now) ≡ fraction_at bytes.now }
+    ensures { (digits_of result.0, result.1.now) ≡ fraction_at bytes.now }
 {
     match bytes {
         [b'.', after @ ..] => {

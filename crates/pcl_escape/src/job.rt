@@ -7,7 +7,7 @@ ghost use Rattle.pcl_base.specs.declared.refusal.Refusal.{Refusal};
 ghost use Rattle.pcl_escape.specs.Said.{Said, views};
 ghost use Rattle.pcl_escape.specs.Pieces.{IsReading};
 ghost use Rattle.pcl_escape.specs.Faults.{IsFault, IsFaultOf};
-ghost use Rattle.pcl_escape.specs.inner.Scan.{IsPlaced, Yields, outcome_of, commands_said, said_of};
+ghost use Rattle.pcl_escape.specs.inner.Scan.{IsPlaced, Yields, scan_outcome, commands_said, said_of};
 
 use crate::item::Item;
 use crate::step::read_step;
@@ -81,7 +81,7 @@ fn scan<'a, S: CommandStore<'a>>(
     store: &mut S,
 ) -> Result<(), JobFault>
     requires { S.kept job.now store.old ≡ [] }
-    ensures { Yields result (S.kept job.now store.new) (outcome_of profile job.now) }
+    ensures { Yields result (S.kept job.now store.new) (scan_outcome profile job.now) }
 {
     let mut rest = job;
     let mut inside = None;

@@ -4,7 +4,6 @@ ghost use Rattle.std.specs.Prelude.{◌≡◌};
 
 use pcl_base::{Kind, Refusal, Value};
 use std::alloc::{AllocError, Global};
-use std::iter::once;
 
 /// Something in a job that the rules refuse.
 #[derive(Clone, Copy, Debug)]
@@ -37,6 +36,13 @@ impl Finding {
         }
     }
 
+    /// Counts the commands of a finding of the same thing too.
+    fn count(&mut self, other: Finding)
+        ensures { self.new.refusal ≡ self.old.refusal }
+    {
+        self.times = self.times.saturating_add(other.times);
+    }
+
     /// Whether another finding is one line with it: of the same kind and name, and of the same value where that is refused.
     pub(crate) fn is_same_thing(self, other: Finding) -> bool {
         self.refusal.kind == other.refusal.kind
@@ -56,7 +62,9 @@ pub struct Findings {
 
 impl Findings {
     /// A first finding, and nothing after it.
-    pub(crate) fn of(alloc: Global, first: Finding) -> Findings {
+    pub(crate) fn of(alloc: Global, first: Finding) -> Findings
+        ensures { result.first ≡ first }
+    {
         Findings {
             first,
             later: Vec::new(alloc),
@@ -64,17 +72,28 @@ impl Findings {
     }
 
     /// Adds a finding, or counts its commands with those of the same thing.
-    pub(crate) fn add(&mut self, finding: Finding) -> Result<(), AllocError> {
-        let mut all = once(&mut self.first).chain(self.later.iter_mut());
-        match all.find(|other| finding.is_same_thing(**other)) {
-            Some(other) => other.times = other.times.saturating_add(finding.times),
+    pub(crate) fn add(&mut self, finding: Finding) -> Result<(), AllocError>
+        ensures { self.new.first.refusal ≡ self.old.first.refusal }
+    {
+        if finding.is_same_thing(self.first) {
+            self.first.count(finding);
+            return Ok(());
+        }
+        match self
+            .later
+            .iter_mut()
+            .find(|other| finding.is_same_thing(**other))
+        {
+            Some(other) => other.count(finding),
             None => self.later.push(finding)?,
         }
         Ok(())
     }
 
     /// Adds findings.
-    pub(crate) fn add_all(&mut self, findings: &[Finding]) -> Result<(), AllocError> {
+    pub(crate) fn add_all(&mut self, findings: &[Finding]) -> Result<(), AllocError>
+        ensures { self.new.first.refusal ≡ self.old.first.refusal }
+    {
         for finding in findings {
             self.add(*finding)?;
         }

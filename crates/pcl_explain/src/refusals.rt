@@ -65,14 +65,11 @@ fn findings_from(
 ) -> Result<Findings, AllocError>
     ensures { IfOk result (λ findings. findings.first.refusal ≡ refusal) }
 {
-    let mut found = match read_job(alloc, read_as.profile, job) {
-        Ok(commands) => found_in(alloc, commands, job.len(), read_as, refusal)?,
-        Err(JobFault::Refused(_)) => read_on(alloc, job, refusal, read_as)?,
-        Err(JobFault::Memory) => return Err(AllocError),
-    };
-    // The first finding has that refusal already. Here the proof sees it.
-    found.first.refusal = refusal;
-    Ok(found)
+    match read_job(alloc, read_as.profile, job) {
+        Ok(commands) => found_in(alloc, commands, job.len(), read_as, refusal),
+        Err(JobFault::Refused(_)) => read_on(alloc, job, refusal, read_as),
+        Err(JobFault::Memory) => Err(AllocError),
+    }
 }
 
 /// What is found in commands whose first refusal is known. At the job's end no command is refused, and nothing more is found.
@@ -82,7 +79,9 @@ fn found_in(
     end: usize,
     read_as: ReadAs,
     refusal: Refusal,
-) -> Result<Findings, AllocError> {
+) -> Result<Findings, AllocError>
+    ensures { IfOk result (λ findings. findings.first.refusal ≡ refusal) }
+{
     let first = leave_out(&mut commands, refusal);
     let mut found = Findings::of(alloc, first);
     if first.value.is_none() {
@@ -99,7 +98,9 @@ fn read_on(
     job: &[u8],
     first: Refusal,
     read_as: ReadAs,
-) -> Result<Findings, AllocError> {
+) -> Result<Findings, AllocError>
+    ensures { IfOk result (λ findings. findings.first.refusal ≡ first) }
+{
     let mut bytes = Vec::from_slice(alloc, job)?;
     let mut found = Findings::of(alloc, Finding::without_command(first));
     let mut refused = first;
@@ -140,7 +141,9 @@ fn findings_of(
     job: &[u8],
     read_as: ReadAs,
     before: Findings,
-) -> Result<Findings, AllocError> {
+) -> Result<Findings, AllocError>
+    ensures { IfOk result (λ findings. findings.first.refusal ≡ before.first.refusal) }
+{
     match read_job(alloc, read_as.profile, job) {
         Ok(commands) => later_findings(alloc, commands, job.len(), read_as, before),
         Err(JobFault::Refused(_)) => Ok(before),
@@ -160,7 +163,9 @@ fn later_findings(
     end: usize,
     read_as: ReadAs,
     mut found: Findings,
-) -> Result<Findings, AllocError> {
+) -> Result<Findings, AllocError>
+    ensures { IfOk result (λ findings. findings.first.refusal ≡ found.first.refusal) }
+{
     for _ in 0..PERFORMING_LIMIT {
         if found.later.len() >= FINDING_LIMIT {
             break;

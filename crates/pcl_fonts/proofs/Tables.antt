@@ -1,6 +1,6 @@
 -- Tables of fonts as the entries of a map, and what each event does to them.
 use Rattle.std.proofs.Common.{◌≡◌, ℕ, ◌≤◌, ◌+◌, Bool, true, false, ◌&&◌, cond, nat_eq, if◌then◌else◌, List, [], map, filter, Option, None, Some, is_some, IfSome, refl, sym, ap, ◌∙◌, arith}
-use Rattle.pcl_fonts.proofs.Names.{eqb-true, eq-eqb, nat_tests, lookup-map_values, lookup-filter-values, option_filter, nat_eq_equiv, IsDistinct, keys_of, lookup, option_map, IndexMap, get, WritesThrough, Character, font_of, has_code, FontEvent, header, character, control, with_permanent, font_step, character_step, FontTable, Follows, IsSame, printed, font_at, character_at, stored_character, font_in, character_in, stored_in, is_there, Entry, FontControl, Temporary, One, MakeTemporary, MakePermanent}
+use Rattle.pcl_fonts.proofs.Names.{eqb-true, eq-eqb, nat_tests, lookup-map_values, lookup-filter-values, option_filter, nat_eq_equiv, IsDistinct, keys_of, lookup, option_map, IndexMap, get, WritesThrough, Character, defined_font, has_code, FontEvent, header, character, control, with_permanent, font_step, character_step, FontTable, Follows, IsSame, printed, font_at, character_at, stored_character, font_in, character_in, stored_in, is_there, Entry, FontControl, Temporary, One, MakeTemporary, MakePermanent}
 use Rattle.pcl_fonts.specs.Fields.{character_of as character_with}
 use Rattle.pcl_fonts.specs.declared.fonts.FontControl.TheVariants as controls
 
@@ -76,7 +76,8 @@ StepsAt event id before after = (q : ℕ) (x : Option Entry) → (nat_eq id q �
     → Steps event q x (cond (nat_eq id q) after x)
 
 -- a new font
-pub header_steps : (id : ℕ) {bytes : List ℕ} {before : Option Entry} (e : Entry) → font_in e ≡ font_of bytes → e.characters.entries ≡ []
+pub header_steps : (id : ℕ) {bytes : List ℕ} {before : Option Entry} (e : Entry) → font_in e ≡ defined_font bytes
+    → e.characters.entries ≡ []
     → StepsAt (header id bytes) id before (Some e)
 header_steps id e is none q x at = record { font = grind (arith, is); character = λ its. grind (arith, none) }
 

@@ -71,8 +71,8 @@ abbrev pub resolution_of : List ℕ → Dpi
 resolution_of bytes = if has_byte bytes 2 20 && nat_eq (word bytes 64) 600 then Dpi600 else Dpi300
 
 -- the font that a header defines, of types 0 to 2; a new font is temporary
-abbrev pub font_of : List ℕ → Font
-font_of bytes = record {
+abbrev pub defined_font : List ℕ → Font
+defined_font bytes = record {
   proportional = has_byte bytes 13 1;
   pitch = word bytes 16;
   resolution = resolution_of bytes;

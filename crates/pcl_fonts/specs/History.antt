@@ -2,7 +2,7 @@
 use Rattle.std.specs.Prelude.{ℕ, Bool, true, false, ◌&&◌, nat_eq, if◌then◌else◌, List, [], ◌∷◌, Option, None, Some, is_some}
 use Rattle.std.specs.List.{list_any}
 use Rattle.std.specs.Option.{option_map}
-use Rattle.pcl_fonts.specs.Fields.{Font, Character, font_of, character_of}
+use Rattle.pcl_fonts.specs.Fields.{Font, Character, defined_font, character_of}
 use Rattle.pcl_fonts.specs.declared.fonts.FontControl.{FontControl}
 use Rattle.pcl_fonts.specs.declared.fonts.FontControl.TheVariants.{All, Temporary, One, MakeTemporary, MakePermanent}
 use Rattle.pcl_fonts.specs.declared.fonts.FontControl.TheVariants as controls
@@ -24,7 +24,7 @@ if_permanent (Some font) = if font.permanent then Some font else None
 
 -- what an event makes of the font of an ID
 abbrev pub font_step : FontEvent → ℕ → Option Font → Option Font
-font_step (header of bytes) id font = if nat_eq of id then Some (font_of bytes) else font
+font_step (header of bytes) id font = if nat_eq of id then Some (defined_font bytes) else font
 font_step (control All of code) id font = None
 font_step (control Temporary of code) id font = if_permanent font
 font_step (control One of code) id font = if nat_eq of id then None else font

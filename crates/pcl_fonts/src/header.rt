@@ -1,7 +1,7 @@
 //! The header of a font.
 
 ghost use Rattle.std.specs.Prelude.{◌≡◌, ◌≤◌, ◌*◌, ◌*ℤ◌, pos, length, true, false, IsTrue, MatchOption};
-ghost use Rattle.pcl_fonts.specs.Fields.{has_byte, has_format, states_resolution, is_header, resolution_of, font_of, quarter_dot};
+ghost use Rattle.pcl_fonts.specs.Fields.{has_byte, has_format, states_resolution, is_header, resolution_of, defined_font, quarter_dot};
 
 use crate::fields::word;
 use pcl_base::{Dpi, Profile};
@@ -93,7 +93,7 @@ impl Header {
     /// Reads a header, none where it isn't one that the profile takes, on pages of this resolution.
     pub fn read(bytes: &[u8], profile: Profile, dpi: Dpi) -> Option<Header>
         ensures { MatchOption result (is_header profile dpi bytes.now ≡ false)
-            (λ header. (is_header profile dpi bytes.now ≡ true) × (font_in_header header ≡ font_of bytes.now)) }
+            (λ header. (is_header profile dpi bytes.now ≡ true) × (font_in_header header ≡ defined_font bytes.now)) }
     {
         if !is_header(bytes, profile, dpi) {
             return None;

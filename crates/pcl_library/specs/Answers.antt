@@ -37,7 +37,7 @@ use Rattle.pcl_messages.specs.declared.compare_fault.CompareFault.TheVariants as
 use Rattle.pcl_messages.specs.Faults.{line_of}
 use Rattle.pcl_messages.specs.Verdicts.{answer_line_of}
 use Rattle.pcl_messages.specs.ComparisonLines.{comparison_line_of, compare_line_of}
-use Rattle.pcl_library.specs.Arguments.{IsSeen, AreSeen, IsChoiceFor, IsScaleFor, IsFormatFor, IsPerformed}
+use Rattle.pcl_library.specs.Arguments.{IsSeen, AreSeen, IsChoiceFor, IsScaleFor, IsFormatFor, AreArgumentsTaken}
 use Rattle.pcl_library.specs.Failures.{argument_line, failure_line, outcome_of, job_number}
 use Rattle.pcl_library.specs.Lines.{c_string}
 use Rattle.pcl_library.specs.declared.answer.Answer.{Answer}
@@ -103,7 +103,7 @@ pub record TellsArguments (answer : Answer) : Type 0 where
 -- what an answer tells at a resolution of a job that is read by a profile: of a call that is done this holds, a refusal is the job's, and
 -- no argument is wrong; no page is missing, since none is asked for
 pub record AnswersAt (profile : Profile) (dpi : Dpi) (job : List ℕ) (Done : Answer → Type 0) (answer : Answer) : Type 0 where
-  pub performed : IsPerformed answer.outcome
+  pub performed : AreArgumentsTaken answer.outcome
   pub no_page : answer.outcome ≢ 2
   pub done : answer.outcome ≡ 0 → (answer.resolution ≡ dots_per_inch dpi) × Done answer
   pub refused : answer.outcome ≡ 1 → (refusal : Refusal) × IsRefusalBy profile dpi job refusal × TellsRefusal refusal answer
@@ -146,7 +146,7 @@ LacksPages number job first last answer =
 
 -- what an answer tells of pages that are asked for, at a resolution: their images in a form, a refusal of the job, or that one is missing
 pub record ShowsAt (form : ImageForm) (dpi : Dpi) (job : List ℕ) (choice : PageChoice) (last : ℕ) (answer : Answer) : Type 0 where
-  pub performed : IsPerformed answer.outcome
+  pub performed : AreArgumentsTaken answer.outcome
   pub done : answer.outcome ≡ 0 → (answer.resolution ≡ dots_per_inch dpi) × HasChosenImages form job choice dpi answer
   pub refused : answer.outcome ≡ 1 → (refusal : Refusal) × IsRefusalBy Drivers dpi job refusal × TellsRefusal refusal answer
   pub missing : answer.outcome ≡ 2 → LacksChosenAt dpi job choice last answer
@@ -197,7 +197,7 @@ pub record HasVerdict (beside : Beside) (input output certificate : List ℕ) (d
 
 -- what an answer tells of this, where the resolution is the first of these
 pub record ShrinksAt (dpi : Dpi) (job : List ℕ) (answer : Answer) : Type 0 where
-  pub performed : IsPerformed answer.outcome
+  pub performed : AreArgumentsTaken answer.outcome
   pub no_page : answer.outcome ≢ 2
   pub done : answer.outcome ≡ 0 → (answer.resolution ≡ dots_per_inch dpi) × IsWrittenEverywhere Printers Drivers job answer.made.now
   pub refused : answer.outcome ≡ 1 → (refusal : Refusal) × IsRefusedEverywhere Drivers job refusal × TellsRefusal refusal answer
@@ -228,7 +228,7 @@ TellsOneRefused dpi first second answer =
 
 -- what an answer tells at a resolution
 pub record ComparesAt (asks : Bool) (dpi : Dpi) (first second : List ℕ) (answer : Answer) : Type 0 where
-  pub performed : IsPerformed answer.outcome
+  pub performed : AreArgumentsTaken answer.outcome
   pub no_page : answer.outcome ≢ 2
   pub done : answer.outcome ≡ 0 → (answer.resolution ≡ dots_per_inch dpi) × HasComparison asks first second dpi answer
   pub refused : answer.outcome ≡ 1 → TellsOneRefused dpi first second answer

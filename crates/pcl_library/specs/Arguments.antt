@@ -120,5 +120,5 @@ pub record FailsBy (IsWrong TooLong : Type 0) (outcome : ℕ) : Type 0 where
   pub too_long : (outcome ≡ 4) ↔ ((IsWrong → ⊥) × TooLong)
 
 -- a call doesn't end by its arguments
-abbrev pub IsPerformed : ℕ → Type 0
-IsPerformed outcome = (outcome ≢ 3) × (outcome ≢ 4)
+abbrev pub AreArgumentsTaken : ℕ → Type 0
+AreArgumentsTaken outcome = (outcome ≢ 3) × (outcome ≢ 4)

@@ -1,9 +1,9 @@
 -- How far deeds bring a situation.
 use Rattle.std.proofs.Common.{◌≡◌, ℕ, ◌+◌, ◌≤◌, ◌<◌, false, cond, List, [], ◌∷◌, ◌++◌, length, Some, None, Result, Ok, Err, refl, ap, ◌∙◌, arith}
-use Rattle.pcl_meaning.proofs.Names.{is_some, Dpi, Kind, UnsupportedCommand, Empty, Operation, Reset, ControlMacros, ControlFonts, Value, command_limit, Said, outcome, Run, after_macros, after_command, run_from, run_of, Performance, done, in_order, step, then_from, after_adds, checked_as}
+use Rattle.pcl_meaning.proofs.Names.{is_some, Dpi, Kind, UnsupportedCommand, Empty, Operation, Reset, ControlMacros, ControlFonts, Value, command_limit, Said, outcome, Run, after_macros, after_command, run_from, run_of, Performance, done, in_order, step, then_from, after_adds, after_checked, checked_as, drawn_on}
 use Rattle.pcl_base.specs.declared.operation.Asking.TheVariants.{SheetSide}
 use Rattle.pcl_base.specs.declared.operation.Operation.TheVariants.{Ask}
-use Rattle.pcl_page.specs.Situation.{Situation, is_marked, drawn, draw_refusal, ◌|>◌, turned_by, drawn_on, counted, prepared, is_ignored, after, page_refusal, within_page_limit, after_checked}
+use Rattle.pcl_page.specs.Situation.{Situation, is_marked, drawn, draw_refusal, ◌|>◌, turned_by, counted, prepared, is_ignored, after, page_refusal, within_page_limit}
 use Rattle.pcl_meaning.proofs.Deeds.{Deed}
 use Rattle.pcl_meaning.proofs.Readings.{IsSaid, AreSaid}
 
@@ -31,7 +31,7 @@ module _ (command : Said) (s : Situation) where
   refusal_same dpi other = refl
 
 after_same : (dpi : Dpi) (operation : Operation) (command : Said) (s : Situation)
-    → after dpi operation command s ≡ after dpi operation (nameless command) s
+    → after dpi (Some operation) command s ≡ after dpi (Some operation) (nameless command) s
 unfolding after
 after_same dpi operation command s =
     let before = prepared dpi operation s in
@@ -50,7 +50,7 @@ quietly ControlMacros value s = Err UnsupportedCommand
 quietly operation value s = after_macros 0 (Some operation) value s
 
 abbrev pub does : Dpi → Deed → Situation → Result Situation Kind
-does dpi d s = after dpi d.operation (said_of d) (counted s) |> quietly d.operation d.value
+does dpi d s = after dpi (Some d.operation) (said_of d) (counted s) |> quietly d.operation d.value
 
 -- the deeds lead from a situation to another, and none of them is refused
 pub data AreLeading (dpi : Dpi) : List Deed → Situation → Situation → Type 0 where
@@ -78,14 +78,14 @@ quiet other e = record { anywhere = λ place. e; runs = refl; begun = cc; perfor
 -- each deed counts one, and leaves a definition that is open
 record IsDone (dpi : Dpi) (d : Deed) (s next : Situation) : Type 0 where
   now : Situation
-  drawn_as : after dpi d.operation (said_of d) (counted s) ≡ Ok now
+  drawn_as : after dpi (Some d.operation) (said_of d) (counted s) ≡ Ok now
   is_quiet : IsQuiet d.operation d.value now next
   performed : next.performed ≡ s.performed + 1
   begun : next.begun ≡ s.begun
 
 is_done : {dpi : Dpi} {d : Deed} {s next : Situation} → does dpi d s ≡ Ok next → IsDone dpi d s next
 is_done {dpi} {d} {s} e =
-    let t = then_from (after dpi d.operation (said_of d) (counted s)) (quietly d.operation d.value) e in
+    let t = then_from (after dpi (Some d.operation) (said_of d) (counted s)) (quietly d.operation d.value) e in
     let is = quiet d.operation t.2 in
     let a = after_adds dpi d.operation (said_of d) (counted s) t.1 in
     record { now = t.0; drawn_as = t.1; is_quiet = is; performed = is.performed ∙ a.performed; begun = is.begun ∙ a.begun }
@@ -94,7 +94,7 @@ is_done {dpi} {d} {s} e =
 
 -- performing a command is its deed
 deed_done : (dpi : Dpi) (command : Said) {d : Deed} (s : Situation) {next : Situation} → IsSaid command d
-    → after dpi d.operation (said_of d) s ≡ Ok next → after dpi d.operation command s ≡ Ok next
+    → after dpi (Some d.operation) (said_of d) s ≡ Ok next → after dpi (Some d.operation) command s ≡ Ok next
 deed_done dpi command {d} s is e = after_same dpi d.operation command s ∙ rw (is.1, is.2) e
 
 -- pages that fit, and are the same, fit too

@@ -1,6 +1,6 @@
 -- Whole jobs of page texts are accepted, and mean the pages of the texts.
 use Rattle.std.proofs.Common.{◌≡◌, ℕ, ◌+◌, ◌*◌, ◌<◌, ◌≤◌, List, [], ◌∷◌, ◌++◌, length, map, Option, None, refl, sym, ap, subst, ◌∙◌, append_assoc, append-nil, length-append, arith, lit≤, false}
-use Rattle.pcl_meaning.proofs.Names.{flat_map, nat_tests, Dpi, Profile, Stated, Size, Refusal, macro_limit, command_limit, page_limit, page_width, page_height, page_row_bytes, height_small, commands_of, IsReading, Settings, defaults, Page, Temporary, control, pages_fit, Mark, is_black, Sheet, Situation, at_start, at_end, Shows, Performance, done, unless, then_on, runs, after_all, end_refusal, after_end, pages_of, asks_among, HasPagesBy, HasAsksBy, performance_of, Token, command_count, token_bytes, start_bytes, end_bytes, frame_bytes, IsPageText, bitmap_rows, IsWrittenPage, AreAlike, AllAlike, PrintEach, most_commands, of_job, said_for, page_said, first_page, next_page, PageStart, dot_of_rows, job_of, MeansRows}
+use Rattle.pcl_meaning.proofs.Names.{flat_map, nat_tests, Dpi, Profile, Stated, Size, Refusal, macro_limit, command_limit, page_limit, page_width, page_height, page_row_bytes, height_small, commands_of, IsReading, Settings, defaults, Page, Temporary, control, pages_fit, Mark, is_black, Sheet, Situation, at_start, at_end, Shows, Performance, done, unless, then_on, runs, after_all, end_refusal, after_end, pages_of, asks_among, HasPagesBy, HasAsksBy, performance, Token, command_count, token_bytes, start_bytes, end_bytes, frame_bytes, IsPageText, bitmap_rows, IsWrittenPage, AreAlike, AllAlike, PrintEach, most_commands, of_job, said_for, page_said, first_page, next_page, PageStart, dot_of_rows, job_of, MeansRows}
 use Rattle.pcl_env.specs.Outcome.{outcome}
 use Rattle.pcl_macros.specs.declared.table.MacroControl.TheVariants as macros
 use Rattle.pcl_macros.specs.History.{control as macro_control}
@@ -70,7 +70,7 @@ job_accepted {profile} {dpi} {text} {deeds} t {pages} n read leads fits few =
     let whole : AreLeading dpi all (at_start profile) last = lead refl (pages_fit first (lit≤ tt)) (leading_append leads closes) in
     let count : (at_start profile).performed + length all ≤ command_limit = omega (arith, length-append deeds (reset ∷ [])) in
     let c = commands_done dpi (runs macro_limit dpi commands) 0 commands all (at_start profile) (r.said 0) whole count refl in
-    let performed : performance_of profile dpi job commands ≡ done (at_end dpi last) =
+    let performed : performance profile dpi (length job) commands ≡ done (at_end dpi last) =
     ap (λ (p : Performance). then_on p (after_end dpi (length job))) c.0 ∙ ended_there t.profile dpi (length job) fits in
     let accepted = ap (λ (p : Performance). p.refusal) performed in
     let reading : IsReading profile job commands =

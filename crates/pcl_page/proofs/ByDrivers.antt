@@ -8,7 +8,7 @@ use Rattle.pcl_fonts.specs.History.{has_permanent as is_font_permanent}
 use Rattle.pcl_macros.specs.History.{has_permanent as is_macro_permanent}
 use Rattle.pcl_page.specs.Text.{header_refusal, character_refusal}
 use Rattle.pcl_page.specs.Situation.{after, blank_passed, blanks_passed, text_in}
-use Rattle.pcl_page.proofs.Names.{Dpi, Kind, MacroOpen, Asking, SheetSide, Operation, ControlMacros, DownloadCharacter, DownloadFont, PrintText, Stated, Drivers, Refusal, Value, macro_limit, operation_of, option_map, Effect, EjectMarked, Settings, defaults, font_in_use, Outcome, Said, Character, Font, font_after, Action, Keeping, Raster, ends_raster, prints, Situation, at_start, settings_below, end_raster, turned, turned_by, taken, code_printed, codes_printed, font_now, put_back, asked_for, drawn, drawn_on, draw_refusal, unless_refused, ◌|>◌, is_ignored, prepared, after_named, counted_in_limit, page_refusal, within_page_limit, after_checked, with_lasting, at_end, Run, action_of, acted, lasting_by, after_macros, after_counted, defining, keeping_of, after_command, run_by, run_from, run_of, macro_ended, Performance, done, unless, then_on, in_order, led_to, and_run, step, commands_left, runs, end_refusal, ended, after_end, performance, performance_of}
+use Rattle.pcl_page.proofs.Names.{Dpi, Kind, MacroOpen, Asking, SheetSide, Operation, ControlMacros, DownloadCharacter, DownloadFont, PrintText, Stated, Drivers, Refusal, Value, macro_limit, operation_of, option_map, Effect, EjectMarked, Settings, defaults, font_in_use, Outcome, Said, Character, Font, font_after, Action, Keeping, Raster, ends_raster, prints, Situation, at_start, settings_below, end_raster, turned, turned_by, taken, code_printed, codes_printed, font_now, put_back, asked_for, drawn, drawn_on, draw_refusal, unless_refused, ◌|>◌, is_ignored, prepared, counted_in_limit, page_refusal, within_page_limit, after_checked, with_lasting, at_end, Run, action_of, acted, lasting_by, after_macros, after_counted, defining, keeping_of, after_command, run_by, run_from, run_of, macro_ended, Performance, done, unless, then_on, in_order, led_to, and_run, step, commands_left, runs, end_refusal, ended, after_end, performance}
 use Rattle.pcl_page.proofs.Profiles.{IsStated, set_by_drivers, AreSetAlike, AreTakenAlike, outcome_alike}
 
 -- ---- situations by both profiles
@@ -147,7 +147,7 @@ drawn_on_alike dpi operation command s stated = by_refusal (draw_refusal dpi ope
 
 -- ---- one command
 
-after_alike : (dpi : Dpi) (operation : Operation) (command : Said) → LeadsAlike (after dpi operation command)
+after_alike : (dpi : Dpi) (operation : Operation) (command : Said) → LeadsAlike (after dpi (Some operation) command)
 unfolding after
 after_alike dpi operation command s stated = by_test (is_ignored operation s)
   where
@@ -161,7 +161,8 @@ after_alike dpi operation command s stated = by_test (is_ignored operation s)
         rw prepares.0 (led_on _ _ (drawn_on dpi operation command)
         (taken_alike dpi operation command.value (prepared dpi operation s) prepares.1) (drawn_on_alike dpi operation command))
 
-named_alike : (dpi : Dpi) (operation : Option Operation) (command : Said) → LeadsAlike (after_named dpi operation command)
+named_alike : (dpi : Dpi) (operation : Option Operation) (command : Said) → LeadsAlike (after dpi operation command)
+unfolding after
 named_alike dpi None command s stated = tt
 named_alike dpi (Some operation) command s stated = after_alike dpi operation command s stated
 
@@ -173,7 +174,7 @@ page_limit_alike s stated = grind (arith, stated)
 
 checked_alike : (dpi : Dpi) (command : Said) → LeadsAlike (after_checked dpi command)
 checked_alike dpi command s stated =
-    led_on _ _ within_page_limit (led_on _ _ (after_named dpi (operation_of command.name) command) (counted_alike s stated)
+    led_on _ _ within_page_limit (led_on _ _ (after dpi (operation_of command.name) command) (counted_alike s stated)
     (named_alike dpi (operation_of command.name) command)) page_limit_alike
 
 -- ---- macros
@@ -340,12 +341,12 @@ commands_alike dpi end commands =
     (after_end_alike dpi end)
 
 -- commands of a job that the stated profile accepts, by the drivers' profile
-pub performance_alike : (dpi : Dpi) (job : List ℕ) (commands : List Said) → (performance_of Stated dpi job commands).refusal ≡ None
-    → performance_of Drivers dpi job commands ≡ done (by_drivers (performance_of Stated dpi job commands).situation)
+pub performance_alike : (dpi : Dpi) (job : List ℕ) (commands : List Said) → (performance Stated dpi (length job) commands).refusal ≡ None
+    → performance Drivers dpi (length job) commands ≡ done (by_drivers (performance Stated dpi (length job) commands).situation)
 performance_alike dpi job commands accepted = by_refusal _ accepted (commands_alike dpi (length job) commands)
   where
     by_refusal : (why : Option Refusal) → why ≡ None
-        → EndsAlike why (performance_of Stated dpi job commands).situation (performance_of Drivers dpi job commands)
-        → performance_of Drivers dpi job commands ≡ done (by_drivers (performance_of Stated dpi job commands).situation)
+        → EndsAlike why (performance Stated dpi (length job) commands).situation (performance Drivers dpi (length job) commands)
+        → performance Drivers dpi (length job) commands ≡ done (by_drivers (performance Stated dpi (length job) commands).situation)
     by_refusal None e alike = alike.0
     by_refusal (Some why) e alike = absurd (cc e)

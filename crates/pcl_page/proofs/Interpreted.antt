@@ -2,11 +2,11 @@
 use Rattle.std.proofs.Common.{◌≡◌, ℕ, ◌+◌, Bool, true, false, cond, List, ◌∷◌, Option, Some, None, Result, Ok, Err, refl, sym, ap, ◌∙◌, append-nil, inl, inr, rules}
 use Rattle.pcl_macros.specs.History.{MacroBody}
 use Rattle.pcl_macros.specs.Table.{places_of}
-use Rattle.pcl_page.proofs.Names.{is_some, option_map, Dpi, CallFault, Refused, Memory, JobFault, Kind, Operation, ControlMacros, Value, operation_of, Effect, Stay, Settings, kept, Outcome, Said, MacroControl, MacroEvent, control, Begun, Controls, macro_at, is_begun, Page, Performer, Interpreter, Begin, Execute, Call, Control, Run, acted, after_macros, after_counted, run_by, run_from, run_with, macro_now, IsIn, HandsMore, IsHandled, EndDone, IsAt, Enters, IsStepped, IsActed, IsEntered, InterpreterEnds}
+use Rattle.pcl_page.proofs.Names.{is_some, option_map, Dpi, CallFault, Refused, Memory, JobFault, Kind, Operation, ControlMacros, Value, operation_of, Effect, Stay, Settings, kept, Outcome, Said, MacroControl, MacroEvent, control, Begun, Controls, macro_at, is_begun, Page, Performer, Interpreter, Begin, Execute, Call, Control, Run, acted, after_macros, after_counted, run_by, run_from, run_with, macro_now, IsIn, HandsMore, IsHandled, EndDone, IsAt, Enters, IsStepped, IsActed, IsEntered, InterpreterEnds, after_checked, drawn_on}
 use Rattle.pcl_base.specs.declared.fault.JobFault.TheVariants as job
 use Rattle.pcl_env.specs.Outcome.{outcome}
 use Rattle.pcl_macros.proofs.Histories.{holds_after}
-use Rattle.pcl_page.specs.Situation.{Situation, ◌|>◌, is_marked, turned, turned_by, drawn_on, taken, counted, prepared, is_ignored, after, after_named, after_checked}
+use Rattle.pcl_page.specs.Situation.{Situation, ◌|>◌, is_marked, turned, turned_by, taken, counted, prepared, is_ignored, after}
 use Rattle.pcl_page.proofs.Keeping.{then_from, is_counted}
 use Rattle.pcl_page.proofs.Steps.{only_stays, stays_pages, no_more}
 use Rattle.pcl_page.proofs.Unfolded.{macros_act}
@@ -32,7 +32,7 @@ control_turned dpi value (Some done) s {later} is e =
 
 -- what is refused for macros ejects nothing
 unchanged_pages : (dpi : Dpi) (place : ℕ) (operation : Option Operation) (command : Said) (s : Situation) {now : Situation} {kind : Kind}
-    → after_named dpi operation command s ≡ Ok now → after_macros place operation command.value now ≡ Err kind → now.pages ≡ s.pages
+    → after dpi operation command s ≡ Ok now → after_macros place operation command.value now ≡ Err kind → now.pages ≡ s.pages
 unfolding after
 unchanged_pages dpi place (Some ControlMacros) command s {now} e m =
     let before = prepared dpi ControlMacros s in

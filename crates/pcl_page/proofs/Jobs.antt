@@ -1,6 +1,6 @@
 -- Performing a job, place by place, up to the whole.
-use Rattle.std.proofs.Common.{◌≡◌, ℕ, ◌+◌, List, [], ◌∷◌, ◌++◌, Some, None, Result, Ok, Err, refl, sym, ap, ◌∙◌, append_assoc, append-nil, rules}
-use Rattle.pcl_page.proofs.Names.{Dpi, Profile, JobFault, macro_limit, Said, Page, Performer, Interpreter, Running, Sheet, Situation, at_end, HasPagesBy, performance_of, AllShow, IsPerformed, Hands, HandsOver, Shows, Performance, done, then_on, step, runs, after_all, end_refusal, ended, after_end, pages_of, IsSamePage, IsAt, resumed, begun_among, GoesOn, InterpreterEnds, IsAsking}
+use Rattle.std.proofs.Common.{◌≡◌, ℕ, ◌+◌, List, [], ◌∷◌, ◌++◌, length, Some, None, Result, Ok, Err, refl, sym, ap, ◌∙◌, append_assoc, append-nil, rules}
+use Rattle.pcl_page.proofs.Names.{Dpi, Profile, JobFault, macro_limit, Said, Page, Performer, Interpreter, Running, Sheet, Situation, at_end, HasPagesBy, performance, AllShow, IsPerformed, Hands, HandsOver, Shows, Performance, done, then_on, step, runs, after_all, end_refusal, ended, after_end, pages_of, IsSamePage, IsAt, resumed, begun_among, GoesOn, InterpreterEnds, IsAsking}
 use Rattle.pcl_base.specs.declared.fault.JobFault.TheVariants.{Refused, Memory}
 use Rattle.pcl_page.proofs.Keeping.{end_adds}
 use Rattle.pcl_page.proofs.Sinks.{Onward, stays_there, hands_append, hands_further, goes_from, goes_to}
@@ -146,7 +146,7 @@ end_reached {S} takes dpi end all whole place interpreter new old now then (Err 
 abbrev pub accepted_pages : {S : Type 0} {takes : S → Page → S → Type 0} {profile : Profile} {dpi : Dpi}
     {job : List ℕ} {done : Unit {0}} {old new : S}
     → IsPerformed takes profile dpi job (Ok done) old new → List Sheet
-accepted_pages {profile = profile} {dpi} {job} p = pages_of (performance_of profile dpi job p.commands)
+accepted_pages {profile = profile} {dpi} {job} p = pages_of (performance profile dpi (length job) p.commands)
 
 pub has_pages : {S : Type 0} {takes : S → Page → S → Type 0} {profile : Profile} {dpi : Dpi} {job : List ℕ} {done : Unit {0}} {old new : S}
     → (p : IsPerformed takes profile dpi job (Ok done) old new) → HasPagesBy profile dpi job (accepted_pages p)

@@ -1,7 +1,7 @@
 -- What a command leaves alone.
 use Rattle.std.proofs.Common.{◌≡◌, ℕ, ◌<◌, Bool, true, false, cond, nat_le, List, [], ◌∷◌, Option, Some, None, Result, Ok, Err, refl, length-append, arith, rules}
-use Rattle.pcl_page.proofs.Names.{nat_tests, Dpi, Kind, TooManyCommands, Operation, PrintText, command_limit, operation_of, Character, Said, Effect, EjectMarked, Settings, defaults, font_in_use, Outcome, outcome, FontInfo, info_of, prints, ends_raster}
-use Rattle.pcl_page.specs.Situation.{Situation, font_now, blank_passed, code_printed, codes_printed, blanks_passed, text_in, draw_refusal, unless_refused, ◌|>◌, end_raster, is_marked, ejects, sheet_of, turned_page, turned, turned_by, drawn, drawn_on, taken, counted, counted_in_limit, prepared, is_ignored, after, after_named, page_refusal, within_page_limit, after_checked, at_end}
+use Rattle.pcl_page.proofs.Names.{nat_tests, Dpi, Kind, TooManyCommands, Operation, PrintText, command_limit, operation_of, Character, Said, Effect, EjectMarked, Settings, defaults, font_in_use, Outcome, outcome, FontInfo, info_of, prints, ends_raster, after_checked, drawn_on}
+use Rattle.pcl_page.specs.Situation.{Situation, font_now, blank_passed, code_printed, codes_printed, blanks_passed, text_in, draw_refusal, unless_refused, ◌|>◌, end_raster, is_marked, ejects, sheet_of, turned_page, turned, turned_by, drawn, taken, counted, counted_in_limit, prepared, is_ignored, after, page_refusal, within_page_limit, at_end}
 use Rattle.pcl_page.proofs.Sinks.{Onward, stays_there}
 use Rattle.pcl_page.proofs.Turns.{prepared_page}
 
@@ -90,7 +90,7 @@ adds_prepared dpi ends s later a =
 
 -- a command that isn't refused adds pages, and does nothing to macros
 pub after_adds : (dpi : Dpi) (operation : Operation) (command : Said) (s : Situation) {later : Situation}
-    → after dpi operation command s ≡ Ok later → Adds s later
+    → after dpi (Some operation) command s ≡ Ok later → Adds s later
 unfolding after
 after_adds dpi operation command s {later} e =
     let before = prepared dpi operation s in
@@ -104,7 +104,8 @@ after_adds dpi operation command s {later} e =
     ] e
 
 adds_named : (dpi : Dpi) (operation : Option Operation) (command : Said) (s : Situation) {later : Situation}
-    → after_named dpi operation command s ≡ Ok later → Adds s later
+    → after dpi operation command s ≡ Ok later → Adds s later
+unfolding after
 adds_named dpi None command s e = absurd cc
 adds_named dpi (Some operation) command s e = after_adds dpi operation command s e
 
@@ -115,13 +116,13 @@ limit_from past p e = grind (arith, nat_tests)
 -- a command that counts, and isn't refused
 pub record IsCounted (dpi : Dpi) (command : Said) (s later : Situation) : Type 0 where
   pub few : s.performed < command_limit
-  pub after_is : after_named dpi (operation_of command.name) command (counted s) ≡ Ok later
+  pub after_is : after dpi (operation_of command.name) command (counted s) ≡ Ok later
   pub adds : Adds (counted s) later
 
 pub is_counted : (dpi : Dpi) (command : Said) (s : Situation) {later : Situation} → after_checked dpi command s ≡ Ok later
     → IsCounted dpi command s later
 is_counted dpi command s {later} e =
-    let named = after_named dpi (operation_of command.name) command in
+    let named = after dpi (operation_of command.name) command in
     let p = then_from (counted_in_limit s |> named) within_page_limit e in
     let c = then_from (counted_in_limit s) named p.1 in
     let one = limit_from (nat_le command_limit s.performed) refl c.1 in

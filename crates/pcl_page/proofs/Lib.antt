@@ -1,4 +1,5 @@
 pub mod Names
+pub mod Parts
 pub mod Pads
 pub mod Painted
 pub mod Sizes

@@ -1,7 +1,7 @@
 -- What is drawn, text and fonts: the performer follows the situation.
 use Rattle.std.proofs.Common.{◌≡◌, ℕ, suc, ◌+◌, ◌-◌, ◌*◌, Bool, true, cond, List, ◌∷◌, Option, Some, None, unwrap_or, ℤ, pos, negsuc, refl, sym, subst, ◌∙◌, rules, arith, ◌==◌}
 use Rattle.pcl_fonts.specs.Fields.{quarter_dot}
-use Rattle.pcl_page.proofs.Names.{Dpi, Side, NoFont, Black, Said, Font, Character, FontInfo, info_of, Settings, put_x, advance, font_of, font_in_use, Performer, Printed, Mark, prints, character_mark, are_spaces, select, select_there, text_refusal, after_character, after_blank, Situation, raster_from, row_painted, blank_passed, code_printed, codes_printed, blanks_passed, text_in, character_at, IsIn, IsFollowed, IsDrawn, IsInked, IsAtCursor, IsLastInked, IsSent, HasSettings}
+use Rattle.pcl_page.proofs.Names.{Dpi, Side, NoFont, RasterRow, Black, Said, Font, Character, FontInfo, info_of, Settings, put_x, advance, font_of, font_in_use, Performer, Printed, Mark, prints, character_mark, are_spaces, select, select_there, text_refusal, after_character, after_blank, Situation, raster_from, drawn, blank_passed, code_printed, codes_printed, blanks_passed, text_in, drawn_character, IsIn, IsFollowed, IsDrawn, IsInked, IsAtCursor, IsLastInked, IsSent, HasSettings}
 use Rattle.pcl_page.proofs.Turns.{still_sized, drawn_in}
 
 pub settings_in : {dpi : Dpi} {settings : Settings} {s : Situation} {old new : Performer} → IsIn dpi s old → HasSettings settings old new
@@ -13,7 +13,7 @@ settings_in {settings = settings} {s} {new = new} i h =
 -- ---- rectangles and rows
 
 pub row_in : {dpi : Dpi} {s : Situation} {old new : Performer} (command : Said) → IsIn dpi s old → IsSent dpi command.bytes old new
-    → IsIn dpi (row_painted dpi command.bytes s) new
+    → IsIn dpi (drawn dpi RasterRow command s) new
 row_in {dpi} {s} command i m =
     let raster : m.raster ≡ unwrap_or s.raster (raster_from dpi 0 s.settings) = cc in
     rw (raster, i.settings) at (drawn_in i m.followed m.drawn m.sent)
@@ -23,12 +23,12 @@ row_in {dpi} {s} command i m =
 -- a character is drawn at the cursor
 cursor_drawn : {dpi : Dpi} {here : Printed} (font : FontInfo) (old : Performer) {begun new : Performer} (c : Character)
     → IsAtCursor dpi here old.environment
-    → IsDrawn (character_at dpi font c here.x here.y) begun new → IsDrawn (character_mark dpi font c old.environment) begun new
+    → IsDrawn (drawn_character dpi font c here.x here.y) begun new → IsDrawn (character_mark dpi font c old.environment) begun new
 cursor_drawn font old c at d = rw (at.x, at.y) at d
 
 pub character_printed : {dpi : Dpi} {here : Printed} {s : Situation} {old begun middle new : Performer} (font : FontInfo)
     (c : Character) (code : ℕ) → IsIn dpi s old → IsAtCursor dpi here old.environment → IsFollowed old.environment.size old begun
-    → IsDrawn (character_at dpi font c here.x here.y) begun middle → middle.raster ≡ begun.raster
+    → IsDrawn (drawn_character dpi font c here.x here.y) begun middle → middle.raster ≡ begun.raster
     → HasSettings (after_character font c middle.environment) middle new
     → IsIn dpi (code_printed dpi font (Some c) code s) new
 character_printed {old = old} {middle = middle} {new} font c code i at f d r h =
@@ -102,12 +102,12 @@ pub record IsPrintedTo (dpi : Dpi) (font : FontInfo) (s : Situation) (codes rest
 pub inked_last : {dpi : Dpi} {font : FontInfo} {s : Situation} {codes rest : List ℕ} {performer : Performer} {c : Character}
     (last : Option Printed) (here : Printed) (p : IsPrintedTo dpi font s codes rest performer)
     → IsLastInked dpi font (prints s.fonts (font_in_use s.settings)) last performer → last ≡ Some here
-    → Some c ≡ prints s.fonts (font_in_use s.settings) here.code → IsInked (character_at dpi font c here.x here.y) performer
+    → Some c ≡ prints s.fonts (font_in_use s.settings) here.code → IsInked (drawn_character dpi font c here.x here.y) performer
 inked_last {c} last here p i same e = (rw same at i) c (sym e)
 
 -- what was inked is the one character of its code
 pub last_now : (dpi : Dpi) (font : FontInfo) {performer : Performer} {c : Character} (characters : ℕ → Option Character) (here : Printed)
-    → Some c ≡ characters here.code → IsInked (character_at dpi font c here.x here.y) performer
+    → Some c ≡ characters here.code → IsInked (drawn_character dpi font c here.x here.y) performer
     → IsLastInked dpi font characters (Some here) performer
 last_now dpi font {c = c} characters here e i = λ other is. let same : c ≡ other = cc in rw same at i
 

@@ -1,10 +1,10 @@
 -- The performer follows the situation, command by command.
 use Rattle.std.proofs.Common.{◌≡◌, ℕ, ◌+◌, ◌<◌, ◌≤◌, Bool, true, false, cond, nat_le, List, [], ◌∷◌, ◌++◌, length, Option, Some, None, Result, Ok, Err, refl, sym, ap, ◌∙◌, append-nil, length-append, inl, inr, arith, rules, is_some, ◌&&◌}
-use Rattle.pcl_page.proofs.Names.{nat_tests, Dpi, CallFault, Refused, Memory, Kind, TooManyPages, Operation, FillRectangle, ControlFonts, DownloadFont, DownloadCharacter, PrintText, command_limit, page_limit, operation_of, is_below_zero, Said, Effect, Stay, Settings, defaults, Outcome, stays, Page, Performer, ends_raster, is_ignored_in_raster, Shows, IsIn, IsEjected, Takes, Draws, HandsMore, IsTurned, IsHandled, Asked, Asks, asks_of, lasting_if, restarted, with_page}
+use Rattle.pcl_page.proofs.Names.{nat_tests, Dpi, CallFault, Refused, Memory, Kind, TooManyPages, Operation, FillRectangle, ControlFonts, DownloadFont, DownloadCharacter, PrintText, command_limit, page_limit, operation_of, is_below_zero, Said, Effect, Stay, Settings, defaults, Outcome, stays, Page, Performer, ends_raster, is_ignored_in_raster, Shows, IsIn, IsEjected, Takes, Draws, HandsMore, IsTurned, IsHandled, Asked, Asks, asks_of, lasting_if, restarted, with_page, after_checked, drawn_on}
 use Rattle.pcl_env.specs.Outcome.{outcome}
 use Rattle.pcl_fonts.specs.History.{has_permanent as is_font_permanent}
 use Rattle.pcl_macros.specs.History.{has_permanent as is_macro_permanent}
-use Rattle.pcl_page.specs.Situation.{Sheet, Situation, turned_page, put_back, with_lasting, draw_refusal, unless_refused, ◌|>◌, drawn_on, end_raster, is_marked, sheet_of, turned, turned_by, drawn, counted, prepared, is_ignored, after, after_named, at_end, page_refusal, within_page_limit, after_checked}
+use Rattle.pcl_page.specs.Situation.{Sheet, Situation, turned_page, put_back, with_lasting, draw_refusal, unless_refused, ◌|>◌, end_raster, is_marked, sheet_of, turned, turned_by, drawn, counted, prepared, is_ignored, after, at_end, page_refusal, within_page_limit}
 use Rattle.pcl_page.proofs.Turns.{prepared_page, with_settings, pages_fit, pages_past, handed_sheet, below_same}
 use Rattle.pcl_page.proofs.Keeping.{drawn_keeps}
 
@@ -19,7 +19,7 @@ counted_in i e r b m j p a f = search (rules, f, b)
 -- a command that is not past the limit, by its operation
 pub checked_as : (dpi : Dpi) (command : Said) {operation : Option Operation} (s : Situation) → s.performed < command_limit
     → operation_of command.name ≡ operation
-    → after_checked dpi command s ≡ (after_named dpi operation command (counted s) |> within_page_limit)
+    → after_checked dpi command s ≡ (after dpi operation command (counted s) |> within_page_limit)
 checked_as dpi command s few named =
     let under : nat_le command_limit s.performed ≡ false = grind (arith, nat_tests) in
     rw (under, named) refl

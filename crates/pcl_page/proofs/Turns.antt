@@ -1,6 +1,6 @@
 -- The performer follows the situation: rasters that end, pages that are turned, and what is drawn.
 use Rattle.std.proofs.Common.{◌≡◌, ℕ, ◌<◌, ◌≤◌, Bool, true, false, cond, nat_le, List, [], ◌∷◌, length, Option, Some, None, Result, Ok, Err, refl, sym, ◌∙◌, append-nil, length-append, arith, rules, ◌++◌}
-use Rattle.pcl_page.proofs.Names.{nat_tests, Dpi, Memory, TooManyPages, Operation, Size, Value, page_limit, Picture, Effect, Stay, Eject, EjectMarked, Unsupported, Settings, to_first_line, Outcome, outcome, AnswersAs, Page, Performer, Asked, Mark, are_marked, Raster, ends_raster, Situation, settings_below, end_raster, is_marked, ejects, sheet_of, turned_page, prepared, page_refusal, Shows, IsPainted, IsIn, IsWhite, IsFollowed, IsEjected, IsHanded, Takes, IsPrepared, IsDrawn, HandsMore, IsTurned}
+use Rattle.pcl_page.proofs.Names.{nat_tests, Dpi, Memory, TooManyPages, Operation, Size, Value, page_limit, Picture, Effect, Stay, Eject, EjectMarked, Unsupported, Settings, to_first_line, Outcome, outcome, AnswersAs, Page, Performer, Asked, Mark, are_marked, Raster, ends_raster, Situation, settings_below, end_raster, is_marked, ejects, sheet_of, turned_page, prepared, page_refusal, Shows, IsPainted, IsIn, IsBlank, IsFollowed, IsEjected, IsHanded, Takes, IsPrepared, IsDrawn, HandsMore, IsTurned}
 use Rattle.pcl_page.proofs.Sizes.{size_kept}
 
 -- ---- pages
@@ -51,7 +51,7 @@ answered (Some done) {effect} old a = (done, refl, (let e : ◌≡◌ {A = Resul
 -- ---- pages that stay
 
 -- with no marks every dot is white
-white_in : {dpi : Dpi} {s : Situation} {old : Performer} → IsIn dpi s old → s.marks ≡ [] → IsWhite old.page.bitmap
+white_in : {dpi : Dpi} {s : Situation} {old : Performer} → IsIn dpi s old → s.marks ≡ [] → IsBlank old.page.bitmap
 white_in i none x y wide high =
     let p = i.painted in p.dots x y (rw p.dpi_is at wide) (rw p.dpi_is at high) ∙ rw none refl
 
@@ -59,7 +59,7 @@ unmarked : (marks : List Mark) → are_marked marks ≡ false → marks ≡ []
 unmarked marks e = grind arith
 
 -- and a white page shows no marks
-white_painted : {dpi : Dpi} {bitmap : Picture} → bitmap.dpi ≡ dpi → IsWhite bitmap → IsPainted dpi [] bitmap
+white_painted : {dpi : Dpi} {bitmap : Picture} → bitmap.dpi ≡ dpi → IsBlank bitmap → IsPainted dpi [] bitmap
 white_painted d white = record { dpi_is = d; dots = λ x y wide high. white x y (rw d wide) (rw d high) }
 
 -- a page of the size that is set shows the same marks

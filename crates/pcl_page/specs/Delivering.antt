@@ -1,5 +1,5 @@
 -- What a sink is handed of a job, and how a job is refused.
-use Rattle.std.specs.Prelude.{◌≡◌, List, [], ◌∷◌, ◌++◌, Some, None, Result, Ok, Err, ℕ, ◌⊎◌}
+use Rattle.std.specs.Prelude.{◌≡◌, List, [], ◌∷◌, ◌++◌, length, Some, None, Result, Ok, Err, ℕ, ◌⊎◌}
 use Rattle.std.specs.Global.{Vec}
 use Rattle.pcl_base.specs.declared.dpi.Dpi.{Dpi}
 use Rattle.pcl_base.specs.declared.fault.JobFault.{JobFault}
@@ -15,8 +15,8 @@ use Rattle.pcl_bitmap.specs.declared.page.Page.{Page}
 use Rattle.pcl_page.specs.declared.asks.Asks.{Asks as AsksOfCode}
 use Rattle.pcl_page.specs.Asks.{asks_of}
 use Rattle.pcl_page.specs.Situation.{Sheet}
-use Rattle.pcl_page.specs.Performing.{Shows, Performance, done, pages_of, asks_among}
-use Rattle.pcl_page.specs.Jobs.{performance_of, HasPages, HasAsksBy}
+use Rattle.pcl_page.specs.Performing.{Shows, Performance, done, performance, pages_of, asks_among}
+use Rattle.pcl_page.specs.Jobs.{HasPages, HasAsksBy}
 
 -- a sink takes pages that show these sheets, in order, each once
 abbrev pub Hands : {S : Type 0} → (S → Page → S → Type 0) → Dpi → List Sheet → S → S → Type 0
@@ -36,7 +36,7 @@ HandsOver {S} takes dpi done (Err Memory) old new =
 pub record IsStopped (profile : Profile) (dpi : Dpi) (job : List ℕ) (refusal : Refusal) : Type 0 where
   pub commands : List Said
   pub reading : IsReading profile job commands
-  pub refused : (performance_of profile dpi job commands).refusal ≡ Some refusal
+  pub refused : (performance profile dpi (length job) commands).refusal ≡ Some refusal
 
 -- the refusal of a job by a profile: its first fault, or else that of the first command that is refused
 abbrev pub IsRefusalBy : Profile → Dpi → List ℕ → Refusal → Type 0
@@ -51,7 +51,7 @@ pub record IsPerformed {S : Type 0} (takes : S → Page → S → Type 0) (profi
     (result : Result (Unit {0}) JobFault) (old new : S) : Type 0 where
   pub commands : List Said
   pub reading : IsReading profile job commands
-  pub handed : HandsOver takes dpi (performance_of profile dpi job commands) result old new
+  pub handed : HandsOver takes dpi (performance profile dpi (length job) commands) result old new
 
 -- The sink takes the pages of an accepted job, in order; those before the refused command; or the first of these where
 -- memory runs out. A job that has no reading gives it none.

@@ -7,25 +7,21 @@ use Rattle.pcl_escape.specs.Said.{Said}
 use Rattle.pcl_escape.specs.Pieces.{IsReading}
 use Rattle.pcl_page.specs.Asks.{Asks, of_job}
 use Rattle.pcl_page.specs.Situation.{Sheet}
-use Rattle.pcl_page.specs.Performing.{Performance, performance, pages_of, asks_among}
-
--- what is performed of a job whose reading is these commands, by a profile
-abbrev pub performance_of : Profile → Dpi → List ℕ → List Said → Performance
-performance_of profile dpi job commands = performance profile dpi (length job) commands
+use Rattle.pcl_page.specs.Performing.{performance, pages_of, asks_among}
 
 -- the job is accepted by a profile, and these are its pages
 pub record HasPagesBy (profile : Profile) (dpi : Dpi) (job : List ℕ) (pages : List Sheet) : Type 0 where
   pub commands : List Said
   pub reading : IsReading profile job commands
-  pub accepted : (performance_of profile dpi job commands).refusal ≡ None
-  pub ejected : pages ≡ pages_of (performance_of profile dpi job commands)
+  pub accepted : (performance profile dpi (length job) commands).refusal ≡ None
+  pub ejected : pages ≡ pages_of (performance profile dpi (length job) commands)
 
 -- the job is accepted by a profile, and this is what it asks of the printer besides dots
 pub record HasAsksBy (profile : Profile) (dpi : Dpi) (job : List ℕ) (asks : Asks) : Type 0 where
   pub commands : List Said
   pub reading : IsReading profile job commands
-  pub accepted : (performance_of profile dpi job commands).refusal ≡ None
-  pub asked : asks ≡ of_job job (asks_among (performance_of profile dpi job commands))
+  pub accepted : (performance profile dpi (length job) commands).refusal ≡ None
+  pub asked : asks ≡ of_job job (asks_among (performance profile dpi (length job) commands))
 
 -- the same by the stated profile
 abbrev pub HasPages : Dpi → List ℕ → List Sheet → Type 0

@@ -19,7 +19,7 @@ use Rattle.pcl_page.specs.declared.macros.Action.{Action}
 use Rattle.pcl_page.specs.declared.macros.Action.TheVariants.{Begin, End, Execute, Call, Control}
 use Rattle.pcl_page.specs.declared.macros.Keeping.{Keeping}
 use Rattle.pcl_page.specs.declared.macros.Keeping.TheVariants.{Kept, Ends, Refused}
-use Rattle.pcl_page.specs.Situation.{Situation, is_marked, end_raster, with_lasting, ◌|>◌, after_checked}
+use Rattle.pcl_page.specs.Situation.{Situation, is_marked, end_raster, with_lasting, ◌|>◌, after, counted_in_limit, within_page_limit}
 
 -- what a macro control does, by its number
 abbrev pub action_of : Value → Option Action
@@ -97,9 +97,11 @@ after_macros place other value s = Ok s
 
 -- ---- one command
 
--- a command that counts, at this place in the list of commands
+-- a command that counts, at this place in the list of commands: the page that it ejects is among the pages, and then macros follow
 abbrev pub after_counted : Dpi → ℕ → Said → Situation → Result Situation Kind
-after_counted dpi place command s = after_checked dpi command s |> after_macros place (operation_of command.name) command.value
+after_counted dpi place command s =
+    counted_in_limit s |> after dpi (operation_of command.name) command |> within_page_limit
+    |> after_macros place (operation_of command.name) command.value
 
 -- a command in a definition: one that is kept changes nothing, and doesn't count
 abbrev pub defining : Dpi → ℕ → Keeping → Said → Situation → Result Situation Kind

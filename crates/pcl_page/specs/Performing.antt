@@ -85,10 +85,6 @@ runs (suc levels) dpi all command run s =
 
 -- ---- whole jobs
 
--- commands of the job from a place on
-abbrev pub after_all : Dpi → List Said → ℕ → List Said → Situation → Performance
-after_all dpi all place commands s = in_order (step dpi (runs macro_limit dpi all)) place commands s
-
 -- the input's end is refused in a definition
 abbrev pub end_refusal : Dpi → Situation → Option Kind
 end_refusal dpi s = if is_some s.begun then Some MacroOpen else page_refusal (at_end dpi s)
@@ -102,9 +98,10 @@ ended dpi end (Some kind) s = record { situation = s; refusal = Some (refusal ki
 abbrev pub after_end : Dpi → ℕ → Situation → Performance
 after_end dpi end s = ended dpi end (end_refusal dpi s) s
 
--- the commands of a job that is read by this profile, and then the end of the input
+-- the commands of a job that is read by this profile, and then the end of the input, which has this many bytes
 abbrev pub performance : Profile → Dpi → ℕ → List Said → Performance
-performance profile dpi end commands = then_on (after_all dpi commands 0 commands (at_start profile)) (after_end dpi end)
+performance profile dpi end commands =
+    then_on (in_order (step dpi (runs macro_limit dpi commands)) 0 commands (at_start profile)) (after_end dpi end)
 
 -- what was asked besides dots
 abbrev pub asks_among : Performance → Asks

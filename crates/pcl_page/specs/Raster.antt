@@ -112,6 +112,6 @@ ends_raster other = not (is_ignored_in_raster other)
 -- ---- bounds
 
 -- the rows that were sent to the raster that has begun, or skipped in it
-abbrev pub rows_in : Option Raster → ℕ
-rows_in None = 0
-rows_in (Some r) = r.rows
+abbrev pub raster_rows : Option Raster → ℕ
+raster_rows None = 0
+raster_rows (Some r) = r.rows

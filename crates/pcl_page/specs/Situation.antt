@@ -13,7 +13,7 @@ use Rattle.pcl_base.specs.declared.size.Size.{Size}
 use Rattle.pcl_base.specs.declared.value.Value.{Value}
 use Rattle.pcl_base.specs.Dpi.{units_per_dot}
 use Rattle.pcl_base.specs.Limits.{command_limit, page_limit}
-use Rattle.pcl_base.specs.Operation.{operation_of, is_stated}
+use Rattle.pcl_base.specs.Operation.{is_stated}
 use Rattle.pcl_base.specs.Value.{whole_of, signed_whole, count_of}
 use Rattle.pcl_bitmap.specs.declared.ink.Ink.{Ink}
 use Rattle.pcl_bitmap.specs.declared.ink.Ink.TheVariants.{Black, White}
@@ -132,14 +132,6 @@ abbrev pub filled_with : Dpi → Option Ink → Situation → Situation
 filled_with dpi None s = s
 filled_with dpi (Some ink) s = record s { marks = rectangle_mark dpi ink s.settings ∷ s.marks }
 
--- A row is sent to the raster that has begun; outside a raster it starts one at the page's left edge. It marks the page, and becomes the
--- seed row.
-abbrev pub row_painted : Dpi → List ℕ → Situation → Situation
-row_painted dpi bytes s =
-    let r = unwrap_or s.raster (raster_from dpi 0 s.settings) in
-    let row = row_sent s.settings.method bytes r in
-    record s { raster = Some (with_row row r); marks = row_mark row r ∷ s.marks }
-
 -- ---- fonts and text
 
 -- one thing more became of the soft fonts: a header, a character or a control
@@ -224,7 +216,8 @@ asked_for other value s = if is_stated other then s else with_lasting (is_marked
 
 -- ---- what a command draws
 
--- what a command draws, or does to the raster and to fonts
+-- What a command draws, or does to the raster and to fonts. A row is sent to the raster that has begun; outside a raster it starts one at
+-- the page's left edge. It marks the page, and becomes the seed row.
 abbrev pub drawn : Dpi → Operation → Said → Situation → Situation
 drawn dpi Reset command s = put_back s
 drawn dpi UniversalExit command s = put_back (exited command.bytes s)
@@ -238,7 +231,10 @@ drawn dpi FillRectangle command s = filled_with dpi (ink_of command.value) s
 drawn dpi StartRaster command s =
     record s { raster = Some (raster_from dpi (if whole_of command.value == 0 then 0 else dot_at dpi s.settings.cursor.x) s.settings) }
 drawn dpi RasterOffset command s = record s { raster = option_map (skipped (whole_of command.value)) s.raster }
-drawn dpi RasterRow command s = row_painted dpi command.bytes s
+drawn dpi RasterRow command s =
+    let r = unwrap_or s.raster (raster_from dpi 0 s.settings) in
+    let row = row_sent s.settings.method command.bytes r in
+    record s { raster = Some (with_row row r); marks = row_mark row r ∷ s.marks }
 drawn dpi other command s = s
 
 -- why a command isn't drawn that sets what it sets: a number that says nothing is a value that isn't taken
@@ -289,20 +285,14 @@ turned_by (Some done) s = Ok (turned done.0 done.1 s)
 abbrev pub taken : Dpi → Operation → Value → Situation → Result Situation Kind
 taken dpi operation value s = turned_by (outcome dpi operation value (is_marked s) s.settings) s
 
--- what becomes of the page is known before anything is drawn
-abbrev pub drawn_on : Dpi → Operation → Said → Situation → Result Situation Kind
-drawn_on dpi operation command s = unless_refused (draw_refusal dpi operation command s) (drawn dpi operation command s)
-
--- a command that is known and counted: in a raster some are ignored
-unfoldable pub after : Dpi → Operation → Said → Situation → Result Situation Kind
-after dpi operation command s =
+-- A command that counts, by what its name means: an unknown name is refused, and in a raster some are ignored. What becomes of the page is
+-- known before anything is drawn.
+unfoldable pub after : Dpi → Option Operation → Said → Situation → Result Situation Kind
+after dpi None command s = Err UnsupportedCommand
+after dpi (Some operation) command s =
     if is_ignored operation s then Ok s
-    else (taken dpi operation command.value (prepared dpi operation s) |> drawn_on dpi operation command)
-
--- a command that counts, by what its name means; an unknown name is refused
-abbrev pub after_named : Dpi → Option Operation → Said → Situation → Result Situation Kind
-after_named dpi None command s = Err UnsupportedCommand
-after_named dpi (Some operation) command s = after dpi operation command s
+    else (taken dpi operation command.value (prepared dpi operation s)
+    |> λ now. unless_refused (draw_refusal dpi operation command now) (drawn dpi operation command now))
 
 -- one page more than there may be was ejected
 abbrev pub page_refusal : Situation → Option Kind
@@ -311,10 +301,6 @@ page_refusal s = if nat_le (length s.pages) page_limit then None else Some TooMa
 -- a command is refused where more pages were ejected than there may be
 abbrev pub within_page_limit : Situation → Result Situation Kind
 within_page_limit s = unless_refused (page_refusal s) s
-
--- the situation after a command that counts, the page that it ejects among its pages, or the first reason to refuse it; macros aside
-abbrev pub after_checked : Dpi → Said → Situation → Result Situation Kind
-after_checked dpi command s = counted_in_limit s |> after_named dpi (operation_of command.name) command |> within_page_limit
 
 -- ---- the end of the input
 

@@ -2,7 +2,7 @@
 
 ghost use Rattle.std.specs.Prelude.{◌≤◌, ◌*◌, ◌^◌};
 ghost use Rattle.pcl_base.specs.Limits.{command_limit, copies_limit, page_limit};
-ghost use Rattle.pcl_page.specs.Raster.{rows_in};
+ghost use Rattle.pcl_page.specs.Raster.{raster_rows};
 
 use crate::asks::Asks;
 use crate::doubts::{Doubts, is_home};
@@ -44,7 +44,7 @@ pub struct Performer<'a> {
     pub alloc: Global,
     ghost few_pages: { ejected ≤ page_limit },
     ghost few_commands: { performed ≤ command_limit },
-    ghost few_rows: { rows_in raster ≤ 2 ^ 20 * performed },
+    ghost few_rows: { raster_rows raster ≤ 2 ^ 20 * performed },
 }
 
 impl<'a> Performer<'a> {
@@ -53,7 +53,7 @@ impl<'a> Performer<'a> {
     ghost use Rattle.pcl_base.specs.Value.{whole_of, signed_whole};
     ghost use Rattle.std.specs.Option.{option_map};
     ghost use Rattle.pcl_page.specs.Marks.{dot_at};
-    ghost use Rattle.pcl_page.specs.Raster.{raster_from, rows_in, skipped, is_ignored_in_raster};
+    ghost use Rattle.pcl_page.specs.Raster.{raster_from, raster_rows, skipped, is_ignored_in_raster};
     ghost use Rattle.pcl_base.specs.declared.dpi.Dpi.{Dpi};
     ghost use Rattle.pcl_escape.specs.Said.{Said, view};
     ghost use Rattle.pcl_env.specs.Offset.{lie_together};
@@ -272,7 +272,7 @@ impl<'a> Performer<'a> {
         command: &Command<'a>,
         dpi: Dpi,
     ) -> Result<(), CallFault>
-        requires rows { rows_in self.old.raster + 2 ^ 20 ≤ 2 ^ 20 * self.old.performed }
+        requires rows { raster_rows self.old.raster + 2 ^ 20 ≤ 2 ^ 20 * self.old.performed }
         ensures { (s : Situation) → IsIn dpi s self.old
             → Draws dpi (draw_refusal dpi operation (view command.now) s) (drawn dpi operation (view command.now) s) result self.new }
     {
@@ -402,7 +402,7 @@ impl<'a> Performer<'a> {
 
     /// Skips rows of the raster that has begun; outside one it does nothing.
     fn skip_rows(&mut self, value: Value)
-        requires rows { rows_in self.old.raster + 2 ^ 20 ≤ 2 ^ 20 * self.old.performed }
+        requires rows { raster_rows self.old.raster + 2 ^ 20 ≤ 2 ^ 20 * self.old.performed }
         ensures { HasRaster (option_map (skipped (whole_of value)) self.old.raster) self.old self.new }
     {
         if let Some(raster) = &mut self.raster {
@@ -414,7 +414,7 @@ impl<'a> Performer<'a> {
 
     /// Sends a row to the raster that has begun, or to one that starts at the page's left edge.
     fn send_row(&mut self, bytes: &[u8], dpi: Dpi) -> Result<(), AllocError>
-        requires rows { rows_in self.old.raster + 2 ^ 20 ≤ 2 ^ 20 * self.old.performed }
+        requires rows { raster_rows self.old.raster + 2 ^ 20 ≤ 2 ^ 20 * self.old.performed }
         ensures { OnOk result (IsSent dpi bytes.now self.old self.new) }
     {
         let size = self.environment.size();

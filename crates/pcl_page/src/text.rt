@@ -26,7 +26,7 @@ impl<'a> Performer<'a> {
     ghost use Rattle.pcl_fonts.specs.Table.{character_in};
     ghost use Rattle.pcl_page.specs.Text.{prints, text_refusal, after_character, after_blank};
     ghost use Rattle.pcl_page.specs.Situation.{Situation, font_now, text_in, code_printed, codes_printed, blank_passed, blanks_passed};
-    ghost use Rattle.pcl_page.specs.inner.Reflecting.{character_at, IsIn, IsDrawn, IsInked, IsAtCursor, HasSettings, Draws};
+    ghost use Rattle.pcl_page.specs.inner.Reflecting.{drawn_character, IsIn, IsDrawn, IsInked, IsAtCursor, HasSettings, Draws};
 
     /// Prints the codes in the font that is selected and in use. Without one a code above that of a space is refused.
     pub fn print_text(&mut self, codes: &[u8], dpi: Dpi) -> Result<(), CallFault>
@@ -115,10 +115,10 @@ impl<'a> Performer<'a> {
     ) -> Result<(), AllocError>
         requires { IsAtCursor dpi here self.old.environment }
         ensures printed { (s : Situation) (code : ℕ) → IsIn dpi s self.old
-            → (IsTrue is_inked → IsInked (character_at dpi font (character_in glyph.now) here.x here.y) self.old)
+            → (IsTrue is_inked → IsInked (drawn_character dpi font (character_in glyph.now) here.x here.y) self.old)
             → OnOk result (IsIn dpi (code_printed dpi font (Some (character_in glyph.now)) code s) self.new) }
-        ensures inked { (IsTrue is_inked → IsInked (character_at dpi font (character_in glyph.now) here.x here.y) self.old)
-            → OnOk result (IsInked (character_at dpi font (character_in glyph.now) here.x here.y) self.new) }
+        ensures inked { (IsTrue is_inked → IsInked (drawn_character dpi font (character_in glyph.now) here.x here.y) self.old)
+            → OnOk result (IsInked (drawn_character dpi font (character_in glyph.now) here.x here.y) self.new) }
     {
         if !is_inked {
             let size = self.environment.size();
@@ -138,7 +138,7 @@ impl<'a> Performer<'a> {
         dpi: Dpi,
     ) -> Result<(), AllocError>
         requires { IsAtCursor dpi here self.old.environment }
-        ensures drawn { OnOk result (IsDrawn (character_at dpi font (character_in glyph.now) here.x here.y) self.old self.new) }
+        ensures drawn { OnOk result (IsDrawn (drawn_character dpi font (character_in glyph.now) here.x here.y) self.old self.new) }
         ensures raster { OnOk result (self.new.raster ≡ self.old.raster) }
     {
         let rows = glyph.rows(self.alloc)?;

@@ -1,12 +1,12 @@
 -- A table that is filled one row upwards.
 use Rattle.std.proofs.Common.{◌≡◌, ℕ, zero, suc, ◌+◌, ◌-◌, ◌<◌, ◌≤◌, Bool, true, false, List, [], length, drop, refl, subst, ◌∙◌, inl, inr, arith}
-use Rattle.pcl_plan.proofs.Names.{cases_lt, drop_more, Method, IsLeastLength, RowNumbers, AreWhite, Node, row_at, row_above, number_in, node_number, end_numbers, rest, skipping, IsReadable, IsLeastStart, IsDirect, AreRowNumbers, IsRowRight, AreRightFrom, AreSkippable, IsWhiteRun, node, white_front, white_below, skippable_within, ink_left}
+use Rattle.pcl_plan.proofs.Names.{cases_lt, drop_more, Method, IsLeastLength, RowNumbers, AreWhite, Node, row_at, row_above, number_in, node_number, end_numbers, rest, skipping, IsReadable, IsLeastStart, IsDirect, AreRowNumbers, IsRowRight, AreRowsRightFrom, AreSkippable, IsWhiteRun, node, white_front, white_below, skippable_within, ink_left}
 use Rattle.pcl_plan.proofs.RightRows.{at_row, row_stays, end_number, white_row_right}
 use Rattle.pcl_plan.proofs.InkedRows.{inked_row_right}
 
 -- ---- what is read of a table
 
-falls_by : {width : ℕ} {rows : List (List ℕ)} {table : List RowNumbers} {row run : ℕ} → AreRightFrom width rows table (row + 1)
+falls_by : {width : ℕ} {rows : List (List ℕ)} {table : List RowNumbers} {row run : ℕ} → AreRowsRightFrom width rows table (row + 1)
     → IsWhiteRun rows row run → (method : Method) (near gap : ℕ) → 0 < near → near + gap ≤ run
     → rest (node_number table) (row + (near + gap)) method ≤ rest (node_number table) (row + near) method
 falls_by {table} {row} right is method near zero some within = grind arith
@@ -17,7 +17,7 @@ falls_by {rows} {table} {row} {run} right is method near (suc gap) some within =
     grind (arith, before, step)
 
 pub readable : (width : ℕ) (rows : List (List ℕ)) (table : List RowNumbers) (row run : ℕ) → length rows ≤ 9999
-    → AreRightFrom width rows table (row + 1) → IsWhiteRun rows row run → row + run < length rows → IsReadable table row run
+    → AreRowsRightFrom width rows table (row + 1) → IsWhiteRun rows row run → row + run < length rows → IsReadable table row run
 readable width rows table row run few right is ink = record {
   next = omega (arith, right.size);
   within = omega (arith, right.size);
@@ -69,11 +69,11 @@ pub record IsPut (old new : List RowNumbers) (row : ℕ) (numbers : RowNumbers) 
   pub others : (a : Node) → (a.row ≡ row → ⊥) → node_number new a ≡ node_number old a
 
 module _ {width : ℕ} {rows : List (List ℕ)} {old new : List RowNumbers} {row : ℕ} {numbers : RowNumbers} (put : IsPut old new row numbers)
-    (right : AreRightFrom width rows old (row + 1)) where
+    (right : AreRowsRightFrom width rows old (row + 1)) where
   stays_after : (after : ℕ) → row < after → after ≤ length rows → IsRowRight width rows (node_number new) after
   stays_after after lt within = row_stays (λ a le. put.others a (λ same. omega arith)) (right.right after (omega arith) within)
 
-  right_more : IsRowRight width rows (node_number new) row → AreRightFrom width rows new row
+  right_more : IsRowRight width rows (node_number new) row → AreRowsRightFrom width rows new row
   right_more here = record {
     size = put.size ∙ right.size;
     right = λ after from within.
@@ -84,7 +84,7 @@ module _ {width : ℕ} {rows : List (List ℕ)} {old new : List RowNumbers} {row
   }
 
   pub put_inked : {run : ℕ} → length rows ≤ 9999 → IsWhiteRun rows row run → row + run < length rows
-      → AreRowNumbers width rows (node_number old) row numbers → AreRightFrom width rows new row
+      → AreRowNumbers width rows (node_number old) row numbers → AreRowsRightFrom width rows new row
   put_inked few is ink are =
       right_more (inked_row_right (record {
         direct = are.direct;
@@ -105,7 +105,7 @@ put_end {new} {row} put =
     at_row (λ (a : Node). node_number new a ≡ end_number a.inside) row (λ method is_open. grind (arith, put.changed method is_open))
 
 pub put_white : {width : ℕ} {rows : List (List ℕ)} {old new : List RowNumbers} {row : ℕ} → row < length rows → IsPut old new row end_numbers
-    → AreRightFrom width rows old (row + 1) → AreWhite (drop row rows) → AreRightFrom width rows new row
+    → AreRowsRightFrom width rows old (row + 1) → AreWhite (drop row rows) → AreRowsRightFrom width rows new row
 put_white {rows} {row} lt put right white =
     let below = rw (drop_more rows row [] lt) at white in
     right_more put right
@@ -115,7 +115,7 @@ put_white {rows} {row} lt put right white =
 
 -- after all rows
 pub put_last : {width : ℕ} {rows : List (List ℕ)} {old new : List RowNumbers} {row : ℕ} → row ≡ length rows → length old ≡ length rows + 1
-    → IsPut old new row end_numbers → drop row rows ≡ [] → AreRightFrom width rows new row
+    → IsPut old new row end_numbers → drop row rows ≡ [] → AreRowsRightFrom width rows new row
 put_last {width} {rows} {new} {row} e size put none = record {
   size = put.size ∙ size;
   right = λ after from within.

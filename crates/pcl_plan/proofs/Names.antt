@@ -10,4 +10,4 @@ pub use Rattle.pcl_output.proofs.Names.{AreSkippable, AreWhite, Ends, IsSwitched
 pub use Rattle.pcl_output.specs.declared.{node.Node.Node, step.Step.Step, step.Step.TheVariants.Row, step.Step.TheVariants.Skip, step.Step.TheVariants.Switch, table.RowNumbers.RowNumbers}
 pub use Rattle.pcl_plan.specs.{PagePlans.IsPlanOf, Plans.IsPlan, Plans.IsTokenOf, Plans.StepsAndTable, Plans.none_follow, Plans.opened}
 pub use Rattle.pcl_plan.specs.declared.{rows.Rows.Rows}
-pub use Rattle.pcl_plan.specs.inner.{Filling.AreRightFrom, Filling.AreRowNumbers, Filling.IsDirect, Filling.IsLeastSkip, Filling.IsLeastStart, Filling.IsReadable, Filling.IsRowRight, Filling.skipping, Reading.AreLeastSteps, Reading.IsBestStep, Reading.IsNextNode, Rows.rows_of}
+pub use Rattle.pcl_plan.specs.inner.{Filling.AreRowsRightFrom, Filling.AreRowNumbers, Filling.IsDirect, Filling.IsLeastSkip, Filling.IsLeastStart, Filling.IsReadable, Filling.IsRowRight, Filling.skipping, Reading.AreLeastSteps, Reading.IsBestStep, Reading.IsNextNode, Rows.rows_of}

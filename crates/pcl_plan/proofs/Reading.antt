@@ -1,12 +1,12 @@
 -- Steps are read off a table that is right.
 use Rattle.std.proofs.Common.{◌≡◌, ℕ, ◌+◌, ◌<◌, ◌≤◌, true, false, List, [], ◌∷◌, length, refl, ap, ◌∙◌, arith}
-use Rattle.pcl_plan.proofs.Names.{not, drop_of_length-le, Method, IsRowData, IsLeastLength, Walk, total, IsFeasible, IsLeastCost, feasible_bounds, attained_is_least, RowNumbers, Token, opening, method, skip, send, Node, row_at, row_above, Leads, Ends, cost, switching, row_cost, node_number, outside, inside, rest, skipping, IsReadable, IsRowRight, AreRightFrom, AreSkippable, IsWhiteRun, node, length_rows, Rows, rows_of, cost_opening, cost_some, rest_below, skippable_within, white_to_end, number_past}
+use Rattle.pcl_plan.proofs.Names.{not, drop_of_length-le, Method, IsRowData, IsLeastLength, Walk, total, IsFeasible, IsLeastCost, feasible_bounds, attained_is_least, RowNumbers, Token, opening, method, skip, send, Node, row_at, row_above, Leads, Ends, cost, switching, row_cost, node_number, outside, inside, rest, skipping, IsReadable, IsRowRight, AreRowsRightFrom, AreSkippable, IsWhiteRun, node, length_rows, Rows, rows_of, cost_opening, cost_some, rest_below, skippable_within, white_to_end, number_past}
 use Rattle.pcl_plan.proofs.LeastTokens.{switch_below, skip_below, row_below, row_is_least, switch_costs, skip_costs, row_costs}
 use Rattle.pcl_plan.proofs.Filled.{readable}
 
 -- ---- the whole table
 
-pub feasible_table : {width : ℕ} {rows : List (List ℕ)} {table : List RowNumbers} → AreRightFrom width rows table 0
+pub feasible_table : {width : ℕ} {rows : List (List ℕ)} {table : List RowNumbers} → AreRowsRightFrom width rows table 0
     → IsFeasible (Leads width rows) (Ends rows) cost (node_number table)
 feasible_table {rows} {table} right = record {
   steps = λ a token b l.
@@ -17,7 +17,7 @@ feasible_table {rows} {table} right = record {
       grind (arith, kept, number_past table a, right.size);
 }
 
-pub least_table : {width : ℕ} {rows : List (List ℕ)} {table : List RowNumbers} → AreRightFrom width rows table 0 → (a : Node)
+pub least_table : {width : ℕ} {rows : List (List ℕ)} {table : List RowNumbers} → AreRowsRightFrom width rows table 0 → (a : Node)
     → a.row ≤ length rows → IsLeastCost (Leads width rows) (Ends rows) cost a (node_number table a)
 least_table {width} {rows} {table} right a within =
     attained_is_least (feasible_table right) a ((right.right a.row (omega arith) within).attained a refl)
@@ -27,9 +27,9 @@ least_table {width} {rows} {table} right a within =
 -- in a table that is right and of a page of few rows
 pub record IsRightTable (width : ℕ) (rows : List (List ℕ)) (table : List RowNumbers) : Type 0 where
   pub few : length rows ≤ 9999
-  pub right : AreRightFrom width rows table 0
+  pub right : AreRowsRightFrom width rows table 0
 
-pub right_table : (rows : Rows) {table : List RowNumbers} → AreRightFrom rows.width (rows_of rows) table 0
+pub right_table : (rows : Rows) {table : List RowNumbers} → AreRowsRightFrom rows.width (rows_of rows) table 0
     → IsRightTable rows.width (rows_of rows) table
 right_table rows right = record { few = omega (arith, length_rows rows.count rows.width rows.bytes.now, rows.few); right = right }
 

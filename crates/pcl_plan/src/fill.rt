@@ -7,7 +7,7 @@ ghost use Rattle.pcl_coders.specs.Coding.{IsLeastLength};
 ghost use Rattle.pcl_output.specs.Nodes.{row_at, row_above};
 ghost use Rattle.pcl_output.specs.Table.{by_method, node_number};
 ghost use Rattle.pcl_plan.specs.inner.Rows.{rows_of};
-ghost use Rattle.pcl_plan.specs.inner.Filling.{skipping, IsLeastSkip, IsReadable, IsLeastStart, AreRowNumbers, AreRightFrom};
+ghost use Rattle.pcl_plan.specs.inner.Filling.{skipping, IsLeastSkip, IsReadable, IsLeastStart, AreRowNumbers, AreRowsRightFrom};
 ghost use Rattle.pcl_output.specs.inner.WhiteRows.{IsWhiteRun};
 
 use crate::lengths::LeastLengths;
@@ -19,7 +19,7 @@ use pcl_output::{ByMethod, RowNumbers, Table, digits, row_cost};
 /// coders.
 pub fn fill<L: LeastLengths>(lengths: &L, rows: &Rows<'_>, table: &mut Table)
     requires { length table.old ≡ rows.now.count + 1 }
-    ensures { AreRightFrom rows.now.width (rows_of rows.now) table.new 0 }
+    ensures { AreRowsRightFrom rows.now.width (rows_of rows.now) table.new 0 }
 {
     table.put(rows.count, RowNumbers::at_end());
     let mut run = 0;
@@ -54,7 +54,7 @@ fn row_numbers<L: LeastLengths>(
 ) -> RowNumbers
     requires ink { row + run < rows.now.count }
     requires run { IsWhiteRun (rows_of rows.now) row run }
-    requires right { AreRightFrom rows.now.width (rows_of rows.now) table.now (row + 1) }
+    requires right { AreRowsRightFrom rows.now.width (rows_of rows.now) table.now (row + 1) }
     ensures { AreRowNumbers rows.now.width (rows_of rows.now) (node_number table.now) row result }
 {
     let bytes = least_lengths(lengths, rows, row);

@@ -10,7 +10,7 @@ ghost use Rattle.pcl_output.specs.Table.{node_number};
 ghost use Rattle.pcl_plan.specs.inner.Rows.{rows_of};
 ghost use Rattle.pcl_output.specs.Spelling.{switching, row_cost};
 ghost use Rattle.pcl_output.specs.Table.{outside, rest};
-ghost use Rattle.pcl_plan.specs.inner.Filling.{skipping, IsReadable, AreRightFrom};
+ghost use Rattle.pcl_plan.specs.inner.Filling.{skipping, IsReadable, AreRowsRightFrom};
 ghost use Rattle.pcl_plan.specs.inner.Reading.{AreLeastSteps, IsBestStep, IsNextNode};
 
 use crate::fill::least_skip;
@@ -39,7 +39,7 @@ pub fn append_steps<L: LeastLengths>(
     steps: &mut Vec<Step>,
 ) -> Result<(), AllocError>
     requires none { steps.old.items ≡ [] }
-    requires right { AreRightFrom rows.now.width (rows_of rows.now) table.now 0 }
+    requires right { AreRowsRightFrom rows.now.width (rows_of rows.now) table.now 0 }
     ensures { OnOk result (AreLeastSteps rows.now.width (rows_of rows.now) (node_number table.now) steps.new.items) }
 {
     let mut node = Node::start();
@@ -62,7 +62,7 @@ fn best_step<L: LeastLengths>(
     method: Method,
 ) -> Step
     requires row { row < rows.now.count }
-    requires right { AreRightFrom rows.now.width (rows_of rows.now) table.now 0 }
+    requires right { AreRowsRightFrom rows.now.width (rows_of rows.now) table.now 0 }
     requires ink { 0 < outside (node_number table.now) row method }
     ensures { IsBestStep rows.now.width (rows_of rows.now) (node_number table.now) row method result }
 {

@@ -1,6 +1,6 @@
 -- Each page of a job was asked with something.
 use Rattle.std.proofs.Common.{◌≡◌, ℕ, List, length, refl, ap, arith}
-use Rattle.pcl_same.proofs.Names.{Profile, rest_grows, at_start, Dpi, Asks, HasPagesBy, HasAsksBy, performance_of, pages_of, Sheet}
+use Rattle.pcl_same.proofs.Names.{Profile, rest_grows, at_start, Dpi, Asks, HasPagesBy, HasAsksBy, performance, pages_of, Sheet}
 
 -- a job has one list of pages
 abbrev pub OnePages : Profile → Type 0
@@ -12,7 +12,7 @@ pub asked_pages : {profile : Profile} → OnePages profile → {dpi : Dpi} {job 
     → HasPagesBy profile dpi job pages → HasAsksBy profile dpi job asks
     → length asks.pages ≡ length pages
 asked_pages {profile} one {dpi} {job} {pages} meaning asked =
-    let whole = performance_of profile dpi job asked.commands in
+    let whole = performance profile dpi (length job) asked.commands in
     let again : HasPagesBy profile dpi job (pages_of whole) =
     record { commands = asked.commands; reading = asked.reading; accepted = asked.accepted; ejected = refl } in
     let grown = rest_grows dpi (length job) asked.commands 0 asked.commands (at_start profile) in

@@ -1,6 +1,6 @@
 -- Rows kept as row data, and rows beside them.
 use Rattle.std.proofs.Common.{◌≡◌, ℕ, zero, suc, ◌+◌, ◌-◌, ◌<◌, ◌≤◌, List, [], ◌∷◌, ◌++◌, length, take, drop, replicate, false, refl, sym, ap, ◌∙◌, inl, inr, add-one, arith}
-use Rattle.pcl_same.proofs.Names.{slice_index, cases_lt, length-append, length-drop, get_or_append_left, get_or_push, take-append-le, drop-append-le, take-replicate, take-append_seam, drop-append_seam, take-length, Dpi, Delta, page_width, page_height, page_row_bytes, Picture, IsPicture, row_of, dot_of_row, dot, same_dots, row_small, Decodes, decoded, decoded_is, KeptBitmap, IsFirstDot, piece, row_above, MakesRow, IsFirstDotOfRow, IsPiece, data_of, KeepsPicture}
+use Rattle.pcl_same.proofs.Names.{slice_index, cases_lt, length-append, length-drop, get_or_append_left, get_or_push, take-append-le, drop-append-le, take-replicate, take-append_seam, drop-append_seam, take-length, Dpi, Delta, page_width, page_height, page_row_bytes, Picture, IsPicture, row_of, dot_of_row, dot, same_dots, row_small, Decodes, decoded, decoded_is, KeptBitmap, IsFirstDot, piece, picture_row_above, MakesRow, IsFirstDotOfRow, IsKeptPiece, data_of, KeepsPicture}
 use Rattle.pcl_base.specs.declared.size.Size.{Size}
 use Rattle.pcl_coders.specs.Coding.{AppendsLeast}
 use Rattle.pcl_same.specs.inner.Rows.{Appends, AppendsRowData}
@@ -9,7 +9,7 @@ use Rattle.pcl_same.specs.inner.Rows.{Appends, AppendsRowData}
 
 -- row k is a piece, and is kept
 abbrev pub IsRow : Picture → List ℕ → List ℕ → ℕ → Type 0
-IsRow p bytes starts k = IsPiece bytes starts k × MakesRow p k (piece bytes starts k)
+IsRow p bytes starts k = IsKeptPiece bytes starts k × MakesRow p k (piece bytes starts k)
 
 -- the first rows are kept
 pub record KeepsRows (p : Picture) (bytes starts : List ℕ) (count : ℕ) : Type 0 where
@@ -94,17 +94,17 @@ height_is p h s d = rw (← s, ← d) h
 -- ---- the row above
 
 -- the front of zeros is the row above the topmost
-pub white_above : (p : Picture) → take (page_row_bytes p.size p.dpi) (replicate 600 0) ≡ row_above p 0
+pub white_above : (p : Picture) → take (page_row_bytes p.size p.dpi) (replicate 600 0) ≡ picture_row_above p 0
 white_above p = take-replicate (page_row_bytes p.size p.dpi) 600 0 (row_small p.size p.dpi)
 
 -- a row that was copied to the front of a buffer is the row above the next
 pub next_above : (p : Picture) (y : ℕ) {n : ℕ} {row copied : List ℕ} (rest : List ℕ) → row ≡ row_of p y → copied ≡ row → length row ≡ n
-    → take n (copied ++ rest) ≡ row_above p (y + 1)
+    → take n (copied ++ rest) ≡ picture_row_above p (y + 1)
 next_above p y {n} {row} {copied} rest is same long = rw (← long, ← same, add-one) (take-append_seam copied rest ∙ same ∙ is)
 
 -- what row data makes over the front of a buffer
-pub made_over : (p : Picture) (y : ℕ) {n : ℕ} (buffer row bytes : List ℕ) {made : List ℕ} → take n buffer ≡ row_above p y
-    → length row ≡ n → made ≡ decoded Delta (take (length row) buffer) bytes → made ≡ decoded Delta (row_above p y) bytes
+pub made_over : (p : Picture) (y : ℕ) {n : ℕ} (buffer row bytes : List ℕ) {made : List ℕ} → take n buffer ≡ picture_row_above p y
+    → length row ≡ n → made ≡ decoded Delta (take (length row) buffer) bytes → made ≡ decoded Delta (picture_row_above p y) bytes
 made_over p y buffer row bytes above long d = rw (← above, ← long) d
 
 -- ---- two bitmaps beside the same row data
@@ -132,7 +132,7 @@ module _ {kept : Picture} (other : Picture) {held : KeptBitmap} {count : ℕ} (i
   heights = cc (sizes, resolutions)
 
   -- the rows are the same up to the first one that isn't compared yet
-  above_same : (k : ℕ) → k ≤ count → row_above kept k ≡ row_above other k
+  above_same : (k : ℕ) → k ≤ count → picture_row_above kept k ≡ picture_row_above other k
   above_same zero le = rw (sizes, resolutions) refl
   above_same (suc k) le =
       rw (above_same k (omega arith)) at (keeps.rows k (omega (arith, heights))) ∙ sym (makes k (omega arith))
@@ -145,7 +145,7 @@ module _ {kept : Picture} (other : Picture) {held : KeptBitmap} {count : ℕ} (i
 
   -- a row is found to differ
   pub row_differs : {x : ℕ} {made row : List ℕ} → count < page_height other.size other.dpi
-      → made ≡ decoded Delta (row_above other count) (data_of held count) → row ≡ row_of other count
+      → made ≡ decoded Delta (picture_row_above other count) (data_of held count) → row ≡ row_of other count
       → ((px : ℕ) → page_width other.size other.dpi ≤ px → dot_of_row row px ≡ false) → IsFirstDotOfRow made row x
       → IsFirstDot (page_width kept.size kept.dpi) (page_height kept.size kept.dpi) (dot kept) (dot other) x count
   row_differs {x} {made} {row} down read row_is pads first =

@@ -11,7 +11,7 @@ pub use Rattle.pcl_rows.proofs.{Decoded.decoded_is}
 pub use Rattle.pcl_page.proofs.{Jobs.accepted_pages, Jobs.has_pages, Jobs.rest_grows}
 pub use Rattle.pcl_page.specs.{Asks.next_page}
 pub use Rattle.pcl_page.specs.declared.{asks.AskedPage.AskedPage}
-pub use Rattle.pcl_page.proofs.Names.{AllAlike, AreAlike, Asks, Hands, HasAsksBy, HasPagesBy, IsRefusalBy, Sheet, Shows, asks_of, at_start, exit_of, is_black, pages_of, performance_of}
-pub use Rattle.pcl_same.specs.{Comparing.AreReadBy, Comparing.Compare, Comparing.CompareAsks, Comparing.IsAnsweredByOne, Comparing.IsAskedComparisonBy, Comparing.IsComparisonCounting, Comparing.IsAskedComparison, Comparing.IsComparedBy, Comparing.IsCompared, Comparing.IsComparedAskedBy, Comparing.IsComparedAsked, Comparing.IsComparisonBy, Comparing.IsComparison, Comparing.of_pages, Differing.DifferBy, Differing.DifferFirst, Differing.IsFirstDot, DifferingAsks.AsksDifferBy, DifferingAsks.DifferAt, DifferingAsks.ExitsDifferBy, DifferingAsks.HaveSameSettings, DifferingAsks.IsAskedBy, DifferingAsks.IsFirstSetting, DifferingAsks.as_counted, DifferingAsks.counted_exits, DifferingAsks.is_end, DifferingAsks.order_of, DifferingAsks.setting_of, DifferingDots.differ, Keeping.IsComparedBeside, Keeping.IsCountedBeside, Keeping.IsKept, Kept.KeepAll, Kept.KeepAllIfAny, Kept.KeepsMore, Kept.KeepsPicture, Kept.KeepsWithin, Kept.MakesRow, Kept.data_of, Kept.piece, Kept.row_above}
+pub use Rattle.pcl_page.proofs.Names.{AllAlike, AreAlike, Asks, Hands, HasAsksBy, HasPagesBy, IsRefusalBy, Sheet, Shows, asks_of, at_start, exit_of, is_black, pages_of, performance}
+pub use Rattle.pcl_same.specs.{Comparing.AreReadBy, Comparing.Compare, Comparing.CompareAsks, Comparing.IsAnsweredByOne, Comparing.IsAskedComparisonBy, Comparing.IsComparisonCounting, Comparing.IsAskedComparison, Comparing.IsComparedBy, Comparing.IsCompared, Comparing.IsComparedAskedBy, Comparing.IsComparedAsked, Comparing.IsComparisonBy, Comparing.IsComparison, Comparing.of_pages, Differing.DifferBy, Differing.DifferFirst, Differing.IsFirstDot, DifferingAsks.AsksDifferBy, DifferingAsks.DifferAt, DifferingAsks.ExitsDifferBy, DifferingAsks.HaveSameSettings, DifferingAsks.IsAskedBy, DifferingAsks.IsFirstSetting, DifferingAsks.as_counted, DifferingAsks.counted_exits, DifferingAsks.is_end, DifferingAsks.order_of, DifferingAsks.setting_of, DifferingDots.differ, Keeping.IsComparedBeside, Keeping.IsCountedBeside, Keeping.IsKept, Kept.KeepAll, Kept.KeepAllIfAny, Kept.KeepsMore, Kept.KeepsPicture, Kept.KeepsWithin, Kept.MakesRow, Kept.data_of, Kept.piece, Kept.picture_row_above}
 pub use Rattle.pcl_same.specs.declared.{comparison.AskedComparison.AskedComparison, comparison.AsksDifference.AsksDifference, comparison.AsksDifference.TheVariants.Exit, comparison.AsksDifference.TheVariants.ExitCount, comparison.AsksDifference.TheVariants.Lasting, comparison.AskedDifference.AskedDifference, comparison.Setting.Setting, comparison.PageComparison.PageComparison, comparison.PageComparison.TheVariants.Same, comparison.Difference.Difference, comparison.Difference.TheVariants.Copies, comparison.Difference.TheVariants.Dot, comparison.Difference.TheVariants.Size, comparison.ExitDifference.ExitDifference, comparison.PagesDifference.PagesDifference, comparison.SettingDifference.SettingDifference, fault.Which.TheVariants.First, fault.Which.TheVariants.Second, fault.SameFault.SameFault, fault.SameFault.TheVariants.Memory, keeping.KeptJob.KeptJob, keeping.KeptPage.KeptPage, kept_bitmap.KeptBitmap.KeptBitmap}
-pub use Rattle.pcl_same.specs.inner.{Asking.IsExitDifference, Asking.IsSettingDifference, Pages.Compared, Pages.ComparesNext, Pages.FindAll, Pages.IsAlike, Pages.PagesDifferBy, Pages.IsFirstFound, Pages.IsFoundNext, Pages.PagesDiffer, Pages.comparison_of, Rows.IsFirstBit, Rows.IsFirstDotOfRow, Rows.IsPiece}
+pub use Rattle.pcl_same.specs.inner.{Asking.IsExitDifference, Asking.IsSettingDifference, Pages.Compared, Pages.ComparesNext, Pages.FindAll, Pages.IsAlike, Pages.PagesDifferBy, Pages.IsFirstFound, Pages.IsFoundNext, Pages.PagesDiffer, Pages.comparison_of, Rows.IsFirstBit, Rows.IsFirstDotOfRow, Rows.IsKeptPiece}

@@ -125,6 +125,6 @@ IsAskedComparison widest dpi first second comparison = IsComparedAsked widest dp
 -- ---- faults
 
 -- the fault of one of the jobs
-abbrev pub fault_of : Which → JobFault → SameFault
-fault_of which (job.Refused refusal) = Refused which refusal
-fault_of which job.Memory = Memory
+abbrev pub fault_of_one : Which → JobFault → SameFault
+fault_of_one which (job.Refused refusal) = Refused which refusal
+fault_of_one which job.Memory = Memory

@@ -21,13 +21,13 @@ abbrev pub piece : List ℕ → List ℕ → ℕ → List ℕ
 piece bytes starts k = slice_range bytes (slice_index starts k) (slice_index starts (k + 1))
 
 -- the row above row y, white above the topmost one
-abbrev pub row_above : Picture → ℕ → List ℕ
-row_above p zero = replicate (page_row_bytes p.size p.dpi) 0
-row_above p (suc y) = row_of p y
+abbrev pub picture_row_above : Picture → ℕ → List ℕ
+picture_row_above p zero = replicate (page_row_bytes p.size p.dpi) 0
+picture_row_above p (suc y) = row_of p y
 
 -- data makes row y over the row above it
 abbrev pub MakesRow : Picture → ℕ → List ℕ → Type 0
-MakesRow p y bytes = row_of p y ≡ decoded Delta (row_above p y) bytes
+MakesRow p y bytes = row_of p y ≡ decoded Delta (picture_row_above p y) bytes
 
 -- ---- pages
 

@@ -5,7 +5,7 @@ ghost use Rattle.pcl_page.specs.Asks.{asks_of};
 ghost use Rattle.pcl_same.specs.Comparing.{of_pages, CompareAsks};
 ghost use Rattle.pcl_same.specs.DifferingAsks.{as_counted};
 ghost use Rattle.pcl_same.specs.Keeping.{IsKept, IsComparedBeside, IsCountedBeside};
-ghost use Rattle.pcl_same.specs.inner.Pages.{IsFound, PagesDifferBy, comparison_of};
+ghost use Rattle.pcl_same.specs.inner.Pages.{IsFoundBeside, PagesDifferBy, comparison_of};
 
 use crate::asking::{LastExit, asks_difference};
 use crate::keeping::{KeptJob, KeptPage};
@@ -94,7 +94,7 @@ fn pages_difference(count: usize, found: &[Option<Difference>]) -> Option<PagesD
 
 /// How a page differs from one that is kept.
 fn difference(kept: &KeptPage, page: &Page) -> Option<Difference>
-    ensures { IsFound kept.now page.now result }
+    ensures { IsFoundBeside kept.now page.now result }
 {
     if kept.bitmap.size != page.size || kept.bitmap.dpi != page.dpi {
         return Some(Difference::Size {

@@ -1,7 +1,7 @@
 //! Why two jobs can't be compared.
 
 ghost use Rattle.std.specs.Prelude.{◌≡◌};
-ghost use Rattle.pcl_same.specs.Comparing.{fault_of};
+ghost use Rattle.pcl_same.specs.Comparing.{fault_of_one};
 
 use pcl_base::{JobFault, Refusal};
 use thiserror::Error;
@@ -27,7 +27,7 @@ pub enum SameFault {
 impl SameFault {
     /// The fault of one of the jobs.
     pub fn of(which: Which, fault: JobFault) -> SameFault
-        ensures { result ≡ fault_of which fault }
+        ensures { result ≡ fault_of_one which fault }
     {
         match fault {
             JobFault::Refused(refusal) => SameFault::Refused { which, refusal },

@@ -3,7 +3,7 @@
 ghost use Rattle.std.specs.Prelude.{◌≡◌, ◌+◌, ℕ, ◌<◌, length, IfOk};
 ghost use Rattle.pcl_base.specs.Size.{page_height};
 ghost use Rattle.pcl_bitmap.specs.Bitmap.{Picture, IsPicture};
-ghost use Rattle.pcl_same.specs.inner.Rows.{IsPiece};
+ghost use Rattle.pcl_same.specs.inner.Rows.{IsKeptPiece};
 
 use crate::bits::first_dot_of_row;
 use crate::row_data::append_row;
@@ -24,7 +24,7 @@ pub struct KeptBitmap {
     /// Where the data of each row begins, and where that of the last one ends. Most rows have no data, so that these take more memory.
     pub starts: Vec<u32>,
     ghost count: { length starts.items ≡ page_height size dpi + 1 },
-    ghost pieces: { (y : ℕ) → y < page_height size dpi → IsPiece data.items starts.items y },
+    ghost pieces: { (y : ℕ) → y < page_height size dpi → IsKeptPiece data.items starts.items y },
 }
 
 impl KeptBitmap {

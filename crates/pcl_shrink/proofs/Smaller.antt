@@ -1,6 +1,6 @@
 -- Smaller jobs with the same pages, which ask for the same.
 use Rattle.std.proofs.Common.{◌≡◌, ℕ, ◌<◌, List, [], ◌∷◌, length, Option, Some, None, refl, sym, subst, arith}
-use Rattle.pcl_shrink.proofs.Names.{Profile, Dpi, Asks, asks_of, Sheet, HasPagesBy, HasAsksBy, AllAlike, Same, KeptJob, KeptJobs, AreKept, IsKeptAlso, IsAcceptedAlso, IsAskedComparisonBy, IsSameAlso, IsSameAt, of_job, asks_among, performance_of, said_for, IsJobOfBy, PrintsAlike, IsSmallerJob, IsBest, IsLimit}
+use Rattle.pcl_shrink.proofs.Names.{Profile, Dpi, Asks, asks_of, Sheet, HasPagesBy, HasAsksBy, AllAlike, Same, KeptJob, KeptJobs, AreKept, IsKeptAlso, IsAcceptedAlso, IsAskedComparisonBy, IsSameAlso, IsSameAt, of_job, asks_among, performance, said_for, IsJobOfBy, PrintsAlike, IsSmallerJob, IsBest, IsLimit}
 
 -- a job has one list of pages, and asks for one thing
 abbrev pub OnePages : Profile → Type 0
@@ -41,7 +41,7 @@ same_as_itself {profile} {dpi} {job} {pages} {asks} meaning asked = record {
 
 -- a job that is accepted asks for something
 accepted_asks : {profile : Profile} {dpi : Dpi} {job : List ℕ} {pages : List Sheet} → (h : HasPagesBy profile dpi job pages)
-    → HasAsksBy profile dpi job (of_job job (asks_among (performance_of profile dpi job h.commands)))
+    → HasAsksBy profile dpi job (of_job job (asks_among (performance profile dpi (length job) h.commands)))
 accepted_asks h = record { commands = h.commands; reading = h.reading; accepted = h.accepted; asked = refl }
 
 kept_also : (profile : Profile) (also : Option Dpi) (job : List ℕ) (kept : Option KeptJob) → IsKeptAlso profile also job kept

@@ -1,6 +1,6 @@
 -- Performing and unfolding say the same.
 use Rattle.std.proofs.Common.{◌≡◌, ◌++◌, append_assoc, length-append, ℕ, ◌+◌, ◌-◌, zero, suc, Bool, true, false, List, [], ◌∷◌, length, Option, Some, None, Result, Ok, Err, refl, sym, ap, subst, ◌∙◌, if◌then◌else◌, arith, ◌&&◌}
-use Rattle.pcl_unfolding.proofs.Names.{end_of, option_map, Dpi, Kind, Operation, ControlMacros, Refusal, Value, macro_limit, operation_of, Settings, kept, Said, MacroBody, Action, Call, Keeping, Ends, Situation, Run, run_with, run_by, run_from, macro_ended, keeping_of, after_counted, defining, after_command, Performance, done, then_on, in_order, led_to, and_run, step, runs, after_end, Item, performed, enter, situations, now, ago, or_as_before, Unfolding, unrefused, unless, in_turn, keeps, control_in, body_run, body_said, Bodies, with_body, with_command, add, ended_by, unfolded, performed_by, PerformingIsUnfolding}
+use Rattle.pcl_unfolding.proofs.Names.{end_of, option_map, Dpi, Kind, Operation, ControlMacros, Refusal, Value, macro_limit, operation_of, Settings, kept, Said, MacroBody, Action, Call, Keeping, Ends, Situation, Run, run_with, run_by, run_from, macro_ended, keeping_of, after_counted, defining, after_command, Performance, done, then_on, in_order, led_to, and_run, step, runs, after_end, Item, performed, enter, situations, now, ago, or_as_before, Unfolding, unrefused, unfold_unless, in_turn, keeps, control_in, body_run, body_said, Bodies, with_body, with_command, add, ended_by, unfolded, performed_by, PerformingIsUnfolding}
 use Rattle.pcl_page.specs.Performing.{unless as unless_performed}
 
 -- ---- lists that go on
@@ -31,7 +31,7 @@ IsUnfoldedAs dpi items performance u = (performance ≡ performed_by dpi u) × G
 
 unfolded_on : (dpi : Dpi) {old : List Item} (why : Option Refusal) (items : List Item) (next : Situation → Performance)
     (add_next : List Item → Unfolding) → GoesOn old items → IsUnfoldedAs dpi items (next (now dpi items)) (add_next items)
-    → IsUnfoldedAs dpi old (unless_performed why (now dpi items) next) (unless why items add_next)
+    → IsUnfoldedAs dpi old (unless_performed why (now dpi items) next) (unfold_unless why items add_next)
 unfolded_on dpi None items next add_next goes each = (each.0, goes_on_more goes each.1)
 unfolded_on dpi (Some why) items next add_next goes each = (refl, goes)
 

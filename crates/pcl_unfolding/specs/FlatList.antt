@@ -84,12 +84,12 @@ abbrev pub refused : Kind → Said → List Item → Unfolding
 refused kind command items = record { items = items; refusal = Some (refusal kind command.at command.name) }
 
 -- what comes next, where nothing is refused
-abbrev pub unless : Option Refusal → List Item → (List Item → Unfolding) → Unfolding
-unless None items next = next items
-unless (Some why) items next = record { items = items; refusal = Some why }
+abbrev pub unfold_unless : Option Refusal → List Item → (List Item → Unfolding) → Unfolding
+unfold_unless None items next = next items
+unfold_unless (Some why) items next = record { items = items; refusal = Some why }
 
 abbrev pub and_on : Unfolding → (List Item → Unfolding) → Unfolding
-and_on first next = unless first.refusal first.items next
+and_on first next = unfold_unless first.refusal first.items next
 
 -- commands in order, of which the first stands at this place
 abbrev pub in_turn : (ℕ → Said → List Item → Unfolding) → ℕ → List Said → List Item → Unfolding

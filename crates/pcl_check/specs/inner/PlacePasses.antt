@@ -5,7 +5,7 @@ use Rattle.pcl_coders.specs.inner.Choosing.{IsLeastLen}
 use Rattle.pcl_base.specs.declared.method.Method.{Method}
 use Rattle.pcl_rows.specs.Elements.{Element}
 use Rattle.pcl_coders.specs.inner.Replacement.{replacement_bytes}
-use Rattle.pcl_coders.specs.RowWalks.{Leads, Ends, cost}
+use Rattle.pcl_coders.specs.RowWalks.{StepsOver, NeedsNoMore, element_cost}
 
 -- the first of two places
 abbrev pub first_found_place : Option ℕ → Option ℕ → Option ℕ
@@ -20,7 +20,7 @@ IsNotUndercut numbers values ends cost most place = (stop : ℕ) → place < sto
 
 -- 0 where no more data is needed
 abbrev pub IsGoodEnd : List ℕ → List ℕ → List ℕ → ℕ → Type 0
-IsGoodEnd old row numbers place = Ends old row place → slice_index numbers place ≡ 0
+IsGoodEnd old row numbers place = NeedsNoMore old row place → slice_index numbers place ≡ 0
 
 -- ---- elements of each kind
 
@@ -46,8 +46,8 @@ AreGoodReplacements old row numbers place = (offset len : ℕ) → 0 < len → l
 
 -- all elements
 abbrev pub AreGoodSteps : Method → List ℕ → List ℕ → List ℕ → ℕ → Type 0
-AreGoodSteps method old row numbers place = (e : Element) (next : ℕ) → Leads method old row place e next
-    → slice_index numbers place ≤ cost e + slice_index numbers next
+AreGoodSteps method old row numbers place = (e : Element) (next : ℕ) → StepsOver method old row place e next
+    → slice_index numbers place ≤ element_cost e + slice_index numbers next
 
 -- ---- where steps stop at the latest, for the places from one on
 

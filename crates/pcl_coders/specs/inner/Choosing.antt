@@ -3,7 +3,7 @@ use Rattle.std.specs.Prelude.{◌≡◌, ◌≢◌, ℕ, ◌+◌, ◌*◌, ◌<�
 use Rattle.pcl_base.specs.Limits.{row_limit}
 use Rattle.pcl_base.specs.declared.method.Method.{Method}
 use Rattle.pcl_rows.specs.Elements.{Element, IsElement, stop}
-use Rattle.pcl_coders.specs.RowWalks.{Agrees, cost}
+use Rattle.pcl_coders.specs.RowWalks.{Agrees, element_cost}
 
 -- among the lengths from one to another, one whose bytes and number are the least together: `head` bytes,
 -- `each` more for each of its own, and the number after them
@@ -28,8 +28,8 @@ pub record IsChoice (method : Method) (old wanted numbers : List ℕ) (e : Eleme
   pub element : IsElement method e
   pub agrees : Agrees old wanted e
   pub goes_on : 0 < stop e
-  pub sum_is : sum ≡ cost e + slice_index numbers (stop e)
-  pub least : (d : Element) → IsElement method d → Agrees old wanted d → 0 < stop d → sum ≤ cost d + slice_index numbers (stop d)
+  pub sum_is : sum ≡ element_cost e + slice_index numbers (stop e)
+  pub least : (d : Element) → IsElement method d → Agrees old wanted d → 0 < stop d → sum ≤ element_cost d + slice_index numbers (stop d)
 
 -- wanted bytes, some and not too many, and a number for each of their places and for their end
 pub record IsPlace (wanted numbers : List ℕ) : Type 0 where

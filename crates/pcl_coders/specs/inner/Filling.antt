@@ -4,21 +4,21 @@ use Rattle.pcl_base.specs.Limits.{row_limit}
 use Rattle.pcl_base.specs.declared.method.Method.{Method}
 use Rattle.pcl_rows.specs.Elements.{Element, IsElement, element_bytes, stop}
 use Rattle.pcl_base.specs.Walks.{Walk, total}
-use Rattle.pcl_coders.specs.RowWalks.{Agrees, Leads, Ends, cost}
+use Rattle.pcl_coders.specs.RowWalks.{Agrees, StepsOver, NeedsNoMore, element_cost}
 
 -- an element that goes on from a place of the row, and begins what the number of the place counts
 pub record IsNext (method : Method) (old row table : List ℕ) (place : ℕ) (e : Element) : Type 0 where
   pub element : IsElement method e
   pub agrees : Agrees (drop place old) (drop place row) e
   pub goes_on : 0 < stop e
-  pub number_is : slice_index table place ≡ cost e + slice_index table (place + stop e)
+  pub number_is : slice_index table place ≡ element_cost e + slice_index table (place + stop e)
 
 -- the number of a place is right, where those after it are
 pub record IsPlaceNumber (method : Method) (old row table : List ℕ) (place : ℕ) : Type 0 where
   pub steps : (e : Element) → IsElement method e → Agrees (drop place old) (drop place row) e
-      → slice_index table place ≤ cost e + slice_index table (place + stop e)
-  pub ends : Ends old row place → slice_index table place ≡ 0
-  pub attained : Ends old row place ⊎ ((e : Element) × IsNext method old row table place e)
+      → slice_index table place ≤ element_cost e + slice_index table (place + stop e)
+  pub ends : NeedsNoMore old row place → slice_index table place ≡ 0
+  pub attained : NeedsNoMore old row place ⊎ ((e : Element) × IsNext method old row table place e)
   pub small : slice_index table place ≤ 2 * (length row - place)
 
 -- the numbers from a place on are right
@@ -28,8 +28,8 @@ AreRightFrom method old row table from = (place : ℕ) → from ≤ place → pl
 -- the first place from which no more data is needed
 pub record IsFirstEnd (old row : List ℕ) (end : ℕ) : Type 0 where
   pub within : end ≤ length row
-  pub ends : Ends old row end
-  pub first : (place : ℕ) → Ends old row place → end ≤ place
+  pub ends : NeedsNoMore old row end
+  pub first : (place : ℕ) → NeedsNoMore old row place → end ≤ place
 
 -- a table that is filled where no more data is needed: with 0 from the first such place on
 pub record HasZeros (old row table : List ℕ) (end : ℕ) : Type 0 where
@@ -61,6 +61,6 @@ pub record HasLiteralEnd (table : List ℕ) (end place best : ℕ) : Type 0 wher
 -- now is before with the bytes of a walk that costs the number of the first place
 pub record AppendsWalk (method : Method) (old row table before now : List ℕ) : Type 0 where
   pub steps : List Element
-  pub walk : Walk (Leads method old row) (Ends old row) 0 steps
-  pub total_is : total cost steps ≡ slice_index table 0
+  pub walk : Walk (StepsOver method old row) (NeedsNoMore old row) 0 steps
+  pub total_is : total element_cost steps ≡ slice_index table 0
   pub joined : now ≡ before ++ flat_map element_bytes steps

@@ -178,8 +178,8 @@ read_outcome profile (suc steps) (Some prefix) at bytes =
     (λ reads. read_outcome profile steps reads.inside (at + (length bytes - length reads.rest)) reads.rest)
 
 -- each step but the last takes a byte
-abbrev pub outcome_of : Profile → List ℕ → Result (List Said) Refusal
-outcome_of profile job = read_outcome profile (suc (length job)) None 0 job
+abbrev pub scan_outcome : Profile → List ℕ → Result (List Said) Refusal
+scan_outcome profile job = read_outcome profile (suc (length job)) None 0 job
 
 -- what a function returned is the outcome, with the commands that it gave, unless memory ran out
 abbrev pub Yields : Result (Unit {0}) JobFault → List Said → Result (List Said) Refusal → Type 0

@@ -31,7 +31,7 @@ use Rattle.pcl_page.specs.Asks.{with_page, asks_of}
 use Rattle.pcl_page.specs.Marks.{Mark, is_black, dot_at}
 use Rattle.pcl_page.specs.Text.{dots_per_bit}
 use Rattle.pcl_page.specs.Raster.{Raster, raster_from, row_sent, with_row, row_mark, ends_raster}
-use Rattle.pcl_page.specs.Situation.{Sheet, Situation, settings_below, is_marked, turned, at_end, page_refusal, after_checked}
+use Rattle.pcl_page.specs.Situation.{Sheet, Situation, settings_below, is_marked, turned, at_end, page_refusal, after, counted_in_limit, within_page_limit, ◌|>◌}
 use Rattle.pcl_page.specs.Delivering.{Hands}
 
 -- a bitmap shows marks
@@ -52,8 +52,8 @@ pub record IsIn (dpi : Dpi) (s : Situation) (performer : Performer) : Type 0 whe
   pub sized : is_marked s ≡ true → performer.page.bitmap.size ≡ s.settings.size
 
 -- no dot is black
-abbrev pub IsWhite : Picture → Type 0
-IsWhite bitmap = (x y : ℕ) → x < page_width bitmap.size bitmap.dpi → y < page_height bitmap.size bitmap.dpi → dot bitmap x y ≡ false
+abbrev pub IsBlank : Picture → Type 0
+IsBlank bitmap = (x y : ℕ) → x < page_width bitmap.size bitmap.dpi → y < page_height bitmap.size bitmap.dpi → dot bitmap x y ≡ false
 
 -- the page has this size: it is the same where it had that already, and white where it was white
 pub record IsFollowed (size : Size) (old new : Performer) : Type 0 where
@@ -67,7 +67,7 @@ pub record IsFollowed (size : Size) (old new : Performer) : Type 0 where
   pub size_is : new.page.bitmap.size ≡ size
   pub resolution : new.page.bitmap.dpi ≡ old.page.bitmap.dpi
   pub same : old.page.bitmap.size ≡ size → new.page.bitmap ≡ old.page.bitmap
-  pub white : IsWhite old.page.bitmap → IsWhite new.page.bitmap
+  pub white : IsBlank old.page.bitmap → IsBlank new.page.bitmap
 
 -- the page that was asked with this was handed over, and a white one of its size begins
 pub record IsEjected (asked : Asked) (old new : Performer) : Type 0 where
@@ -80,7 +80,7 @@ pub record IsEjected (asked : Asked) (old new : Performer) : Type 0 where
   pub asks : asks_of new.asks ≡ with_page asked (asks_of old.asks)
   pub size : new.page.bitmap.size ≡ old.page.bitmap.size
   pub resolution : new.page.bitmap.dpi ≡ old.page.bitmap.dpi
-  pub white : IsWhite new.page.bitmap
+  pub white : IsBlank new.page.bitmap
 
 -- the page is the performer's with these copies
 pub record IsHanded (copies : ℕ) (performer : Performer) (page : Page) : Type 0 where
@@ -136,8 +136,8 @@ pub record IsInked (mark : Mark) (performer : Performer) : Type 0 where
       → dot performer.page.bitmap x y ≡ true
 
 -- the dots of a character of a font, with the cursor at a dot
-abbrev pub character_at : Dpi → FontInfo → Character → ℕ → ℕ → Mark
-character_at dpi font c x y = record {
+abbrev pub drawn_character : Dpi → FontInfo → Character → ℕ → ℕ → Mark
+drawn_character dpi font c x y = record {
   covers = pattern_dot (pos x +ℤ c.left *ℤ pos (dots_per_bit dpi font.resolution))
       (pos y -ℤ c.top *ℤ pos (dots_per_bit dpi font.resolution)) (dots_per_bit dpi font.resolution) c.width c.height c.rows;
   ink = Black;
@@ -153,7 +153,7 @@ pub record IsAtCursor (dpi : Dpi) (here : Printed) (s : Settings) : Type 0 where
 abbrev pub IsLastInked : Dpi → FontInfo → (ℕ → Option Character) → Option Printed → Performer → Type 0
 IsLastInked dpi font characters None performer = Unit {0}
 IsLastInked dpi font characters (Some last) performer =
-    (c : Character) → characters last.code ≡ Some c → IsInked (character_at dpi font c last.x last.y) performer
+    (c : Character) → characters last.code ≡ Some c → IsInked (drawn_character dpi font c last.x last.y) performer
 
 -- something became of fonts, and all else is as before
 pub record HasEvent (event : FontEvent) (old new : Performer) : Type 0 where
@@ -208,6 +208,10 @@ IsTurned {S} takes dpi (Some done) s (Err (Refused kind)) new old_sink new_sink 
 IsTurned {S} takes dpi None s (Ok unit) new old_sink new_sink = ⊥
 IsTurned {S} takes dpi None s (Err (Refused kind)) new old_sink new_sink = (kind ≡ UnsupportedValue) × (new_sink ≡ old_sink)
 IsTurned {S} takes dpi outcome s (Err Memory) new old_sink new_sink = new_sink ≡ old_sink
+
+-- the situation after a command that counts, the page that it ejects among its pages, or the first reason to refuse it; macros aside
+abbrev pub after_checked : Dpi → Said → Situation → Result Situation Kind
+after_checked dpi command s = counted_in_limit s |> after dpi (operation_of command.name) command |> within_page_limit
 
 -- a command was performed, or it is refused, or memory ran out, before the page was handed over that it ejects or after that
 abbrev pub IsHandled : {S : Type 0} → (S → Page → S → Type 0) → Dpi → Said → Situation → Result Operation CallFault → Performer → S → S

@@ -69,6 +69,6 @@ pub record IsRowRight (width : ℕ) (rows : List (List ℕ)) (number : Node → 
   pub small : (a : Node) → a.row ≡ row → number a ≤ 65544 * (length rows - row) + 1
 
 -- the numbers of a table are right from a row on
-pub record AreRightFrom (width : ℕ) (rows : List (List ℕ)) (table : List RowNumbers) (from : ℕ) : Type 0 where
+pub record AreRowsRightFrom (width : ℕ) (rows : List (List ℕ)) (table : List RowNumbers) (from : ℕ) : Type 0 where
   pub size : length table ≡ length rows + 1
   pub right : (row : ℕ) → from ≤ row → row ≤ length rows → IsRowRight width rows (node_number table) row

@@ -31,8 +31,8 @@ PagesDiffer one other (Some (difference.Dot x y)) =
     × IsFirstDot (page_width one.size one.dpi) (page_height one.size one.dpi) (dot one.bitmap) (dot other.bitmap) x y
 
 -- what is found of a page beside a kept one
-abbrev pub IsFound : KeptPage → Page → Option Difference → Type 0
-IsFound kept other found = (page : Page) → KeepsPage page kept → page.dpi ≡ other.dpi → PagesDiffer page other found
+abbrev pub IsFoundBeside : KeptPage → Page → Option Difference → Type 0
+IsFoundBeside kept other found = (page : Page) → KeepsPage page kept → page.dpi ≡ other.dpi → PagesDiffer page other found
 
 -- the kept pages, and what was found of each page so far
 pub record Compared : Type 0 where
@@ -45,7 +45,7 @@ compared a = record { kept = a.kept.now; found = a.found.items }
 -- what is found of a page by the kept pages that are left: nothing is said where there is none
 abbrev pub IsFoundNext : List KeptPage → Page → Option Difference → Type 0
 IsFoundNext [] page found = Unit {0}
-IsFoundNext (kept ∷ later) page found = IsFound kept page found
+IsFoundNext (kept ∷ later) page found = IsFoundBeside kept page found
 
 -- a page is compared with the kept one of its number
 pub record ComparesNext (old : Compared) (page : Page) (new : Compared) : Type 0 where

@@ -37,6 +37,6 @@ pub record AppendsRowData (above row old new : List ℕ) : Type 0 where
   pub decodes : row ≡ decoded Delta above bytes
 
 -- a piece of the bytes begins at start number k and ends at the next
-pub record IsPiece (bytes starts : List ℕ) (k : ℕ) : Type 0 where
+pub record IsKeptPiece (bytes starts : List ℕ) (k : ℕ) : Type 0 where
   pub order : slice_index starts k ≤ slice_index starts (k + 1)
   pub within : slice_index starts (k + 1) ≤ length bytes

@@ -1,5 +1,5 @@
 use Rattle.std.proofs.Common.{◌≡◌, ◌+◌, ◌-◌, ◌<◌, ℕ, length, sym, subst, ◌∙◌, arith}
-use Rattle.pcl_plan.proofs.Names.{rows_of, AreRightFrom, length_rows, no_rows, run_end, white_to_end}
+use Rattle.pcl_plan.proofs.Names.{rows_of, AreRowsRightFrom, length_rows, no_rows, run_end, white_to_end}
 use Rattle.pcl_plan.proofs.Filled.{IsPut, put_white, put_inked, put_last}
 use Rattle.pcl_plan.proofs.fill.fill.Goals as goal
 use Rattle.pcl_plan.proofs.fill.fill.Goals.{then-row-run, else-row-run}
@@ -22,7 +22,7 @@ loop-row-preserved g c =
     let count = length_rows rows.count rows.width rows.bytes.now in
     let row : ℕ = c.loop-row.row - 1 in
     let after : c.loop-row.row ≡ row + 1 = omega arith in
-    let beyond = subst (AreRightFrom rows.width (rows_of rows) c.loop-row.table) after c.loop-row.invariant.right in
+    let beyond = subst (AreRowsRightFrom rows.width (rows_of rows) c.loop-row.table) after c.loop-row.invariant.right in
     let put : IsPut c.loop-row.table c.put-in-loop-row.new.self row c.if-row-run.numbers = record {
       size = c.put-in-loop-row.ensures.rows;
       changed = c.put-in-loop-row.ensures.changed;

@@ -1,9 +1,9 @@
 use Rattle.std.proofs.Common.{◌+◌, ◌<◌, ℕ, List, false, arith}
-use Rattle.pcl_plan.proofs.Names.{by_method, rows_of, Rows, RowNumbers, IsReadable, AreRightFrom, IsWhiteRun, length_rows, node, length_small, row_cost_small}
+use Rattle.pcl_plan.proofs.Names.{by_method, rows_of, Rows, RowNumbers, IsReadable, AreRowsRightFrom, IsWhiteRun, length_rows, node, length_small, row_cost_small}
 use Rattle.pcl_plan.proofs.Filled.{readable, direct_of_start}
 use Rattle.pcl_plan.proofs.fill.row_numbers.Goals as goal
 
-readable_rows : (rows : Rows) {table : List RowNumbers} {row run : ℕ} → AreRightFrom rows.width (rows_of rows) table (row + 1)
+readable_rows : (rows : Rows) {table : List RowNumbers} {row run : ℕ} → AreRowsRightFrom rows.width (rows_of rows) table (row + 1)
     → IsWhiteRun (rows_of rows) row run → row + run < rows.count → IsReadable table row run
 readable_rows rows {table} {row} {run} right is ink =
     let count = length_rows rows.count rows.width rows.bytes.now in

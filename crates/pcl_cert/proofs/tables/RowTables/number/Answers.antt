@@ -1,5 +1,5 @@
 use Rattle.std.proofs.Common.{◌≡◌, ◌<◌, ◌≤◌, ℕ, List, drop, sym, ◌∙◌, arith}
-use Rattle.pcl_cert.proofs.Names.{contents, count_of}
+use Rattle.pcl_cert.proofs.Names.{contents, count_at_front}
 use Rattle.pcl_cert.proofs.Written.{number_there, number_past, list_within}
 use Rattle.pcl_cert.proofs.tables.RowTables.number.Goals as goal
 
@@ -9,7 +9,7 @@ returns-then-place-from c =
     let bytes : List ℕ = contents c.self.inside.bytes in
     let start : ℕ = c.index-start.result.now in
     let slice : c.as_slice-bytes.result.now ≡ bytes = c.as_slice-bytes.ensures in
-    let within : c.args.place < count_of (drop start bytes) =
+    let within : c.args.place < count_at_front (drop start bytes) =
     rw (← slice) (omega (arith, c.if-place-from.true, c.from.ensures, c.word.ensures)) in
     let lt = list_within bytes starts c.args.row c.args.method (sym c.self.view_is) c.requires c.code.ensures in
     rw (← c.self.view_is, ← c.code.ensures) (c.word-then-place-from.ensures
@@ -21,7 +21,7 @@ returns-else-place-from c =
     let bytes : List ℕ = contents c.self.inside.bytes in
     let start : ℕ = c.index-start.result.now in
     let slice : c.as_slice-bytes.result.now ≡ bytes = c.as_slice-bytes.ensures in
-    let past : count_of (drop start bytes) ≤ c.args.place =
+    let past : count_at_front (drop start bytes) ≤ c.args.place =
     rw (← slice) (omega (arith, c.if-place-from.false, c.from.ensures, c.word.ensures)) in
     let lt = list_within bytes starts c.args.row c.args.method (sym c.self.view_is) c.requires c.code.ensures in
     rw (← c.self.view_is, ← c.code.ensures) (sym (number_past bytes starts lt c.index-start.ensures past))

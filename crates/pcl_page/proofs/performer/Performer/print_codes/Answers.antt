@@ -1,5 +1,5 @@
 use Rattle.std.proofs.Common.{◌≡◌, ◌<◌, ◌∷◌, ◌+◌, ◌∙◌, List, ℕ, Some, None, length, drop, get_or, refl, sym, ap, rules, add-one, drop-cons}
-use Rattle.pcl_page.proofs.Names.{option_map, IsTrue, character_in, font_in_use, prints, character_at, IsInked}
+use Rattle.pcl_page.proofs.Names.{option_map, IsTrue, character_in, font_in_use, prints, drawn_character, IsInked}
 use Rattle.pcl_page.proofs.Printed.{same_character, code_done, blank_passed_in, inked_last, last_now, last_still}
 use Rattle.pcl_page.proofs.performer.Performer.print_codes.Goals as goal
 use Rattle.pcl_page.proofs.performer.Performer.print_codes.Goals.{in-Some+in_ok-print_glyph-in-Some, in-None}
@@ -23,7 +23,7 @@ loop-code-preserved c = λ s i.
           let is = sym (ap (option_map character_in) w.in-Some.is) ∙ found in
           let its : Some printed ≡ characters here.code =
           same_character p code (Some printed) is ∙ ap characters (sym w.at_cursor-here.ensures.code) in
-          let inked : IsTrue w.eq.result → IsInked (character_at c.args.dpi c.args.font printed here.x here.y) c.loop-code.self =
+          let inked : IsTrue w.eq.result → IsInked (drawn_character c.args.dpi c.args.font printed here.x here.y) c.loop-code.self =
           λ same. inked_last c.loop-code.last here p so_far.1 (search rules) its in
           rw (w.self-is, w.last-is) (
             code_done code (Some printed) p is (w.in_ok-print_glyph-in-Some.ensures.printed p.now code p.is_in inked),

@@ -1,5 +1,5 @@
 use Rattle.std.proofs.Common.{◌≡◌, rules, refl}
-use Rattle.pcl_page.proofs.Names.{IsTrue, character_in, character_at, Situation, Performer, IsIn, IsFollowed, IsDrawn, IsInked}
+use Rattle.pcl_page.proofs.Names.{IsTrue, character_in, drawn_character, Situation, Performer, IsIn, IsFollowed, IsDrawn, IsInked}
 use Rattle.pcl_page.proofs.Turns.{has_followed}
 use Rattle.pcl_page.proofs.Printed.{character_printed, drawn_again, inked_by, inked_still}
 use Rattle.pcl_page.proofs.performer.Performer.print_glyph.Goals as goal
@@ -7,9 +7,10 @@ use Rattle.pcl_page.proofs.performer.Performer.print_glyph.Goals.{then-not-is_in
 
 -- the character is drawn, now or before
 is_drawn : (c : goal.After-pass_glyph) (s : Situation) → IsIn c.args.dpi s c.args.self.now → (IsTrue c.args.is_inked
-    → IsInked (character_at c.args.dpi c.args.font (character_in c.args.glyph.now) c.args.here.x c.args.here.y) c.args.self.now)
+    → IsInked (drawn_character c.args.dpi c.args.font (character_in c.args.glyph.now) c.args.here.x c.args.here.y) c.args.self.now)
     → (begun : Performer) × IsFollowed c.args.self.now.environment.size c.args.self.now begun
-    × IsDrawn (character_at c.args.dpi c.args.font (character_in c.args.glyph.now) c.args.here.x c.args.here.y) begun c.if-not-is_inked.self
+    × IsDrawn (drawn_character c.args.dpi c.args.font (character_in c.args.glyph.now) c.args.here.x c.args.here.y)
+    begun c.if-not-is_inked.self
     × (c.if-not-is_inked.self.raster ≡ begun.raster)
 is_drawn c s i inked =
     elim c.if-not-is_inked.branch [
@@ -23,8 +24,8 @@ is_drawn c s i inked =
 
 -- and inked
 is_inked : (c : goal.After-pass_glyph) → (IsTrue c.args.is_inked
-    → IsInked (character_at c.args.dpi c.args.font (character_in c.args.glyph.now) c.args.here.x c.args.here.y) c.args.self.now)
-    → IsInked (character_at c.args.dpi c.args.font (character_in c.args.glyph.now) c.args.here.x c.args.here.y) c.if-not-is_inked.self
+    → IsInked (drawn_character c.args.dpi c.args.font (character_in c.args.glyph.now) c.args.here.x c.args.here.y) c.args.self.now)
+    → IsInked (drawn_character c.args.dpi c.args.font (character_in c.args.glyph.now) c.args.here.x c.args.here.y) c.if-not-is_inked.self
 is_inked c inked =
     elim c.if-not-is_inked.branch [
       | then-not-is_inked+in_ok-follow_size+in_ok-ink_glyph w ↦ rw w.self-is (inked_by refl w.in_ok-ink_glyph.ensures.drawn)

@@ -1,14 +1,16 @@
 use Rattle.std.proofs.Common.{◌≤◌, ◌∙◌, Bool, cond, Option, None, refl, sym, arith}
-use Rattle.pcl_page.proofs.Names.{err_from_is_err_and, view, Raster, rows_in, ends_raster}
+use Rattle.pcl_page.proofs.Names.{err_from_is_err_and, view, Raster, raster_rows, ends_raster}
 use Rattle.pcl_page.proofs.Turns.{prepared_in}
 use Rattle.pcl_page.proofs.Steps.{counted_in, checked_as, checked_ignored, refused_by, checked_drawn, checked_undrawn}
+use Rattle.pcl_page.specs.Situation.{after}
 use Rattle.pcl_page.proofs.performer.Performer.try_command.Goals as goal
 
 -- a raster that may have ended has no more rows than before
-rows_left : (ends : Bool) (raster : Option Raster) → rows_in (cond ends None raster) ≤ rows_in raster
+rows_left : (ends : Bool) (raster : Option Raster) → raster_rows (cond ends None raster) ≤ raster_rows raster
 rows_left ends raster = grind arith
 
 pub returns-in_default : goal.returns-in_default
+unfolding after
 returns-in_default g c = λ s i. (
   checked_as c.args.dpi (view c.args.command.now) s (omega (arith, i.performed)) (sym c.with_name.ensures ∙ c.in_default.is),
   refl,
@@ -24,7 +26,7 @@ draw-requires g c =
     let old = c.args.self.now in
     let p = c.prepare.ensures in
     let same = c.in_ok-turn.ensures.rest in
-    let few : rows_in c.turn.new.self.raster ≤ rows_in old.raster =
+    let few : raster_rows c.turn.new.self.raster ≤ raster_rows old.raster =
     rw (same.1, p.raster) (rows_left (ends_raster c.in-Some.operation) old.raster) in
     record { rows = omega (arith, few, old.few_rows, same.0 ∙ p.performed) }
 

@@ -2,7 +2,7 @@ use Rattle.std.proofs.Common.{subst, sym}
 use Rattle.pcl_base.specs.declared.dpi.Dpi.TheVariants.{Dpi300}
 use Rattle.pcl_cert.specs.Certificates.{FitFormat, proofs_in}
 use Rattle.pcl_cert.proofs.Written.{can_be_written}
-use Rattle.check_tests.proofs.tests.certificates.written_again.Goals as goal
+use Rattle.layer_tests.proofs.tests.certificates.written_again.Goals as goal
 
 pub write_certificate-requires : goal.write_certificate-requires
 write_certificate-requires g c = (
