@@ -2,7 +2,7 @@
 
 use std::alloc::Global;
 
-/// What a run works with: the files, the reader of its job, the writer of what it makes, memory, and who is told how far it has come.
+/// What a run works with: the files, the reader of its job, the writer of what it makes, memory, and the reporter of how far it has come.
 #[derive(Drop)]
 pub struct Surroundings<'f, 'r, 'w, F, R, W, P> {
     pub files: &'f mut F,

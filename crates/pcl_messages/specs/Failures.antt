@@ -23,14 +23,18 @@ IsFailureOf fault page failure = HasFailed (line_of fault page) (status_for faul
 abbrev pub IsUsageFailure : List ℕ → Failure → Type 0
 IsUsageFailure said failure = HasFailed said 2 None failure
 
+-- a file that can't be written
+abbrev pub IsUnwritten : List ℕ → Failure → Type 0
+IsUnwritten said failure = HasFailed said 3 (Some run.WriteFault) failure
+
 -- a file that can't be begun
 abbrev pub HasFailedFile : FileFault → Failure → Type 0
 HasFailedFile Memory failure = failure ≡ NoMemory
 HasFailedFile Folder failure =
-    HasFailed (codes "pclmin: cannot write: the file's folder takes no new file, which would be put in its place\n") 3 (Some run.WriteFault) failure
+    IsUnwritten (codes "pclmin: cannot write: the file's folder takes no new file, which would be put in its place\n") failure
 HasFailedFile Owner failure =
-    HasFailed (codes "pclmin: cannot write: the file is another user's, and would become this one's\n") 3 (Some run.WriteFault) failure
-HasFailedFile System failure = HasFailed (codes "pclmin: cannot write\n") 3 (Some run.WriteFault) failure
+    IsUnwritten (codes "pclmin: cannot write: the file is another user's, and would become this one's\n") failure
+HasFailedFile System failure = IsUnwritten (codes "pclmin: cannot write\n") failure
 
 -- what is said where some jobs of a batch failed
 abbrev pub jobs_line : ℕ → ℕ → List ℕ

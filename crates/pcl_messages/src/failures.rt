@@ -1,8 +1,7 @@
 //! What is to be said of a run that failed.
 
-ghost use Rattle.std.specs.Prelude.{◌≡◌, Option, None, Some, IfOk};
-ghost use Rattle.pcl_streams.specs.declared.fault.Fault.TheVariants.{WriteFault};
-ghost use Rattle.pcl_messages.specs.Failures.{HasFailed, HasFailedFile, IsFailureOf, IsFailureStatus, IsOutcome, IsUsageFailure};
+ghost use Rattle.std.specs.Prelude.{◌≡◌, None, IfOk};
+ghost use Rattle.pcl_messages.specs.Failures.{HasFailed, HasFailedFile, IsFailureOf, IsFailureStatus, IsOutcome, IsUnwritten, IsUsageFailure};
 ghost use Rattle.pcl_messages.specs.Failures.{arguments_line, clash_line, failed_fault, jobs_line, line_said, terminal_line};
 
 use crate::faults::{NO_MEMORY, TROUBLE_STATUS, USAGE_STATUS, fault_line, fault_status};
@@ -81,7 +80,7 @@ impl Failure {
 
     /// The failure for a file that can't be written, with its line.
     fn unwritten(alloc: Global, said: &[u8]) -> Failure
-        ensures { HasFailed said.now 3 (Some WriteFault) result }
+        ensures { IsUnwritten said.now result }
     {
         Failure::said(alloc, said, TROUBLE_STATUS, Some(Fault::WriteFault))
     }
