@@ -1,7 +1,7 @@
 //! A run by the words of a command line, and its status.
 
 ghost use Rattle.std.specs.Prelude.{◌⊎◌, ◌↔◌, map, IsTrue};
-ghost use Rattle.pcl_command.specs.World.{world};
+ghost use Rattle.pcl_files.specs.World.{world};
 ghost use Rattle.pcl_program.specs.Runs.{IsShown, HasRunAsked, HasRunWords, AskForBatch, IsExitStatus};
 
 use crate::rewriting::Filter;
@@ -10,7 +10,7 @@ use clap::error::ErrorKind;
 use pcl_arguments::{parse_batch, parse_request};
 use pcl_batch::run_named;
 use pcl_command::carry_out;
-use pcl_files::JobFiles;
+use pcl_files::{JobFiles, Surroundings};
 use pcl_messages::{Ending, Failure, USAGE_STATUS, refuse_terminal};
 use pcl_request::Request;
 use pcl_streams::Reporter;
@@ -100,7 +100,16 @@ pub fn run_request<F: JobFiles, R: Read, W: Write, P: Reporter>(
         Ok(request) if is_terminal && request.writes_raw() => {
             Ok(Ending::Failed(refuse_terminal(alloc)))
         }
-        Ok(request) => Ok(carry_out(files, alloc, request, reader, out, reporter)),
+        Ok(request) => {
+            let surroundings = Surroundings {
+                files,
+                reader,
+                out,
+                alloc,
+                reporter,
+            };
+            Ok(carry_out(surroundings, request))
+        }
         Err(error) => shown(error),
     }
 }
