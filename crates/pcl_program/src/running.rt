@@ -64,18 +64,14 @@ fn run_batch_words<F: JobFiles, S: AsStr, R: Read, W: Write, P: Reporter>(
         Ok(asked) => asked,
         Err(error) => return shown(error),
     };
-    let paths = &asked.paths;
-    let reporter = if asked.batch.quiet { None } else { reporter };
-    match run_named(
+    let surroundings = Surroundings {
         files,
-        alloc,
-        asked.batch,
-        paths,
         reader,
         out,
-        Filter,
-        reporter,
-    ) {
+        alloc,
+        reporter: if asked.batch.quiet { None } else { reporter },
+    };
+    match run_named(surroundings, asked.batch, &asked.paths, Filter) {
         Ok(()) => Ok(Ending::Done),
         Err(failure) => Ok(Ending::Failed(failure)),
     }
