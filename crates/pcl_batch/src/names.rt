@@ -4,12 +4,13 @@ ghost use Rattle.std.specs.Prelude.{vec_len, IfOk, IfErr, IsOkAnd};
 ghost use Rattle.pcl_batch.specs.Failing.{HasFailingStatus};
 ghost use Rattle.pcl_batch.specs.inner.Reports.{AreAllDone};
 
-use crate::batch::run_batch;
+use crate::batch::RunningBatch;
 use crate::report::Totals;
 use crate::rewriter::Rewriter;
 use bstr::ByteSlice;
+use indexmap::IndexSet;
 use pcl_base::INPUT_LIMIT;
-use pcl_files::JobFiles;
+use pcl_files::{JobFiles, Outlet, Surroundings};
 use pcl_messages::Failure;
 use pcl_request::Batch;
 use pcl_streams::{Reporter, read_all};
@@ -27,43 +28,52 @@ pub(crate) enum Name<'w> {
 
 /// Runs a batch with the jobs of these files, or where none is named of those that a reader names, one on each line.
 pub fn run_named<F: JobFiles, I: Read, W: Write, R: Rewriter, P: Reporter>(
-    files: &mut F,
-    alloc: Global,
+    surroundings: Surroundings<'_, '_, '_, F, I, W, P>,
     batch: Batch<'_>,
     paths: &[&str],
-    reader: &mut I,
-    out: &mut W,
     rewriter: R,
-    reporter: P,
 ) -> Result<(), Failure>
     ensures { IfErr result HasFailingStatus }
 {
+    let Surroundings {
+        files,
+        reader,
+        out,
+        alloc,
+        reporter,
+    } = surroundings;
+    let running = RunningBatch {
+        files,
+        alloc,
+        asked: batch,
+        rewriter,
+        taken: IndexSet::new(alloc),
+    };
+    let outlet = Outlet {
+        out,
+        alloc,
+        reporter,
+    };
     if !paths.is_empty() {
-        let names = given(alloc, paths);
-        run_names(files, alloc, batch, names, out, rewriter, reporter)?;
+        run_names(running, given(alloc, paths), outlet)?;
         return Ok(());
     }
     let list = read_all(alloc, reader, INPUT_LIMIT).map_err(|fault| Failure::of(alloc, &fault, 0))?;
-    let names = listed(alloc, &list);
-    run_names(files, alloc, batch, names, out, rewriter, reporter)?;
+    run_names(running, listed(alloc, &list), outlet)?;
     Ok(())
 }
 
 /// Runs a batch with jobs of these names, unless there was no memory for them, and gives its totals: all jobs were done, and none failed.
 fn run_names<F: JobFiles, W: Write, R: Rewriter, P: Reporter>(
-    files: &mut F,
-    alloc: Global,
-    batch: Batch<'_>,
+    running: RunningBatch<'_, '_, F, R>,
     names: Result<Vec<Name<'_>>, AllocError>,
-    out: &mut W,
-    rewriter: R,
-    reporter: P,
+    outlet: Outlet<'_, W, P>,
 ) -> Result<Totals, Failure>
     ensures done { IfOk result (λ totals. IsOkAnd names.entry (λ names. AreAllDone (vec_len names) totals)) }
     ensures failed { IfErr result HasFailingStatus }
 {
     let names = names.map_err(|_| Failure::NoMemory)?;
-    run_batch(files, alloc, batch, &names, out, rewriter, reporter)
+    running.run(&names, outlet)
 }
 
 /// The names of these files.

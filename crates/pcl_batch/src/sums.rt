@@ -1,6 +1,7 @@
 //! The digests of a job as it came and of what is written of it.
 
 use hex::encode;
+use pcl_request::Rewritten;
 use serde::Serialize;
 use sha2::{Digest, Sha256};
 use std::alloc::{AllocError, Global};
@@ -36,23 +37,41 @@ impl FileSum {
     }
 }
 
-/// The text of a file of digests: in a comment the program's version, its command and resolution, and the digest of the job as it came;
-/// then lines that `sha256sum -c` reads, of the job that was written, whose file has this name, and of a certificate beside it.
-pub(crate) fn sums_text(
-    alloc: Global,
-    how: &str,
-    input: &str,
-    name: &str,
-    job: &FileSum,
-    certificate: Option<&FileSum>,
-) -> Result<String, AllocError> {
-    let mut text = format!(in alloc; "# {how} of {input}\n")?;
-    text.push_str(job.line(alloc, name)?.as_str())?;
-    if let Some(sum) = certificate {
-        let name = format!(in alloc; "{name}.cert")?;
-        text.push_str(sum.line(alloc, name.as_str())?.as_str())?;
+/// The digests of what is written of a job: of the job, and of its certificate where there is one.
+#[derive(Drop)]
+pub(crate) struct WrittenSums {
+    pub job: FileSum,
+    pub certificate: Option<FileSum>,
+}
+
+impl WrittenSums {
+    /// Of what was written again.
+    pub(crate) fn of(alloc: Global, again: &Rewritten) -> Result<WrittenSums, AllocError> {
+        let job = FileSum::of(alloc, &again.job)?;
+        let certificate = match &again.certificate {
+            Some(bytes) => Some(FileSum::of(alloc, bytes)?),
+            None => None,
+        };
+        Ok(WrittenSums { job, certificate })
     }
-    Ok(text)
+
+    /// The text of a file of digests: in a comment the program's version, its command and resolution, and the digest of the job as it
+    /// came; then lines that `sha256sum -c` reads, of the job that was written, whose file has this name, and of a certificate beside it.
+    pub(crate) fn text(
+        &self,
+        alloc: Global,
+        how: &str,
+        input: &str,
+        name: &str,
+    ) -> Result<String, AllocError> {
+        let mut text = format!(in alloc; "# {how} of {input}\n")?;
+        text.push_str(self.job.line(alloc, name)?.as_str())?;
+        if let Some(sum) = &self.certificate {
+            let name = format!(in alloc; "{name}.cert")?;
+            text.push_str(sum.line(alloc, name.as_str())?.as_str())?;
+        }
+        Ok(text)
+    }
 }
 
 /// What a file of digests says.

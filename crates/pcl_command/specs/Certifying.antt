@@ -21,7 +21,7 @@ use Rattle.pcl_request.specs.declared.request.Certificate.{Certificate}
 use Rattle.pcl_request.specs.declared.request.Resolution.{Resolution}
 use Rattle.pcl_request.specs.declared.request.Target.{Target}
 use Rattle.pcl_request.specs.declared.request.Target.TheVariants.{StandardOutput, File}
-use Rattle.pcl_command.specs.World.{World}
+use Rattle.pcl_files.specs.World.{World}
 
 -- At the resolution at which it is seen a job is written again with its certificate; or it is refused, or memory ran out, and nothing is
 -- written. A check reads a certificate of no more bytes than the limit of inputs, so no longer one is written.

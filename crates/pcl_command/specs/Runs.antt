@@ -34,7 +34,7 @@ use Rattle.pcl_request.specs.declared.request.Request.TheVariants as asked
 use Rattle.pcl_command.specs.Certifying.{HasCertified}
 use Rattle.pcl_command.specs.Clashes.{SayIfClash}
 use Rattle.pcl_command.specs.Tasks.{IsDoneSeen}
-use Rattle.pcl_command.specs.World.{World}
+use Rattle.pcl_files.specs.World.{World}
 
 -- The job of a task is read to its end. Explaining a kind reads nothing.
 abbrev pub IsJobRead : Task → (given left : Option (List ℕ)) → Result (Vec ℕ) Fault → Type 0

@@ -1,13 +1,11 @@
 //! A job that is written again with a certificate.
 
+ghost use Rattle.pcl_files.specs.World.{world, world_found, world_left};
 ghost use Rattle.pcl_command.specs.Certifying.{HasCertified, HasCertifiedRead, HasCertifiedTo, IsCertified};
-ghost use Rattle.pcl_command.specs.World.{world};
-ghost use Rattle.pcl_command.specs.inner.Surroundings.{world_found, world_left};
 
-use crate::surroundings::{Outlet, Surroundings};
 use pcl_base::Profile;
 use pcl_cert::Format;
-use pcl_files::{JobFiles, settle_aside, settle_both};
+use pcl_files::{JobFiles, Outlet, Surroundings, settle_aside, settle_both};
 use pcl_messages::{Failure, outcome};
 use pcl_request::{Certificate, Resolution, Run, Target, resolve};
 use pcl_streams::{Fault, Watcher, read_all};

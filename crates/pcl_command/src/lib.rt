@@ -11,7 +11,6 @@ mod profiles;
 mod reporting;
 mod rewriting;
 mod running;
-mod surroundings;
 
 pub use comparisons::{compare_jobs, compared_at};
 pub use rewriting::rewrite;

@@ -4,11 +4,10 @@ ghost use Rattle.std.specs.Prelude.{◌≡◌, if◌then◌else◌, None, Some, 
 ghost use Rattle.pcl_page.specs.Delivering.{IsRefusal, IsRefusalBy};
 ghost use Rattle.pcl_tool.specs.Writing.{IsWrittenJob};
 ghost use Rattle.pcl_request.specs.Requests.{widest_of};
+ghost use Rattle.pcl_files.specs.World.{world, world_found, world_left};
 ghost use Rattle.pcl_command.specs.Profiles.{IsWrittenUnder, IsWrittenEverywhereUnder, IsRefusedEverywhereUnder};
-ghost use Rattle.pcl_command.specs.Runs.{HasDone, HasDoneRead, HasEnded, HasWritten, IsJobRead};
+ghost use Rattle.pcl_command.specs.Runs.{HasChecked, HasCompared, HasDone, HasDoneRead, HasEnded, HasRun, HasWritten, IsJobRead};
 ghost use Rattle.pcl_command.specs.Tasks.{ExplainsIn, ExplainsKindIn, IsDone, NeverRefuses, TellsOfPages, WritesOrRefuses};
-ghost use Rattle.pcl_command.specs.World.{world};
-ghost use Rattle.pcl_command.specs.inner.Surroundings.{world_found, world_left};
 
 use crate::certifying::certify;
 use crate::checks::check;
@@ -16,15 +15,15 @@ use crate::clashes::clashes;
 use crate::comparisons::compare;
 use crate::passes::{shrink_everywhere_reported, shrink_reported};
 use crate::reporting::{report_no_page, report_shrunk};
-use crate::surroundings::{Outlet, Surroundings};
 use pcl_base::{Dpi, Kind, Profile};
 use pcl_explain::{explanation, explanation_object, kind_explanation, kind_object};
-use pcl_files::{JobFiles, settle};
+use pcl_files::{JobFiles, Outlet, Surroundings, settle};
 use pcl_messages::{Ending, Failure, not_compared, outcome, refuse_clash};
 use pcl_pages::describe_pages;
 use pcl_preview::preview_pages;
 use pcl_request::{
-    Layout, Request, Resolution, Run, Shrinking, Source, Target, Task, Work, resolve,
+    CheckedFiles, ComparedFiles, Layout, Request, Resolution, Run, Shrinking, Source, Target, Task,
+    Work, resolve,
 };
 use pcl_streams::{Fault, Reporter, read_all, write_all};
 use pcl_tool::{INPUT_LIMIT, least_job};
@@ -34,45 +33,89 @@ use std::io::{Read, Write};
 /// Does what is asked for, a run with the job that a reader gives. The reporter is called for each page that is done, unless the
 /// request is a quiet one. Where a certificate or an image would take the place of a job's file, nothing is opened.
 pub fn carry_out<F: JobFiles, R: Read, W: Write, P: Reporter>(
-    files: &mut F,
-    alloc: Global,
+    surroundings: Surroundings<'_, '_, '_, F, R, W, P>,
     request: Request<'_>,
-    reader: &mut R,
-    out: &mut W,
-    reporter: P,
 ) -> Ending
-    ensures { HasEnded F.acts request.entry (world files.old (R.remaining reader.old) (W.contents out.old))
-        (world files.new (R.remaining reader.new) (W.contents out.new)) result }
+    ensures { HasEnded F.acts request.entry (world_found R.remaining W.contents surroundings.entry)
+        (world_left R.remaining W.contents surroundings.exit) result }
 {
-    if clashes(files, request) {
-        return Ending::Failed(refuse_clash(alloc, request));
+    if clashes(surroundings.files, request) {
+        return Ending::Failed(refuse_clash(surroundings.alloc, request));
     }
     match request {
-        Request::Run(run) => {
-            let reporter = unless_quiet(run.quiet, reporter);
-            let surroundings = Surroundings {
-                files,
-                reader,
-                out,
-                alloc,
-                reporter,
-            };
-            match do_run(surroundings, run) {
-                Ok(()) => Ending::Done,
-                Err(failure) => Ending::Failed(failure),
-            }
-        }
-        Request::Check(asked) => {
-            let reporter = unless_quiet(asked.quiet, reporter);
-            match check(files, alloc, asked, out, reporter) {
-                Ok(answer) => Ending::Checked(answer),
-                Err(fault) => Ending::Failed(Failure::of(alloc, &fault, 0)),
-            }
-        }
-        Request::Compare(asked) => match compare(files, alloc, asked, out) {
-            Ok(comparison) => Ending::Compared(comparison),
-            Err(fault) => Ending::Failed(not_compared(alloc, &fault)),
-        },
+        Request::Run(run) => ending_of_run(surroundings, run),
+        Request::Check(asked) => ending_of_check(surroundings, asked),
+        Request::Compare(asked) => ending_of_comparison(surroundings, asked),
+    }
+}
+
+/// Does a run, and says how it ends.
+fn ending_of_run<F: JobFiles, R: Read, W: Write, P: Reporter>(
+    surroundings: Surroundings<'_, '_, '_, F, R, W, P>,
+    run: Run<'_>,
+) -> Ending
+    ensures { HasRun F.acts run.entry (world_found R.remaining W.contents surroundings.entry)
+        (world_left R.remaining W.contents surroundings.exit) result }
+{
+    let Surroundings {
+        files,
+        reader,
+        out,
+        alloc,
+        reporter,
+    } = surroundings;
+    let surroundings = Surroundings {
+        files,
+        reader,
+        out,
+        alloc,
+        reporter: unless_quiet(run.quiet, reporter),
+    };
+    match do_run(surroundings, run) {
+        Ok(()) => Ending::Done,
+        Err(failure) => Ending::Failed(failure),
+    }
+}
+
+/// Checks a job, and says how that ends.
+fn ending_of_check<F: JobFiles, R: Read, W: Write, P: Reporter>(
+    surroundings: Surroundings<'_, '_, '_, F, R, W, P>,
+    asked: CheckedFiles<'_>,
+) -> Ending
+    ensures { HasChecked F.acts asked.entry (world_found R.remaining W.contents surroundings.entry)
+        (world_left R.remaining W.contents surroundings.exit) result }
+{
+    let Surroundings {
+        files,
+        out,
+        alloc,
+        reporter,
+        ..
+    } = surroundings;
+    let reporter = unless_quiet(asked.quiet, reporter);
+    match check(files, alloc, asked, out, reporter) {
+        Ok(answer) => Ending::Checked(answer),
+        Err(fault) => Ending::Failed(Failure::of(alloc, &fault, 0)),
+    }
+}
+
+/// Compares two jobs, and says how that ends.
+fn ending_of_comparison<F: JobFiles, R: Read, W: Write, P: Reporter>(
+    surroundings: Surroundings<'_, '_, '_, F, R, W, P>,
+    asked: ComparedFiles<'_>,
+) -> Ending
+    ensures { HasCompared F.acts asked.entry (world_found R.remaining W.contents surroundings.entry)
+        (world_left R.remaining W.contents surroundings.exit) result }
+{
+    let Surroundings {
+        files,
+        out,
+        alloc,
+        ..
+    } = surroundings;
+    match compare(files, alloc, asked, out) {
+        Ok(comparison) => Ending::Compared(comparison),
+        Err(fault) => Ending::Failed(not_compared(alloc, &fault)),
     }
 }
 

@@ -12,7 +12,7 @@ use Rattle.pcl_messages.specs.declared.failures.Failure.TheVariants.{NoMemory}
 use Rattle.pcl_messages.specs.Failures.{IsUsageFailure, terminal_line}
 use Rattle.pcl_files.specs.Files.{FileAct}
 use Rattle.pcl_command.specs.Runs.{HasEnded}
-use Rattle.pcl_command.specs.World.{World}
+use Rattle.pcl_files.specs.World.{World}
 
 -- nothing was done, so that no job and no image reaches a terminal, and that is said
 abbrev pub SparesTerminal : {F : Type 0} → (before after : World F) → Ending → Type 0

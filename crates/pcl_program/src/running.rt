@@ -1,7 +1,7 @@
 //! A run by the words of a command line, and its status.
 
 ghost use Rattle.std.specs.Prelude.{◌⊎◌, ◌↔◌, map, IsTrue};
-ghost use Rattle.pcl_command.specs.World.{world};
+ghost use Rattle.pcl_files.specs.World.{world, world_found, world_left};
 ghost use Rattle.pcl_program.specs.Runs.{IsShown, HasRunAsked, HasRunWords, AskForBatch, IsExitStatus};
 
 use crate::rewriting::Filter;
@@ -10,7 +10,7 @@ use clap::error::ErrorKind;
 use pcl_arguments::{parse_batch, parse_request};
 use pcl_batch::run_named;
 use pcl_command::carry_out;
-use pcl_files::JobFiles;
+use pcl_files::{JobFiles, Surroundings};
 use pcl_messages::{Ending, Failure, USAGE_STATUS, refuse_terminal};
 use pcl_request::Request;
 use pcl_streams::Reporter;
@@ -20,7 +20,7 @@ use std::io::{Read, Write};
 
 /// Does what the words of a command line ask for, the program's name first. It is as [`run_request`] says, or a batch, whose jobs
 /// may be named by the reader.
-pub fn run<F: JobFiles, S: AsStr, R: Read, W: Write, P: Reporter + Copy>(
+pub fn run<F: JobFiles, S: AsStr, R: Read, W: Write, P: Reporter>(
     files: &mut F,
     alloc: Global,
     words: &[S],
@@ -33,12 +33,18 @@ pub fn run<F: JobFiles, S: AsStr, R: Read, W: Write, P: Reporter + Copy>(
         (world files.old (R.remaining reader.old) (W.contents out.old))
         (world files.new (R.remaining reader.new) (W.contents out.new)) result }
 {
+    let surroundings = Surroundings {
+        files,
+        reader,
+        out,
+        alloc,
+        reporter,
+    };
     if ask_for_batch(words) {
-        let reporter = if is_terminal { None } else { Some(reporter) };
-        return run_batch_words(files, alloc, words, reader, out, reporter);
+        return run_batch_words(surroundings, words, is_terminal);
     }
     let request = parse_request(alloc, words);
-    run_request(files, alloc, request, reader, out, is_terminal, reporter)
+    run_request(surroundings, request, is_terminal)
 }
 
 /// Whether the words of a command line ask for a batch.
@@ -51,31 +57,32 @@ pub(crate) fn ask_for_batch<S: AsStr>(words: &[S]) -> bool
     }
 }
 
-/// Runs the batch that words ask for.
+/// Runs the batch that words ask for. Where the writer is a terminal, or the batch a quiet one, the reporter isn't called.
 fn run_batch_words<F: JobFiles, S: AsStr, R: Read, W: Write, P: Reporter>(
-    files: &mut F,
-    alloc: Global,
+    surroundings: Surroundings<'_, '_, '_, F, R, W, P>,
     words: &[S],
-    reader: &mut R,
-    out: &mut W,
-    reporter: Option<P>,
+    is_terminal: bool,
 ) -> Result<Ending, Error> {
+    let Surroundings {
+        files,
+        reader,
+        out,
+        alloc,
+        reporter,
+    } = surroundings;
     let asked = match parse_batch(alloc, words) {
         Ok(asked) => asked,
         Err(error) => return shown(error),
     };
-    let paths = &asked.paths;
-    let reporter = if asked.batch.quiet { None } else { reporter };
-    match run_named(
+    let is_silent = is_terminal || asked.batch.quiet;
+    let surroundings = Surroundings {
         files,
-        alloc,
-        asked.batch,
-        paths,
         reader,
         out,
-        Filter,
-        reporter,
-    ) {
+        alloc,
+        reporter: if is_silent { None } else { Some(reporter) },
+    };
+    match run_named(surroundings, asked.batch, &asked.paths, Filter) {
         Ok(()) => Ok(Ending::Done),
         Err(failure) => Ok(Ending::Failed(failure)),
     }
@@ -85,22 +92,18 @@ fn run_batch_words<F: JobFiles, S: AsStr, R: Read, W: Write, P: Reporter>(
 /// asked for, and for what there is to say besides. Where the writer is a terminal, no job and no image is written to it. An error is
 /// the help, the version or a usage fault, whose text is to be printed: then no file is made, nothing is read and nothing written.
 pub fn run_request<F: JobFiles, R: Read, W: Write, P: Reporter>(
-    files: &mut F,
-    alloc: Global,
+    surroundings: Surroundings<'_, '_, '_, F, R, W, P>,
     asked: Result<Request<'_>, Error>,
-    reader: &mut R,
-    out: &mut W,
     is_terminal: bool,
-    reporter: P,
 ) -> Result<Ending, Error>
-    ensures { HasRunAsked F.acts is_terminal asked.entry (world files.old (R.remaining reader.old) (W.contents out.old))
-        (world files.new (R.remaining reader.new) (W.contents out.new)) result }
+    ensures { HasRunAsked F.acts is_terminal asked.entry (world_found R.remaining W.contents surroundings.entry)
+        (world_left R.remaining W.contents surroundings.exit) result }
 {
     match asked {
         Ok(request) if is_terminal && request.writes_raw() => {
-            Ok(Ending::Failed(refuse_terminal(alloc)))
+            Ok(Ending::Failed(refuse_terminal(surroundings.alloc)))
         }
-        Ok(request) => Ok(carry_out(files, alloc, request, reader, out, reporter)),
+        Ok(request) => Ok(carry_out(surroundings, request)),
         Err(error) => shown(error),
     }
 }

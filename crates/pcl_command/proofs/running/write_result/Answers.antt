@@ -2,8 +2,7 @@ use Rattle.std.proofs.Common.{Result, inl, inr, refl}
 use Rattle.pcl_messages.specs.declared.failures.Failure.{Failure}
 use Rattle.pcl_command.proofs.Left.{left_so}
 use Rattle.pcl_command.specs.Runs.{HasWrittenTo}
-use Rattle.pcl_command.specs.World.{world}
-use Rattle.pcl_command.specs.inner.Surroundings.{world_found}
+use Rattle.pcl_files.specs.World.{world, world_found}
 use Rattle.pcl_command.proofs.running.write_result.Goals as goal
 use Rattle.pcl_command.proofs.running.write_result.Goals.{in-StandardOutput, in-File+in-Ok, in-File+in-Err}
 

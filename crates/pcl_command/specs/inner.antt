@@ -1,2 +1,0 @@
--- What only proofs and contracts of private functions cite.
-pub mod Surroundings
