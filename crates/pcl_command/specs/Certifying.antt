@@ -11,7 +11,7 @@ use Rattle.pcl_streams.specs.declared.fault.Fault.{Fault}
 use Rattle.pcl_streams.specs.declared.fault.Fault.TheVariants.{Refused, Memory}
 use Rattle.pcl_streams.specs.Transfer.{IsReadAll}
 use Rattle.pcl_tool.specs.Minimizing.{IsCertifiedJobOf, IsOutputWritten}
-use Rattle.pcl_messages.specs.Failures.{HasFailedFile, IsOutcome}
+use Rattle.pcl_messages.specs.Failures.{FailsUnlessDone, HasFailedFile}
 use Rattle.pcl_files.specs.Files.{FileAct, Begun, Unbegun, Dropped}
 use Rattle.pcl_request.specs.Resolutions.{IsSeenAt}
 use Rattle.pcl_files.specs.WholeFiles.{AreSettled, IsSettledAside}
@@ -50,7 +50,7 @@ abbrev pub HasCertifiedTo : {F : Type 0} → (F → FileAct → F → Type 0) �
 HasCertifiedTo acts certificate aside resolution StandardOutput before after ended =
     (aside_holds : Option (List ℕ)) × (done settled : Result (Unit {0}) Fault)
     × HasCertifiedRead certificate.format resolution before after aside aside_holds done
-    × IsSettledAside acts certificate.file.now aside_holds done before.files after.files settled × IsOutcome 0 settled ended
+    × IsSettledAside acts certificate.file.now aside_holds done before.files after.files settled × FailsUnlessDone 0 settled ended
 HasCertifiedTo {F} acts certificate aside resolution (File name) before after ended =
     (after.written ≡ before.written)
     × (((why : FileFault) × (failure : Failure) × (unbegun : F) × acts before.files (Unbegun name.now why) unbegun
@@ -60,7 +60,7 @@ HasCertifiedTo {F} acts certificate aside resolution (File name) before after en
     × acts before.files (Begun name.now held) begun
     × HasCertifiedRead certificate.format resolution (record before { written = held }) (record after { written = holds })
     aside aside_holds done
-    × AreSettled acts name.now holds certificate.file.now aside_holds done begun after.files settled × IsOutcome 0 settled ended))
+    × AreSettled acts name.now holds certificate.file.now aside_holds done begun after.files settled × FailsUnlessDone 0 settled ended))
 
 -- The certificate's file is begun before anything is read. Or it can't be, and then nothing was read or written.
 abbrev pub HasCertified : {F : Type 0} → (F → FileAct → F → Type 0) → Certificate → Resolution → Target → (before after : World F)

@@ -5,13 +5,12 @@ use Rattle.pcl_base.specs.Limits.{input_limit}
 use Rattle.pcl_streams.specs.declared.fault.Fault.{Fault}
 use Rattle.pcl_streams.specs.declared.fault.Fault.TheVariants.{ReadFault}
 use Rattle.pcl_streams.specs.Transfer.{IsReadAll}
-use Rattle.pcl_messages.specs.Failures.{HasFailedFile, IsFailureOf, IsOutcome, IsUsageFailure, clash_line}
+use Rattle.pcl_messages.specs.Failures.{FailsUnlessDone, HasFailedFile, IsComparisonFailure, IsFailureOf, IsUsageFailure, clash_line}
 use Rattle.pcl_files.specs.Files.{FileAct, Opened, Unopened, Begun, Unbegun}
 use Rattle.pcl_files.specs.WholeFiles.{IsSettled}
 use Rattle.pcl_messages.specs.declared.failures.Failure.{Failure}
 use Rattle.pcl_files.specs.declared.files.FileFault.{FileFault}
 use Rattle.pcl_command.specs.Checks.{IsCheckRun}
-use Rattle.pcl_messages.specs.Endings.{IsComparisonFailure}
 use Rattle.pcl_command.specs.Comparisons.{IsCompareRun}
 use Rattle.pcl_messages.specs.declared.compare_fault.CompareFault.{CompareFault}
 use Rattle.pcl_messages.specs.declared.endings.Ending.{Ending}
@@ -55,7 +54,7 @@ abbrev pub HasWrittenTo : {F : Type 0} → (F → FileAct → F → Type 0) → 
     → Result (Unit {0}) Failure → Type 0
 HasWrittenTo acts task resolution target.StandardOutput before after ended =
     (done : Result (Unit {0}) Fault) × (after.files ≡ before.files)
-    × HasDoneRead task resolution before after done × IsOutcome (task_page task) done ended
+    × HasDoneRead task resolution before after done × FailsUnlessDone (task_page task) done ended
 HasWrittenTo {F} acts task resolution (target.File name) before after ended =
     (after.written ≡ before.written)
     × (((why : FileFault) × (failure : Failure) × acts before.files (Unbegun name.now why) after.files × (after.given ≡ before.given)
@@ -63,7 +62,7 @@ HasWrittenTo {F} acts task resolution (target.File name) before after ended =
     ⊎ ((begun : F) × (held holds : Option (List ℕ)) × (done settled : Result (Unit {0}) Fault)
     × acts before.files (Begun name.now held) begun
     × HasDoneRead task resolution (record before { written = held }) (record after { written = holds }) done
-    × IsSettled acts name.now holds done begun after.files settled × IsOutcome (task_page task) settled ended))
+    × IsSettled acts name.now holds done begun after.files settled × FailsUnlessDone (task_page task) settled ended))
 
 -- what is asked for is written, with the job that a reader gives
 abbrev pub HasWritten : {F : Type 0} → (F → FileAct → F → Type 0) → Work → Resolution → Target → (before after : World F)
@@ -78,7 +77,7 @@ abbrev pub HasDone : {F : Type 0} → (F → FileAct → F → Type 0) → Run �
     → Result (Unit {0}) Failure → Type 0
 HasDone acts run source.StandardInput before after ended = HasWritten acts run.work run.resolution run.target before after ended
 HasDone acts run (source.File name) before after ended =
-    (acts before.files (Unopened name.now) before.files × (after ≡ before) × IsOutcome 0 (Err ReadFault) ended)
+    (acts before.files (Unopened name.now) before.files × (after ≡ before) × FailsUnlessDone 0 (Err ReadFault) ended)
     ⊎ ((there left : Option (List ℕ)) × acts before.files (Opened name.now there) before.files × (after.given ≡ before.given)
     × HasWritten acts run.work run.resolution run.target (record before { given = there }) (record after { given = left }) ended)
 

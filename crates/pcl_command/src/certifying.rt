@@ -6,7 +6,7 @@ ghost use Rattle.pcl_command.specs.Certifying.{HasCertified, HasCertifiedRead, H
 use pcl_base::Profile;
 use pcl_cert::Format;
 use pcl_files::{JobFiles, Outlet, Surroundings, settle_aside, settle_both};
-use pcl_messages::{Failure, outcome};
+use pcl_messages::Failure;
 use pcl_request::{Certificate, Resolution, Run, Target, resolve};
 use pcl_streams::{Fault, Watcher, read_all};
 use pcl_tool::{INPUT_LIMIT, minimize_watched, write_output};
@@ -70,7 +70,7 @@ fn certify_to<F: JobFiles, R: Read, W: Write, P: Watcher>(
             };
             let done = certify_read(reader, outlet, &mut aside, format, seen);
             let settled = settle_aside(files, name, aside, done);
-            outcome(alloc, settled, 0)
+            Failure::unless_done(alloc, settled, 0)
         }
         Target::File(job) => match files.begin(job) {
             Ok(mut file) => {
@@ -81,7 +81,7 @@ fn certify_to<F: JobFiles, R: Read, W: Write, P: Watcher>(
                 };
                 let done = certify_read(reader, outlet, &mut aside, format, seen);
                 let settled = settle_both(files, job, file, name, aside, done);
-                outcome(alloc, settled, 0)
+                Failure::unless_done(alloc, settled, 0)
             }
             Err(why) => {
                 files.discard(name, aside);

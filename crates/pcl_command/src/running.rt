@@ -18,7 +18,7 @@ use crate::reporting::{report_no_page, report_shrunk};
 use pcl_base::{Dpi, Kind, Profile};
 use pcl_explain::{explanation, explanation_object, kind_explanation, kind_object};
 use pcl_files::{JobFiles, Outlet, Surroundings, settle};
-use pcl_messages::{Ending, Failure, not_compared, outcome, refuse_clash};
+use pcl_messages::{Ending, Failure, refuse_clash};
 use pcl_pages::describe_pages;
 use pcl_preview::preview_pages;
 use pcl_request::{
@@ -115,7 +115,7 @@ fn ending_of_comparison<F: JobFiles, R: Read, W: Write, P: Reporter>(
     } = surroundings;
     match compare(files, alloc, asked, out) {
         Ok(comparison) => Ending::Compared(comparison),
-        Err(fault) => Ending::Failed(not_compared(alloc, &fault)),
+        Err(fault) => Ending::Failed(Failure::of_comparison(alloc, &fault)),
     }
 }
 
@@ -186,7 +186,7 @@ fn write_result<F: JobFiles, R: Read, W: Write, P: Reporter>(
                 reporter,
             };
             let done = do_read(reader, outlet, task, run.resolution);
-            outcome(alloc, done, task.page())
+            Failure::unless_done(alloc, done, task.page())
         }
         Target::File(name) => match files.begin(name) {
             Ok(mut file) => {
@@ -197,7 +197,7 @@ fn write_result<F: JobFiles, R: Read, W: Write, P: Reporter>(
                 };
                 let done = do_read(reader, outlet, task, run.resolution);
                 let settled = settle(files, name, file, done);
-                outcome(alloc, settled, task.page())
+                Failure::unless_done(alloc, settled, task.page())
             }
             Err(why) => Err(Failure::of_file(alloc, why)),
         },

@@ -2,6 +2,8 @@
 use Rattle.std.specs.Prelude.{◌≡◌, ℕ, List, ◌++◌, Option, None, Some, Result, Ok, Err, codes, decimal}
 use Rattle.pcl_streams.specs.declared.fault.Fault.{Fault}
 use Rattle.pcl_messages.specs.Faults.{line_of, status_for}
+use Rattle.pcl_messages.specs.ComparisonLines.{compare_line_of, compare_status_for, run_fault}
+use Rattle.pcl_messages.specs.declared.compare_fault.CompareFault.{CompareFault}
 use Rattle.pcl_streams.specs.declared.fault.Fault.TheVariants as run
 use Rattle.pcl_files.specs.declared.files.FileFault.{FileFault}
 use Rattle.pcl_files.specs.declared.files.FileFault.TheVariants.{Memory, Folder, Owner, System}
@@ -18,6 +20,10 @@ HasFailed said code cause NoMemory = Unit {0}
 -- a fault of a run that was asked for a page
 abbrev pub IsFailureOf : Fault → ℕ → Failure → Type 0
 IsFailureOf fault page failure = HasFailed (line_of fault page) (status_for fault) (Some fault) failure
+
+-- two jobs aren't compared
+abbrev pub IsComparisonFailure : CompareFault → Failure → Type 0
+IsComparisonFailure fault failure = HasFailed (compare_line_of fault) (compare_status_for fault) (run_fault fault) failure
 
 -- a usage fault
 abbrev pub IsUsageFailure : List ℕ → Failure → Type 0
@@ -40,11 +46,11 @@ HasFailedFile System failure = IsUnwritten (codes "pclmin: cannot write\n") fail
 abbrev pub jobs_line : ℕ → ℕ → List ℕ
 jobs_line failed jobs = codes "pclmin: " ++ decimal failed ++ codes " of " ++ decimal jobs ++ codes " jobs failed\n"
 
--- how a run ended that was asked for a page, by what became of it
-abbrev pub IsOutcome : (page : ℕ) → Result (Unit {0}) Fault → Result (Unit {0}) Failure → Type 0
-IsOutcome page (Ok unit) (Ok ended) = Unit {0}
-IsOutcome page (Err fault) (Err failure) = IsFailureOf fault page failure
-IsOutcome page done ended = ⊥
+-- a run that was asked for a page fails by its fault, unless it is done
+abbrev pub FailsUnlessDone : (page : ℕ) → Result (Unit {0}) Fault → Result (Unit {0}) Failure → Type 0
+FailsUnlessDone page (Ok unit) (Ok ended) = Unit {0}
+FailsUnlessDone page (Err fault) (Err failure) = IsFailureOf fault page failure
+FailsUnlessDone page done ended = ⊥
 
 -- what is said where a job or an image would be written to a terminal
 abbrev pub terminal_line : List ℕ

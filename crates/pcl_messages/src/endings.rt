@@ -1,14 +1,12 @@
 //! How a run ends.
 
-ghost use Rattle.pcl_messages.specs.Endings.{IsComparisonFailure, IsStatus};
+ghost use Rattle.pcl_messages.specs.Endings.{IsStatus};
 
-use crate::compare_fault::CompareFault;
-use crate::comparison_lines::{compare_fault_line, compare_fault_status, comparison_status};
+use crate::comparison_lines::comparison_status;
 use crate::failures::Failure;
 use crate::verdicts::answer_status;
 use pcl_same::AskedComparison;
 use pcl_tool::CheckAnswer;
-use std::alloc::Global;
 
 /// How a run ended, and what is left to be printed.
 #[derive(Drop)]
@@ -34,19 +32,5 @@ impl Ending {
             Ending::Compared(comparison) => comparison_status(comparison),
             Ending::Failed(failure) => failure.status(),
         }
-    }
-}
-
-/// What is to be said of a comparison that failed.
-pub fn not_compared(alloc: Global, fault: &CompareFault) -> Failure
-    ensures { IsComparisonFailure fault.now result }
-{
-    match compare_fault_line(alloc, fault) {
-        Ok(line) => Failure::Said {
-            line,
-            status: compare_fault_status(fault),
-            fault: fault.run_fault(),
-        },
-        Err(_) => Failure::NoMemory,
     }
 }

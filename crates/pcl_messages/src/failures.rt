@@ -1,9 +1,11 @@
 //! What is to be said of a run that failed.
 
 ghost use Rattle.std.specs.Prelude.{◌≡◌, None, IfOk};
-ghost use Rattle.pcl_messages.specs.Failures.{HasFailed, HasFailedFile, IsFailureOf, IsFailureStatus, IsOutcome, IsUnwritten, IsUsageFailure};
+ghost use Rattle.pcl_messages.specs.Failures.{FailsUnlessDone, HasFailed, HasFailedFile, IsComparisonFailure, IsFailureOf, IsFailureStatus, IsUnwritten, IsUsageFailure};
 ghost use Rattle.pcl_messages.specs.Failures.{arguments_line, clash_line, failed_fault, jobs_line, line_said, terminal_line};
 
+use crate::compare_fault::CompareFault;
+use crate::comparison_lines::{compare_fault_line, compare_fault_status};
 use crate::faults::{NO_MEMORY, TROUBLE_STATUS, USAGE_STATUS, fault_line, fault_status};
 use crate::texts::append_labelled;
 use pcl_files::FileFault;
@@ -34,6 +36,30 @@ impl Failure {
                 line,
                 status: fault_status(fault),
                 fault: Some(*fault),
+            },
+            Err(_) => Failure::NoMemory,
+        }
+    }
+
+    /// The failure for the fault of a run that was asked for a page, unless the run is done.
+    pub fn unless_done(alloc: Global, done: Result<(), Fault>, page: usize) -> Result<(), Failure>
+        ensures { FailsUnlessDone page done result }
+    {
+        match done {
+            Ok(()) => Ok(()),
+            Err(fault) => Err(Failure::of(alloc, &fault, page)),
+        }
+    }
+
+    /// The failure for two jobs that aren't compared.
+    pub fn of_comparison(alloc: Global, fault: &CompareFault) -> Failure
+        ensures { IsComparisonFailure fault.now result }
+    {
+        match compare_fault_line(alloc, fault) {
+            Ok(line) => Failure::Said {
+                line,
+                status: compare_fault_status(fault),
+                fault: fault.run_fault(),
             },
             Err(_) => Failure::NoMemory,
         }
@@ -139,16 +165,6 @@ fn jobs_failed(alloc: Global, failed: usize, jobs: usize) -> Result<Vec<u8>, All
     append_labelled(b" of ", jobs, &mut line)?;
     line.extend_from_slice(b" jobs failed\n")?;
     Ok(line)
-}
-
-/// How a run ended, by what became of it. It was asked for a page.
-pub fn outcome(alloc: Global, done: Result<(), Fault>, page: usize) -> Result<(), Failure>
-    ensures { IsOutcome page done result }
-{
-    match done {
-        Ok(()) => Ok(()),
-        Err(fault) => Err(Failure::of(alloc, &fault, page)),
-    }
 }
 
 /// What is said where a job or an image would be written to a terminal.

@@ -14,8 +14,8 @@ mod verdicts;
 
 pub use compare_fault::CompareFault;
 pub use comparison_lines::{compare_fault_line, comparison_line};
-pub use endings::{Ending, not_compared};
-pub use failures::{Failure, outcome, refuse_arguments, refuse_clash, refuse_terminal};
+pub use endings::Ending;
+pub use failures::{Failure, refuse_arguments, refuse_clash, refuse_terminal};
 pub use faults::{
     TROUBLE_STATUS, UNREAD, UNWRITTEN, USAGE_STATUS, fault_line, fault_status, text_in,
 };

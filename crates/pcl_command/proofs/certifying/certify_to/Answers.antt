@@ -15,7 +15,7 @@ returns g c =
     before (world files (g.R.Read.remaining reader) (g.W.Write.contents out)) ended in
     elim c.match-run.branch [
       | in-StandardOutput w ↦ left_so Holds w.files-is w.reader-is w.out-is w.result-is
-          (rw w.in-StandardOutput.is (_, _, _, w.certify_read-done.ensures, w.settle_aside-settled.ensures, w.outcome.ensures))
+          (rw w.in-StandardOutput.is (_, _, _, w.certify_read-done.ensures, w.settle_aside-settled.ensures, w.unless_done.ensures))
       | in-File+in-Ok w ↦ left_so Holds w.files-is w.reader-is w.out-is w.result-is
           (rw w.in-File.is (
             refl,
@@ -29,7 +29,7 @@ returns g c =
               w.in-Ok.ensures.begun,
               w.certify_read-done-in-Ok.ensures,
               w.settle_both-settled.ensures,
-              w.outcome-in-Ok.ensures,
+              w.unless_done-in-Ok.ensures,
             ),
           ))
       | in-File+in-Err w ↦ left_so Holds w.files-is w.reader-is w.out-is w.result-is

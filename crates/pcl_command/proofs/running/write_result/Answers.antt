@@ -16,7 +16,7 @@ returns g c =
     rw c.in-Task.is
     (elim c.match-run-2.branch [
       | in-StandardOutput w ↦ left_so Holds w.files-is w.reader-is w.out-is w.result-is
-          (rw w.in-StandardOutput.is (_, refl, w.do_read-done.ensures, rw w.page.ensures at w.outcome.ensures))
+          (rw w.in-StandardOutput.is (_, refl, w.do_read-done.ensures, rw w.page.ensures at w.unless_done.ensures))
       | in-File+in-Ok w ↦ left_so Holds w.files-is w.reader-is w.out-is w.result-is
           (rw w.in-File.is (
             refl,
@@ -29,7 +29,7 @@ returns g c =
               w.in-Ok.ensures.begun,
               w.do_read-done-in-Ok.ensures,
               w.settle-settled.ensures,
-              rw w.page-in-Ok.ensures at w.outcome-in-Ok.ensures,
+              rw w.page-in-Ok.ensures at w.unless_done-in-Ok.ensures,
             ),
           ))
       | in-File+in-Err w ↦ left_so Holds w.files-is w.reader-is w.out-is w.result-is
