@@ -6,7 +6,7 @@ ghost use Rattle.pcl_messages.specs.ComparisonLines.{setting_label, setting_text
 ghost use Rattle.pcl_messages.specs.ComparisonLines.{comparison_status_for, refused_job_text, compare_line_of, compare_status_for};
 
 use crate::compare_fault::CompareFault;
-use crate::faults::{fault_line, fault_status};
+use crate::faults::{NEGATIVE_STATUS, fault_line, fault_status};
 use crate::layouts::laid_out;
 use crate::texts::append_subject;
 use itoa::Buffer;
@@ -232,7 +232,7 @@ pub(crate) fn comparison_status(comparison: &AskedComparison) -> u8
 {
     match comparison {
         AskedComparison::Same => 0,
-        AskedComparison::Pages(_) | AskedComparison::Asks(_) => 1,
+        AskedComparison::Pages(_) | AskedComparison::Asks(_) => NEGATIVE_STATUS,
     }
 }
 
@@ -267,7 +267,7 @@ pub(crate) fn compare_fault_status(fault: &CompareFault) -> u8
     ensures { result ≡ compare_status_for fault.now }
 {
     match fault {
-        CompareFault::Refused { .. } => 1,
+        CompareFault::Refused { .. } => NEGATIVE_STATUS,
         CompareFault::Failed(fault) => fault_status(fault),
     }
 }

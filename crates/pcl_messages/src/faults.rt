@@ -16,8 +16,8 @@ pub const UNREAD: &str = "cannot read";
 /// What is said of what can't be written. The name of a file may follow.
 pub const UNWRITTEN: &str = "cannot write";
 
-/// The status where the rules refuse a job, or it has no page of a number.
-const REFUSED_STATUS: u8 = 1;
+/// The status where the rules refuse a job, and where it has no page of a number, isn't proved, or isn't the same as another.
+pub(crate) const NEGATIVE_STATUS: u8 = 1;
 
 /// The status where a job can't be read, is too long or can't be written, and where memory runs out.
 pub const TROUBLE_STATUS: u8 = 3;
@@ -60,7 +60,7 @@ pub fn fault_status(fault: &Fault) -> u8
     ensures { result ≡ status_for fault.now }
 {
     match fault {
-        Fault::Refused(_) | Fault::NoSuchPage => REFUSED_STATUS,
+        Fault::Refused(_) | Fault::NoSuchPage => NEGATIVE_STATUS,
         Fault::ReadFault
         | Fault::TooLong
         | Fault::CertificateTooLong

@@ -4,6 +4,7 @@ ghost use Rattle.std.specs.Prelude.{◌≡◌, ◌++◌, IfOk, OnOk};
 ghost use Rattle.pcl_messages.specs.Verdicts.{fault_text, numbers_text, verdict_text, job_text, answer_text, answer_line_of, is_proved};
 ghost use Rattle.pcl_messages.specs.Verdicts.{answer_status_for, verdict_status_for};
 
+use crate::faults::NEGATIVE_STATUS;
 use crate::layouts::laid_out;
 use crate::texts::append_subject;
 use itoa::Buffer;
@@ -119,7 +120,7 @@ pub(crate) fn answer_status(answer: &CheckAnswer) -> u8
     ensures { result ≡ answer_status_for answer.now }
 {
     match answer {
-        CheckAnswer::OtherImages => 1,
+        CheckAnswer::OtherImages => NEGATIVE_STATUS,
         CheckAnswer::Job(verdict) => verdict_status(verdict),
     }
 }
@@ -130,6 +131,6 @@ fn verdict_status(verdict: &JobVerdict) -> u8
 {
     match verdict {
         JobVerdict::Proved => 0,
-        _ => 1,
+        _ => NEGATIVE_STATUS,
     }
 }
