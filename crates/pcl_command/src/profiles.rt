@@ -2,10 +2,10 @@
 
 ghost use Rattle.pcl_command.specs.Profiles.{IsShrunkUnder, IsShrunkEverywhereUnder};
 
-use pcl_base::{Dpi, JobFault, Profile};
+use pcl_base::{Dpi, JobFault};
 use pcl_request::{Profiles, Shrinking};
 use pcl_shrink::{
-    ShrinkWatcher, Shrunk, shrink_by, shrink_everywhere_by, shrink_everywhere_watched,
+    ShrinkWatcher, Shrunk, Terms, shrink_by, shrink_everywhere_by, shrink_everywhere_watched,
     shrink_watched,
 };
 use std::alloc::Global;
@@ -21,10 +21,13 @@ pub fn shrink_under<P: ShrinkWatcher>(
     ensures { IsShrunkUnder how.readers how.profiles dpi job.now result }
 {
     let Shrinking { profiles, readers } = how;
+    let terms = Terms {
+        profile: profiles.widest(),
+        readers,
+    };
     match profiles {
-        Profiles::Stated => shrink_watched(alloc, job, Profile::Stated, dpi, readers, watcher),
-        Profiles::Either => shrink_watched(alloc, job, Profile::Drivers, dpi, readers, watcher),
-        Profiles::Drivers => shrink_by(alloc, job, Profile::Drivers, dpi, readers, watcher),
+        Profiles::Stated | Profiles::Either => shrink_watched(alloc, job, terms, dpi, watcher),
+        Profiles::Drivers => shrink_by(alloc, job, terms, dpi, watcher),
     }
 }
 
@@ -38,21 +41,14 @@ pub fn shrink_everywhere_under<P: ShrinkWatcher>(
     ensures { IsShrunkEverywhereUnder how.readers how.profiles job.now result }
 {
     let Shrinking { profiles, readers } = how;
+    let terms = Terms {
+        profile: profiles.widest(),
+        readers,
+    };
     match profiles {
-        Profiles::Stated => shrink_everywhere_watched(
-            alloc,
-            job,
-            Profile::Stated,
-            readers,
-            watcher,
-        ),
-        Profiles::Either => shrink_everywhere_watched(
-            alloc,
-            job,
-            Profile::Drivers,
-            readers,
-            watcher,
-        ),
-        Profiles::Drivers => shrink_everywhere_by(alloc, job, Profile::Drivers, readers, watcher),
+        Profiles::Stated | Profiles::Either => {
+            shrink_everywhere_watched(alloc, job, terms, watcher)
+        }
+        Profiles::Drivers => shrink_everywhere_by(alloc, job, terms, watcher),
     }
 }

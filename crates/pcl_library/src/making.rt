@@ -10,7 +10,7 @@ use crate::arguments::{FIRST_ACCEPTED, format_numbered, seen_at};
 use crate::failure::CallFailure;
 use pcl_base::{Dpi, Profile};
 use pcl_cert::Format;
-use pcl_shrink::{Readers, shrink, shrink_everywhere};
+use pcl_shrink::{Readers, Terms, shrink, shrink_everywhere};
 use pcl_tool::{Fault, INPUT_LIMIT, Unwatched, least_job, minimize};
 use std::alloc::Global;
 
@@ -98,11 +98,17 @@ pub extern "C" fn pcl_library_shrink(
     };
 }
 
+/// For printers, by the drivers' profile where the stated one refuses the job.
+const FOR_PRINTERS: Terms = Terms {
+    profile: Profile::Drivers,
+    readers: Readers::Printers,
+};
+
 /// The smallest job that is found, for printers, at a resolution.
 fn shrink_answer(alloc: Global, job: &[u8], dpi: Dpi) -> Answer
     ensures { AnswersAt Drivers dpi job.now (HasSmallerJob job.now dpi) result }
 {
-    match shrink(alloc, job, Profile::Drivers, dpi, Readers::Printers) {
+    match shrink(alloc, job, FOR_PRINTERS, dpi) {
         Ok(shrunk) => Answer::of_bytes(shrunk.job, dpi),
         Err(fault) => Answer::of_failure(alloc, &CallFailure::from(fault), 0),
     }
@@ -112,7 +118,7 @@ fn shrink_answer(alloc: Global, job: &[u8], dpi: Dpi) -> Answer
 fn everywhere_answer(alloc: Global, job: &[u8], dpi: Dpi) -> Answer
     ensures { ShrinksAt dpi job.now result }
 {
-    match shrink_everywhere(alloc, job, Profile::Drivers, Readers::Printers) {
+    match shrink_everywhere(alloc, job, FOR_PRINTERS) {
         Ok(shrunk) => Answer::of_bytes(shrunk.job, dpi),
         Err(fault) => Answer::of_failure(alloc, &CallFailure::from(fault), 0),
     }

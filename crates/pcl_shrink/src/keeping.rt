@@ -3,21 +3,11 @@
 ghost use Rattle.pcl_same.specs.Keeping.{KeepsJob};
 ghost use Rattle.pcl_shrink.specs.inner.Kept.{AreKeptSoFar, IsAcceptedAlso, IsKeptIfAny, KeepsJobs};
 
+use crate::reading::ReadJob;
 use pcl_base::{Dpi, JobFault, Profile, Size};
 use pcl_page::one_meaning;
 use pcl_same::{KeptJob, keep_job};
 use std::alloc::Global;
-
-/// How a job is read.
-#[derive(Clone, Copy)]
-pub struct Reading {
-    /// Which commands it may have.
-    pub profile: Profile,
-    /// The resolution at which it is written.
-    pub first: Dpi,
-    /// Another at which what is written must be the same too.
-    pub also: Option<Dpi>,
-}
 
 /// A job that is kept at each resolution at which it counts.
 #[derive(Drop)]
@@ -41,16 +31,13 @@ pub struct KeptSoFar<'a> {
 }
 
 /// Keeps a job at each of these resolutions at which it isn't kept already.
-pub fn keep_jobs<'a>(
-    alloc: Global,
-    job: &'a [u8],
-    at: Reading,
-    kept: KeptSoFar<'a>,
-) -> Result<KeptJobs<'a>, JobFault>
-    ensures { IsAcceptedAlso at.profile at.also job.now → AreKeptSoFar at.profile at.first at.also job.now kept.entry
-        → KeepsJobs at.profile at.first at.also job.now result }
+pub fn keep_jobs<'a>(source: ReadJob<'a>, kept: KeptSoFar<'a>) -> Result<KeptJobs<'a>, JobFault>
+    ensures { let at = source.entry.at in let job = source.entry.job.now in
+        IsAcceptedAlso at.profile at.also job → AreKeptSoFar at.profile at.first at.also job kept.entry
+        → KeepsJobs at.profile at.first at.also job result }
 {
     one_meaning();
+    let ReadJob { alloc, job, at } = source;
     let KeptSoFar { first, also } = kept;
     let first = kept_at(alloc, job, at.profile, at.first, first)?;
     match at.also {

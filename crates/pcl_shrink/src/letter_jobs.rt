@@ -3,7 +3,7 @@
 use crate::asking::{append_end, append_page_start, append_page_text};
 use crate::proposals::says_length;
 use crate::raster_jobs::REPEATED_BYTES;
-use crate::reading::ReadJob;
+use crate::reading::{Original, ReadJob};
 use crate::shifts::{Shift, shift_at};
 use crate::watching::{Pass, ShrinkWatcher};
 use glyph_pages::{END_RASTER, Lettering, PageWriter, Repeats, WholePage, text_hash};
@@ -13,19 +13,17 @@ use std::alloc::AllocError;
 use std::marker::Model;
 
 /// A proposal of a smaller job with the same pages, which asks for what a job asks for, with these letters as soft fonts or as macros
-/// (docs/GLYPHS.md), and with these texts for the pages and stretches of pages where that takes fewer bytes. Where the dots of the pages
-/// lie at 600 dots per inch is given if that counts. None where no page has letters, or where it has as many bytes as the job. Nothing is
-/// promised of it. The pages are those that the texts print: these may take far less time than the job, which is performed once.
+/// (docs/GLYPHS.md), and with these texts for the pages and stretches of pages where that takes fewer bytes. None where no page has
+/// letters, or where it has as many bytes as the job. Nothing is promised of it. The pages are those that the texts print: these may take
+/// far less time than the job, which is performed once.
 pub fn letter_job<'b, P: ShrinkWatcher>(
-    source: ReadJob<'_>,
-    shifts: &'b [Shift],
-    asks: &'b Asks<'_>,
+    original: Original<'_, 'b>,
     texts: &'b [Vec<u8>],
     lettering: &'b Lettering,
     watcher: P,
 ) -> Result<Option<Vec<u8>>, AllocError> {
-    let mut writer = LetterWriter::new(source, shifts, asks, texts, lettering, watcher);
-    match perform_texts(source, texts, &mut writer) {
+    let mut writer = LetterWriter::new(original, texts, lettering, watcher);
+    match perform_texts(original.source, texts, &mut writer) {
         Ok(()) => writer.finish(),
         Err(JobFault::Refused(_)) => Ok(None),
         Err(JobFault::Memory) => Err(AllocError),
@@ -65,7 +63,8 @@ fn perform_text<P: ShrinkWatcher>(
     if text.is_empty() {
         return Ok(());
     }
-    perform_by(source.alloc, text, source.profile, source.dpi, writer)?;
+    let at = source.at;
+    perform_by(source.alloc, text, at.profile, at.first, writer)?;
     writer.writer.forget_sheet();
     Ok(())
 }
@@ -75,10 +74,8 @@ fn perform_text<P: ShrinkWatcher>(
 /// and are deleted at its end.
 #[derive(Drop)]
 struct LetterWriter<'a, 'b, P> {
-    /// Where the dots of its pages lie at 600 dots per inch, if that counts.
-    shifts: &'b [Shift],
-    /// What the job asks for.
-    asks: &'b Asks<'a>,
+    /// The job.
+    original: Original<'a, 'b>,
     /// The texts of its pages without letters.
     texts: &'b [Vec<u8>],
     lettering: &'b Lettering,
@@ -103,9 +100,7 @@ struct LetterWriter<'a, 'b, P> {
     has_letters: bool,
     /// What is written, with the stretch after the letters.
     out: Vec<u8>,
-    /// With this many bytes what is written is too long, but for what may repeat in it.
-    limit: usize,
-    /// Whether it is: then nothing of it is left, and no more is written.
+    /// Whether what is written is too long: then nothing of it is left, and no more is written.
     is_too_long: bool,
     /// Is called for each page.
     watcher: P,
@@ -114,38 +109,40 @@ struct LetterWriter<'a, 'b, P> {
 impl<'a, 'b, P: ShrinkWatcher> LetterWriter<'a, 'b, P> {
     /// Before the first page.
     fn new(
-        source: ReadJob<'_>,
-        shifts: &'b [Shift],
-        asks: &'b Asks<'a>,
+        original: Original<'a, 'b>,
         texts: &'b [Vec<u8>],
         lettering: &'b Lettering,
         watcher: P,
     ) -> LetterWriter<'a, 'b, P> {
+        let alloc = original.source.alloc;
         LetterWriter {
-            shifts,
-            asks,
+            original,
             texts,
             lettering,
-            writer: PageWriter::new(lettering, says_length(asks)),
-            repeats: lettering.repeats(source.alloc),
+            writer: PageWriter::new(lettering, says_length(original.asks)),
+            repeats: lettering.repeats(alloc),
             pages: 0,
             first: 0,
             whole: 0,
             plain: 0,
-            known: Vec::new(source.alloc),
+            known: Vec::new(alloc),
             place: 0,
             spans_reset: false,
             has_letters: false,
-            out: Vec::new(source.alloc),
-            limit: source.job.len(),
+            out: Vec::new(alloc),
             is_too_long: false,
             watcher,
         }
     }
 
+    /// With how many bytes what is written is too long, but for what may repeat in it.
+    fn limit(&self) -> usize {
+        self.original.source.job.len()
+    }
+
     /// With how many bytes what is written is too long, whatever repeats in it.
     fn limit_with_repeats(&self) -> usize {
-        self.limit.saturating_add(REPEATED_BYTES)
+        self.limit().saturating_add(REPEATED_BYTES)
     }
 
     /// Whether the stretch is too long without letters.
@@ -167,12 +164,12 @@ impl<'a, 'b, P: ShrinkWatcher> LetterWriter<'a, 'b, P> {
 
     /// Appends what stands before the next page.
     fn begin_page(&mut self) -> Result<(), AllocError> {
-        let starts = self.pages == 0 || has_exit(self.asks, self.pages);
+        let starts = self.pages == 0 || has_exit(self.original.asks, self.pages);
         if starts {
             self.end_stretch()?;
         }
         let mut start = Vec::new(*self.out.allocator());
-        let is_reset = append_page_start(self.asks, self.pages, &mut start)?;
+        let is_reset = append_page_start(self.original.asks, self.pages, &mut start)?;
         self.whole = self.whole.saturating_add(start.len());
         self.plain = self.plain.saturating_add(start.len());
         if is_reset {
@@ -180,7 +177,7 @@ impl<'a, 'b, P: ShrinkWatcher> LetterWriter<'a, 'b, P> {
         }
         self.out.extend_from_slice(&start)?;
         if starts {
-            self.spans_reset = spans_reset(self.asks, self.pages);
+            self.spans_reset = spans_reset(self.original.asks, self.pages);
             self.append_letters()?;
         } else if is_reset {
             self.lettering.append_settings(&mut self.out)?;
@@ -239,12 +236,12 @@ impl<'a, 'b, P: ShrinkWatcher> LetterWriter<'a, 'b, P> {
     fn append_plain(&mut self) -> Result<(), AllocError> {
         for (number, text) in self.texts.iter().enumerate() {
             if self.first <= number && number < self.pages {
-                let is_reset = append_page_start(self.asks, number, &mut self.out)?;
+                let is_reset = append_page_start(self.original.asks, number, &mut self.out)?;
                 if is_reset {
                     self.repeats.end(&mut self.out)?;
                 }
                 let place = self.out.len();
-                append_page_text(self.asks, number, text, &mut self.out)?;
+                append_page_text(self.original.asks, number, text, &mut self.out)?;
                 self.repeats.add_page(&self.out, place)?;
             }
         }
@@ -267,8 +264,8 @@ impl<'a, 'b, P: ShrinkWatcher> LetterWriter<'a, 'b, P> {
         if !self.has_letters {
             return Ok(false);
         }
-        append_end(self.asks, self.pages, &mut self.out)?;
-        Ok(self.out.len() < self.limit)
+        append_end(self.original.asks, self.pages, &mut self.out)?;
+        Ok(self.out.len() < self.limit())
     }
 
     /// Appends what was written of a page, of which this is a text without letters, so that it says what was said of it. The end of a
@@ -282,8 +279,8 @@ impl<'a, 'b, P: ShrinkWatcher> LetterWriter<'a, 'b, P> {
             None => written,
         };
         let place = self.out.len();
-        append_page_text(self.asks, self.pages, text, &mut self.out)?;
-        match shift_at(self.shifts, self.pages) {
+        append_page_text(self.original.asks, self.pages, text, &mut self.out)?;
+        match shift_at(self.original.shifts, self.pages) {
             Shift::HalfLower if text != plain => lower_page(&mut self.out, place),
             _ => Ok(()),
         }
@@ -303,7 +300,7 @@ impl<'a, 'b, P: ShrinkWatcher> LetterWriter<'a, 'b, P> {
     fn append_page(&mut self, page: &Page, text: &[u8]) -> Result<(), AllocError> {
         self.begin_page()?;
         let mut written = Vec::new(*self.out.allocator());
-        append_page_text(self.asks, self.pages, text, &mut written)?;
+        append_page_text(self.original.asks, self.pages, text, &mut written)?;
         self.whole = self.whole.saturating_add(written.len());
         if self.is_new(text)? {
             self.plain = self.plain.saturating_add(written.len());

@@ -5,7 +5,8 @@ ghost use Rattle.pcl_same.specs.Keeping.{IsKept};
 ghost use Rattle.pcl_shrink.specs.Looking.{SaysIfSame, SaysIfSameAt};
 ghost use Rattle.pcl_shrink.specs.inner.Kept.{AreKept};
 
-use crate::keeping::{KeptJobs, Reading};
+use crate::keeping::KeptJobs;
+use crate::reading::Reading;
 use pcl_base::{Dpi, JobFault, Profile};
 use pcl_same::{KeptJob, compare_kept, one_asked_answer};
 use std::alloc::{AllocError, Global};

@@ -8,7 +8,7 @@ use crate::keeping::room_of;
 use crate::letter_jobs::letter_job;
 use crate::raster_jobs::{asked_len, plain_job};
 use crate::rasters::{Text, shortest_texts};
-use crate::reading::ReadJob;
+use crate::reading::{Original, ReadJob};
 use crate::shifts::Shift;
 use crate::texts::{Found, page_texts};
 use crate::watching::ShrinkWatcher;
@@ -41,9 +41,9 @@ pub fn propose<'a, P: ShrinkWatcher>(
     shifts: &[Shift],
     watcher: P,
 ) -> Result<Proposed<'a>, JobFault>
-    ensures { HasProposed source.entry.profile source.entry.dpi source.entry.job.now result }
+    ensures { HasProposed source.entry.at.profile source.entry.at.first source.entry.job.now result }
 {
-    let room = room_of(source.dpi);
+    let room = room_of(source.at.first);
     let (texts, found) = page_texts(source, shifts, room, watcher)?;
     let Found {
         shapes,
@@ -53,7 +53,12 @@ pub fn propose<'a, P: ShrinkWatcher>(
     } = found;
     let pages = texts.len();
     let limit = asked_len(source.alloc, &asks, &texts)?;
-    let proposal = proposal_of(source, shifts, texts, &asks, shapes, watcher)?;
+    let original = Original {
+        source,
+        shifts,
+        asks: &asks,
+    };
+    let proposal = proposal_of(original, texts, shapes, watcher)?;
     Ok(Proposed {
         proposal,
         limit,
@@ -67,26 +72,30 @@ pub fn propose<'a, P: ShrinkWatcher>(
 /// shorter than the job, nor where the job counts on what stays in the printer, so that only the job itself asks for the same, nor where
 /// a page has dots that no page of 300 dots per inch has at 600.
 fn proposal_of<P: ShrinkWatcher>(
-    source: ReadJob<'_>,
-    shifts: &[Shift],
+    original: Original<'_, '_>,
     texts: Vec<Text>,
-    asks: &Asks<'_>,
     shapes: Collection,
     watcher: P,
 ) -> Result<Option<Proposal>, AllocError> {
-    let alloc = source.alloc;
-    let limit = source.job.len();
+    let Original {
+        source,
+        shifts,
+        asks,
+    } = original;
     if asks.lasts || shifts.contains(&Shift::Other) {
         return Ok(None);
     }
     let by = raster_kind(&texts);
-    let plain = shortest_texts(alloc, texts, shifts)?;
-    match propose_letters(source, shifts, asks, &plain, shapes, watcher)? {
+    let plain = shortest_texts(source.alloc, texts, shifts)?;
+    match propose_letters(original, &plain, shapes, watcher)? {
         Some(job) => Ok(Some(Proposal {
             job,
             by: Candidate::Glyphs,
         })),
-        None => Ok(proposal_by(by, plain_job(alloc, asks, plain, limit)?)),
+        None => {
+            let job = plain_job(source.alloc, asks, plain, source.job.len())?;
+            Ok(proposal_by(by, job))
+        }
     }
 }
 
@@ -106,18 +115,17 @@ fn raster_kind(texts: &[Text]) -> Candidate {
 
 /// A job with letters among these shapes, where that is shorter than these texts of its pages and than the job.
 fn propose_letters<P: ShrinkWatcher>(
-    source: ReadJob<'_>,
-    shifts: &[Shift],
-    asks: &Asks<'_>,
+    original: Original<'_, '_>,
     plain: &[Vec<u8>],
     shapes: Collection,
     watcher: P,
 ) -> Result<Option<Vec<u8>>, AllocError> {
-    if shifts.contains(&Shift::HalfLower) && says_length(asks) {
+    if original.shifts.contains(&Shift::HalfLower) && says_length(original.asks) {
         return Ok(None);
     }
+    let source = original.source;
     let lettering = Lettering::new(source.alloc, shapes, source.job.len())?;
-    lettered(source, shifts, asks, plain, &lettering, watcher)
+    lettered(original, plain, &lettering, watcher)
 }
 
 /// Whether the length of a page is said: in lines, of which pages that lie half a dot lower set the spacing, and line feeds too.
@@ -129,9 +137,7 @@ pub fn says_length(asks: &Asks<'_>) -> bool {
 
 /// A job with these letters, where there are any and it is shorter than these texts of its pages and than the job.
 fn lettered<P: ShrinkWatcher>(
-    source: ReadJob<'_>,
-    shifts: &[Shift],
-    asks: &Asks<'_>,
+    original: Original<'_, '_>,
     plain: &[Vec<u8>],
     lettering: &Lettering,
     watcher: P,
@@ -139,6 +145,6 @@ fn lettered<P: ShrinkWatcher>(
     if lettering.is_empty() {
         Ok(None)
     } else {
-        letter_job(source, shifts, asks, plain, lettering, watcher)
+        letter_job(original, plain, lettering, watcher)
     }
 }

@@ -7,10 +7,10 @@ use crate::reading::ReadJob;
 use crate::shifts::{Shift, form_of, shift_at};
 use crate::watching::{NoWatcher, Pass, ShrinkWatcher};
 use glyph_shapes::Collection;
-use pcl_base::{Dpi, JobFault, Profile};
+use pcl_base::JobFault;
 use pcl_page::{Asks, Doubt, Page, PageSink, perform_doubted};
 use pcl_same::PageKeeper;
-use std::alloc::{AllocError, Global};
+use std::alloc::AllocError;
 use std::marker::Model;
 
 /// What is found in a job.
@@ -34,23 +34,18 @@ pub fn page_texts<'a, P: ShrinkWatcher>(
     room: usize,
     watcher: P,
 ) -> Result<(Vec<Text>, Found<'a>), JobFault>
-    ensures { HasTexts source.entry.profile source.entry.dpi source.entry.job.now result }
+    ensures { HasTexts source.entry.at.profile source.entry.at.first source.entry.job.now result }
 {
-    let ReadJob {
-        alloc,
-        job,
-        profile,
-        dpi,
-    } = source;
+    let ReadJob { alloc, job, at } = source;
     let mut writer = TextWriter {
         texts: Vec::new(alloc),
-        shapes: Collection::new(alloc, form_of(profile, dpi, shifts)),
+        shapes: Collection::new(alloc, form_of(at.profile, at.first, shifts)),
         keeper: PageKeeper::new(alloc, room),
         shifts,
         watcher,
     };
     let mut doubt = None;
-    let asks = perform_doubted(alloc, job, profile, dpi, &mut doubt, &mut writer)?;
+    let asks = perform_doubted(alloc, job, at.profile, at.first, &mut doubt, &mut writer)?;
     let found = Found {
         shapes: writer.shapes,
         keeper: writer.keeper,
@@ -61,20 +56,9 @@ pub fn page_texts<'a, P: ShrinkWatcher>(
 }
 
 /// The texts of the pages of a job as rasters, alone. A refusal is the job's.
-pub fn texts_alone(
-    alloc: Global,
-    job: &[u8],
-    profile: Profile,
-    dpi: Dpi,
-) -> Result<Vec<Text>, JobFault>
-    ensures { HasTextsAlone profile dpi job.now result }
+pub fn texts_alone(source: ReadJob<'_>) -> Result<Vec<Text>, JobFault>
+    ensures { HasTextsAlone source.entry.at.profile source.entry.at.first source.entry.job.now result }
 {
-    let source = ReadJob {
-        alloc,
-        job,
-        profile,
-        dpi,
-    };
     match page_texts(source, &[], 0, NoWatcher) {
         Ok((texts, _)) => Ok(texts),
         Err(fault) => Err(fault),

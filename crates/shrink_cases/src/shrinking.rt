@@ -2,7 +2,7 @@
 
 use case_tables::{TableFault, resolution};
 use pcl_base::{Dpi, JobFault, Profile};
-use pcl_shrink::{Readers, Shrunk, shrink, shrink_everywhere};
+use pcl_shrink::{Readers, Shrunk, Terms, shrink, shrink_everywhere};
 use std::alloc::{AllocError, Global};
 
 /// A resolution; `auto` is both, for which none stands.
@@ -20,9 +20,13 @@ pub fn shrunk_at(
     dpi: Option<Dpi>,
     readers: Readers,
 ) -> Result<Shrunk, JobFault> {
+    let terms = Terms {
+        profile: Profile::Drivers,
+        readers,
+    };
     match dpi {
-        Some(dpi) => shrink(alloc, job, Profile::Drivers, dpi, readers),
-        None => shrink_everywhere(alloc, job, Profile::Drivers, readers),
+        Some(dpi) => shrink(alloc, job, terms, dpi),
+        None => shrink_everywhere(alloc, job, terms),
     }
 }
 

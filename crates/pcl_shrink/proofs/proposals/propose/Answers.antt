@@ -20,7 +20,7 @@ returns g c =
         counted = omega (
           arith,
           c.len-pages.ensures,
-          as_many_texts c.args.source.dpi found.0.0 (least_of texts) found.0.2,
+          as_many_texts c.args.source.at.first found.0.0 (least_of texts) found.0.2,
           length-map texts (λ (t : Text). t.least.items),
         );
       },

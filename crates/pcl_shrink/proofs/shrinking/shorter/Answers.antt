@@ -9,10 +9,10 @@ returns-then-len-best_len c = λ kept.
 
 pub returns-then-not-branch : goal.returns-then-not-branch
 returns-then-not-branch c = λ kept.
-    stays_unlike (says_unlike _ _ _ _ _ c.if-not-branch.true c.deref.ensures.value (c.in_ok-is_same.ensures c.args.job.now kept))
+    stays_unlike (says_unlike _ _ _ _ _ c.if-not-branch.true c.deref.ensures.value (c.in_ok-is_same.ensures c.args.source.job.now kept))
 
 pub returns : goal.returns
 returns c = λ kept.
-    takes_proposal (c.one_meaning.ensures.pages c.args.at.profile) (c.one_meaning.ensures.asks c.args.at.profile)
-    (says_same _ _ _ _ _ c.if-not-branch.false c.deref.ensures.value (c.in_ok-is_same.ensures c.args.job.now kept))
+    takes_proposal (c.one_meaning.ensures.pages c.args.source.at.profile) (c.one_meaning.ensures.asks c.args.source.at.profile)
+    (says_same _ _ _ _ _ c.if-not-branch.false c.deref.ensures.value (c.in_ok-is_same.ensures c.args.source.job.now kept))
     (omega (arith, c.len.ensures, c.best_len.ensures, c.if-len-best_len.false))

@@ -3,4 +3,6 @@ use Rattle.pcl_shrink.proofs.shrinking.shrink_everywhere_watched.Goals as goal
 
 pub returns-in-Stated : goal.returns-in-Stated
 returns-in-Stated g c =
-    rw c.in-Stated.is (everywhere_by_stated c.args.job.now c.args.readers c.shrink_everywhere_by.result c.shrink_everywhere_by.ensures)
+    rw c.in-Stated.is
+    (everywhere_by_stated c.args.job.now c.args.terms.readers c.shrink_everywhere_by.result
+    (rw c.in-Stated.is at c.shrink_everywhere_by.ensures))

@@ -3,4 +3,5 @@ use Rattle.pcl_shrink.proofs.shrinking.shrink_watched.Goals as goal
 
 pub returns-in-Stated : goal.returns-in-Stated
 returns-in-Stated g c =
-    rw c.in-Stated.is (shrunk_by_stated c.args.dpi c.args.job.now c.args.readers c.shrink_by.result c.shrink_by.ensures)
+    rw c.in-Stated.is
+    (shrunk_by_stated c.args.dpi c.args.job.now c.args.terms.readers c.shrink_by.result (rw c.in-Stated.is at c.shrink_by.ensures))

@@ -5,7 +5,7 @@ use Rattle.pcl_shrink.proofs.texts.page_texts.Goals as goal
 pub returns : goal.returns
 returns g c =
     let h = c.in_ok-asks.ensures.0 in
-    let dpi = c.args.source.dpi in
+    let dpi = c.args.source.at.first in
     let sheets = accepted_pages h in
     let new = c.perform_doubted.new.sink in
     let listed = texts_from_none dpi sheets new.texts (texts_taken dpi sheets _ new h.handed.1) (ap least_of c.new.ensures.items) in
