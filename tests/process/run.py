@@ -157,24 +157,26 @@ def run_within(program, words, job, limit):
 
 def check_memory(program):
     """From the least memory that begins a process, and up to plenty, a right command line is done or ends as out of memory."""
-    wrong, count = [], 0
-    for words, job in ((["min"], DOT), (["pbm", "--page", "1"], DOT), (["--help"], b""), (["--version"], b"")):
+    wrong = []
+    runs = (["min"], DOT), (["pbm", "--page", "1"], DOT), (["--help"], b""), (["--version"], b"")
+    for words, job in runs:
         plenty = run_within(program, words, job, PLENTY)
-        begins, done, enough = None, None, 0
+        begins, done, enough, faults = None, None, 0, []
         for limit in range(STEP, PLENTY, STEP):
             came = run_within(program, words, job, limit)
             if came is None and begins is None:
                 continue
             begins = begins or limit
-            count += 1
             enough = enough + 1 if came == plenty else 0
             done = done or (limit if enough else None)
             if came is None or (came != plenty and came != (3, OUT_OF_MEMORY, b"")):
-                wrong.append(f"{' '.join(words)} within {limit} KB: {'a signal' if came is None else came[:2]}")
+                faults.append(f"{' '.join(words)} within {limit} KB: {'a signal' if came is None else came[:2]}")
             if enough == ENOUGH:
                 break
         print(f"{' '.join(words)}: begins within {begins} KB, is first done within {done} KB")
-    return wrong, count
+        if faults:
+            wrong.append("\n".join(faults))
+    return wrong, len(runs)
 
 
 def check_owners(program):
@@ -383,7 +385,10 @@ def main():
         wrong, count = [], 0
         for check in (check_table, check_texts, check_owners, check_lengths, check_sizes, check_memory, check_terminal,
                       check_hints, check_spared_terminal):
-            faults, cases_of_it = check(copy)
+            try:
+                faults, cases_of_it = check(copy)
+            except subprocess.TimeoutExpired as late:
+                faults, cases_of_it = [f"{check.__name__}: {late}"], 1
             wrong += faults
             count += cases_of_it
     for fault in wrong:
