@@ -2,42 +2,58 @@
 # building also needs Python 3, in which `rt` itself is written.
 
 PREFIX ?= /usr/local
-PROGRAM := crates/pclmin/out/pclmin
+PROGRAM := build/pclmin
 
-.PHONY: demo build test test-edits test-memory test-process test-delivery test-batch test-slurm test-cups oracle examples bench bench-certificates bench-clients install install-cups deb test-cupsd clean lib install-lib test-library web serve test-web
+# `make test-edits pcl_page pcl_env` tries the edits of these crates.
+ifeq (test-edits,$(firstword $(MAKECMDGOALS)))
+CRATES := $(wordlist 2,$(words $(MAKECMDGOALS)),$(MAKECMDGOALS))
+.PHONY: $(CRATES)
+$(CRATES):
+	@:
+endif
+
+.PHONY: kit demo build test test-edits test-memory test-process test-delivery test-batch test-slurm test-cups oracle examples bench bench-certificates bench-clients install install-cups deb test-cupsd clean lib install-lib test-library web serve test-web
+
+# Says what the kit is where its command isn't there.
+kit:
+	@tools/kit.sh
 
 # Previews the sample job into build/demo.pbm, and shrinks it into build/demo.pcl, by two of the kit's quick runs side by side: a minute
-# or two after a fresh clone, and nothing is proved.
-demo:
-	mkdir -p build
-	cd crates/pclmin && { rt try -- shrink < ../../examples/picture.pcl > ../../build/demo.pcl & \
-		rt try -- pbm --page 1 < ../../examples/picture.pcl > ../../build/demo.pbm && wait $$!; }
+# or two after a fresh clone, and nothing is proved. It says every ten seconds how long it has worked.
+demo: kit
+	@mkdir -p build
+	@echo "compiling pclmin for two quick runs, of which nothing is proved: a minute or two on four quiet cores"
+	@while sleep 10; do echo "at work for $$((seconds += 10)) seconds"; done & watch=$$!; trap "kill $$watch" EXIT; cd crates/pclmin && \
+		{ rt try -- shrink < ../../examples/picture.pcl > ../../build/demo.pcl & shrink=$$!; \
+		rt try -- pbm --page 1 < ../../examples/picture.pcl > ../../build/demo.pbm && wait $$shrink; }
 	@echo "build/demo.pbm is page 1 of examples/picture.pcl, and build/demo.pcl the same page in $$(wc -c < build/demo.pcl) bytes in place of"
 	@echo "$$(wc -c < examples/picture.pcl), by a program that isn't proved yet: see make build"
 	@if command -v pnmtopng > /dev/null; then pnmtopng -quiet build/demo.pbm > build/demo.png && echo "build/demo.png is the same"; fi
 
-# Proves the libraries that the program stands on side by side (LANES=2 keeps to two processors), and then the program, builds it, and
-# previews the sample job into build/sample.pbm. Needs Python 3.
-build:
+# Proves the libraries that the program stands on side by side (LANES=2 keeps to two processors), and then the program, builds it as
+# build/pclmin, and previews the sample job into build/sample.pbm. What is proved is kept in ~/.cache/pclmin (tools/crates.py says
+# where). Needs Python 3.
+build: kit
 	tools/build.py pclmin
 	$(PROGRAM) pbm --page 1 < examples/picture.pcl > build/sample.pbm
 	@echo "build/sample.pbm is page 1 of examples/picture.pcl"
 
-# The merge gate: proves every crate from nothing, tries each wrong edit of crates/, runs each test and each program.
-test:
-	rt ci
+# After `make build`: proves the crates of tests, and what has changed since, and runs all tests and programs. Where nothing is built: the
+# kit's whole gate, `rt ci`, which proves every crate from nothing, tries the wrong edits of crates/, and runs the same. Needs Python 3.
+test: kit
+	tools/test.py
 
-# Tries the wrong edits that the gate doesn't, those of tests/edits/: run before a release. Proves all that their crates stand on first.
-# Needs Python 3.
-test-edits:
-	tests/edits/try.py
+# Tries the wrong edits of the crates that are named, or of all, and notes in tests/edits/tried what was refused: run for each crate that
+# changed, and for all before a release. Builds what their crates stand on first. Needs Python 3.
+test-edits: kit
+	tests/edits/try.py $(CRATES)
 
 # Makes the first allocation of the program crates/memory_cases fail, then the second, and so on, until a run in which memory ran out
 # nowhere; then the same of runs and batches of pclmin (tests/process/memory.py). It takes three minutes once memory_cases is proved.
 # Needs Python 3, a C compiler, and the program that `make build` left.
 test-memory:
 	tools/build.py memory_cases
-	tests/process/memory.py $(PROGRAM) crates/memory_cases/out/memory_cases crates/memory_cases/stdout
+	tests/process/memory.py $(PROGRAM) build/memory_cases crates/memory_cases/stdout
 
 # Compares what the process says and its status where files, standard streams and memory fail, what a terminal is told
 # (tests/process/cases.txt), and help and usage faults whole (those of crates/command_cases), and makes each call of the system in some
@@ -48,8 +64,8 @@ test-process:
 
 # All that gets the filter to people: test-cups, test-batch and test-cupsd, and then the manual pages by their linter, the completions
 # in each shell, what file managers show of jobs, what the console blocks of the documents print and where their links lead, what
-# `explain` and `--help` say beside the documents, a second checker beside `check`, and the Debian package, installed and purged. Needs
-# root, Python 3, mandoc, zsh, fish, the packages that tests/delivery/batch.py, tests/delivery/thumbnails.sh and
+# `explain` and `--help` say beside the documents, a second checker beside `check`, the Debian package, installed and purged, and README's
+# commands, one after the other, in clones with a few small crates. Needs root, Python 3, mandoc, zsh, fish, the packages that tests/delivery/batch.py, tests/delivery/thumbnails.sh and
 # tests/printers/server.py name, and the program that `make build` left.
 test-delivery: test-cups test-batch test-cupsd
 	mandoc -T lint -W warning share/man/pclmin.1 share/man/pclmin-cups.8
@@ -59,6 +75,7 @@ test-delivery: test-cups test-batch test-cupsd
 	tests/delivery/said.py $(PROGRAM)
 	tests/delivery/sceptic.py $(PROGRAM)
 	tests/delivery/deb.sh try
+	tests/delivery/commands.py
 
 # Makes 1,000 jobs, some of them refused, empty or not there, and runs batches over them: one that is killed and run again, and those
 # of GNU parallel in docs/BATCH.md, on this machine and over ssh on loopback. Needs the packages that tests/delivery/batch.py names, and
@@ -175,6 +192,7 @@ install-cups:
 deb:
 	tests/delivery/deb.sh
 
-# Removes what was built, and the proofs that were kept: the next build proves everything again.
-clean:
+# Removes what was built, and the proofs that were kept of this clone: the next build proves everything again.
+clean: kit
+	tools/build.py --clean
 	rm -rf build crates/*/out

@@ -17,9 +17,8 @@ build() (
     echo "coder_bench: pcl_coders" >> "$room/crates.txt"
     mkdir -p "$room/crates/coder_bench/src"
     cp bench/coder_bench/main.rattle "$room/crates/coder_bench/src/main.rt"
-    ln -s "$PWD/build" "$room/build"
-    "$room/tools/build.py" coder_bench
-    cp "$room/crates/coder_bench/out/coder_bench" "$bench"
+    PCLMIN_CACHE=$(tools/build.py --where) "$room/tools/build.py" coder_bench
+    cp "$room/build/coder_bench" "$bench"
 )
 
 [ -n "${CODER_BENCH:-}" ] || build >&2

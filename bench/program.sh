@@ -2,7 +2,7 @@
 # PLAIN is that of the plain program (oracle/plain), which `build_plain` builds.
 mkdir -p build/bench
 if [ -z "${PCLMIN:-}" ]; then
-    PCLMIN=$PWD/crates/pclmin/out/pclmin
+    PCLMIN=$PWD/build/pclmin
     tools/build.py pclmin >&2
 fi
 PLAIN=build/bench/plain

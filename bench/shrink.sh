@@ -3,7 +3,7 @@
 # them. Needs groff, ghostscript and xz. The text is that of docs/LANGUAGE.md, set in Times at 11 points.
 set -euo pipefail
 cd "$(dirname "$0")/.."
-program=$(realpath "${1:-crates/pclmin/out/pclmin}")
+program=$(realpath "${1:-build/pclmin}")
 folder=$(mktemp -d)
 trap 'rm -rf "$folder"' EXIT
 

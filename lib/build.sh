@@ -13,7 +13,7 @@ mkdir -p build/lib
 tools/build.py pcl_library
 "$cc" -std=c11 -O2 -fPIC -Wall -Wextra -DPCLMIN_VERSION="\"$version\"" ${CFLAGS:-} -c lib/pclmin.c -o build/lib/shell.o
 # One object, whose other names no program can meet.
-ld -r -o build/lib/pclmin.o build/lib/shell.o --whole-archive crates/pcl_library/out/libpcl_library.a "$kit/c/liblibc_c.a"
+ld -r -o build/lib/pclmin.o build/lib/shell.o --whole-archive build/libpcl_library.a "$kit/c/liblibc_c.a"
 objcopy --wildcard --keep-global-symbol='pclmin_*' build/lib/pclmin.o
 rm -f build/libpclmin.a
 ar rcs build/libpclmin.a build/lib/pclmin.o

@@ -4,7 +4,7 @@
 # PCLMIN names another build of pclmin. Needs rustc and Python 3.
 set -euo pipefail
 cd "$(dirname "$0")/.."
-PCLMIN=${PCLMIN:-crates/pclmin/out/pclmin}
+PCLMIN=${PCLMIN:-build/pclmin}
 [ -x "$PCLMIN" ] || { echo "there is no $PCLMIN: run make build first" >&2; exit 1; }
 
 mkdir -p build/oracle

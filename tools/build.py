@@ -5,9 +5,9 @@ and those first that most work waits for:
     tools/build.py pclmin
 
 Each is proved from nothing by the kit's `rattle`, as `rt ci` does it: over what the crates below state, without their proofs, so that a
-crate high up reads a tenth of what `rt check` has it read. What is stated is kept in build/lanes/NAME.rlib, what was said in NAME.log
-beside it, and a crate is built again once a file of it, or of a crate below, or the kit has changed. A program is left in
-crates/NAME/out/NAME, a static library in crates/NAME/out/libNAME.a.
+crate high up reads a tenth of what `rt check` has it read. What is stated is kept outside of this clone (tools/crates.py), what was said
+in NAME.log beside it, and a crate is built again once a file of it, or of a crate below, the kit, or what was kept has changed. A program
+is left in build/NAME, a static library in build/libNAME.a.
 
 There are as many jobs as processors. The crate that most work waits for has two of them, and the others one, since two take a third
 more of the processors, unless there are fewer crates to build than processors; and all but the first are nice. LANES bounds how many
@@ -15,13 +15,17 @@ processors are taken.
 
     tools/build.py --check pcl_tool [FLAG..]
 
-builds what a crate stands on, and then proves the crate over what earlier calls kept in build/lanes/NAME.kept, with these flags of
-`rattle check` (`--only pcl_tool::filter`, `--allow-holes`).
+builds what a crate stands on, and then proves the crate over what earlier calls kept, with these flags of `rattle check`
+(`--only pcl_tool::filter`, `--allow-holes`).
+
+    tools/build.py --where
+    tools/build.py --clean
+
+tells where all that is kept of this clone is, and removes it.
 """
 
+import contextlib
 import fcntl
-import functools
-import hashlib
 import os
 import pathlib
 import shutil
@@ -30,113 +34,18 @@ import subprocess
 import sys
 import time
 
-ROOT = pathlib.Path(__file__).resolve().parent.parent
-LANES = ROOT / "build" / "lanes"
-if not shutil.which("rt"):
-    sys.exit("build.py: there is no rt, the command of the Rattle kit")
-KIT = pathlib.Path(subprocess.run(["rt", "doc"], stdout=subprocess.PIPE, text=True, check=True).stdout.strip()).parent
+sys.dont_write_bytecode = True
+from crates import CACHE, crates
+
 FIRST_JOB = 3_000_000_000  # bytes that a large check may take with one job
 FURTHER_JOB = 1_000_000_000  # bytes of each further job
-READING = 10  # seconds that a check reads before it proves anything
 FIRST_JOBS = 2  # of the crate that most work waits for
 MOST_JOBS = 4  # of a crate
 
 
-class Crate:
-    """A line of crates.txt: a name, whether it is a static library, and which libraries it names, of the repository and of the kit."""
-
-    def __init__(self, line, crates):
-        head, _, uses = line.partition(":")
-        self.line = line
-        self.name, *self.kind = head.split()
-        self.uses = [crates[it] for it in uses.split() if it in crates]
-        self.of_kit = ["std", *(it for it in uses.split() if it not in crates)]
-        self.folder = ROOT / "crates" / self.name
-        self.is_program = (self.folder / "src" / "main.rt").is_file()
-
-    @functools.cached_property
-    def below(self):
-        """The crates that it stands on, lowest first."""
-        found = dict.fromkeys(it for use in self.uses for it in [*use.below, use])
-        return list(found)
-
-    @functools.cached_property
-    def work(self):
-        """About how many seconds its proofs take: one a function, one for each contract, and one for each `?`, a way out where all is
-        dropped that is alive there. Lines of proof say little."""
-        texts = [it.read_text() for it in (self.folder / "src").rglob("*.rt")]
-        return READING + sum(text.count(word) for text in texts for word in ("fn ", "ensures", "?"))
-
-    @functools.cached_property
-    def stamp(self):
-        """A sum of all that it is made of."""
-        total = hashlib.sha256(self.line.encode() + (KIT / "WHAT").read_bytes())
-        for part in ("src", "specs", "proofs"):
-            for file in sorted(it for it in (self.folder / part).rglob("*") if it.is_file()):
-                total.update(f"{file.relative_to(self.folder)}\n{file.stat().st_size}\n".encode() + file.read_bytes())
-        for it in self.uses:
-            total.update(it.stamp.encode())
-        return total.hexdigest()
-
-    @property
-    def made(self):
-        """What its build leaves."""
-        if self.is_program:
-            return self.folder / "out" / self.name
-        return self.folder / "out" / f"lib{self.name}.a" if self.kind else LANES / f"{self.name}.rlib"
-
-    @property
-    def stamp_file(self):
-        return LANES / f"{self.name}.stamp"
-
-    def is_built(self):
-        return self.made.exists() and self.stamp_file.is_file() and self.stamp_file.read_text() == self.stamp
-
-    def words(self, jobs):
-        """What the kit has to know to prove it."""
-        words = ["--crate-name", self.name, "src/main.rt" if self.is_program else "src/lib.rt"]
-        words += [word for it in self.of_kit for word in ("--extern", f"{it}={KIT}/rlibs/{it}.rlib")]
-        words += [word for it in self.uses for word in ("--extern", f"{it.name}={it.made}")]
-        words += ["-L", f"dependency={KIT}/rlibs", "-L", f"dependency={LANES}"]
-        words += ["--antt-project", KIT / "rattle/logic/antt-project.json", "--logic-built", KIT / "logic_built"]
-        words += ["--links", f"{self.name}=", "--jobs", str(jobs)]
-        return [*words, "--crate-type", *self.kind] if self.kind else words
-
-    def check(self, flags):
-        """How the kit proves it over what earlier checks kept, and builds nothing."""
-        return [KIT / "bin" / "rattle", "check", *self.words(1), "--incremental", LANES / f"{self.name}.kept", "--progress", *flags]
-
-    def command(self, jobs):
-        """How the kit proves it from nothing and builds it."""
-        words = [KIT / "bin" / "rattle", "build", *self.words(jobs)]
-        if self.is_program:
-            return [*words, "--toolchain", KIT / "toolchain", "-o", f"{self.made}.o"]
-        if self.kind:
-            return [*words, "--toolchain", KIT / "toolchain", "-o", self.made]
-        return [*words, "--statements", "-o", self.made]
-
-    def link(self, log):
-        words = [KIT / "bin" / "rattle-link", "--target", "x86_64-unknown-linux-gnu", "--toolchain", KIT / "toolchain"]
-        words += ["-o", self.made, f"{self.made}.o", KIT / "c/libos_c.a", KIT / "c/liblibc_c.a"]
-        return subprocess.run(words, stdout=log, stderr=subprocess.STDOUT, check=False).returncode == 0
-
-
-def crates():
-    """The crates of crates.txt by their names, each after those that it stands on."""
-    lines = [it for it in (ROOT / "crates.txt").read_text().splitlines() if it and not it.startswith("#")]
-    lines = {it.partition(":")[0].split()[0]: it for it in lines}
-    found = {}
-
-    def add(name):
-        for it in lines[name].partition(":")[2].split():
-            if it in lines and it not in found:
-                add(it)
-        found[name] = Crate(lines[name], found)
-
-    for name in lines:
-        if name not in found:
-            add(name)
-    return found
+def processors():
+    """How many processors may be taken."""
+    return int(os.environ.get("LANES") or len(os.sched_getaffinity(0)))
 
 
 def free_memory():
@@ -151,21 +60,15 @@ class Build:
 
     def __init__(self, crate, jobs, is_first):
         self.crate, self.jobs, self.began = crate, jobs, time.monotonic()
-        self.log = LANES / f"{crate.name}.log"
-        crate.stamp_file.unlink(missing_ok=True)
-        if crate.made.is_dir():
-            shutil.rmtree(crate.made)
-        crate.made.parent.mkdir(parents=True, exist_ok=True)
+        crate.forget()
         command = crate.command(jobs)
-        with open(self.log, "wb") as log:
+        with open(crate.log, "wb") as log:
             self.process = subprocess.Popen(command if is_first else ["nice", *command], cwd=crate.folder, stdin=subprocess.DEVNULL,
                                             stdout=log, stderr=subprocess.STDOUT, start_new_session=True)
 
     def stop(self):
-        try:
+        with contextlib.suppress(ProcessLookupError):
             os.killpg(self.process.pid, signal.SIGTERM)
-        except ProcessLookupError:
-            pass
         self.process.wait()
 
     def has_ended(self):
@@ -178,15 +81,16 @@ class Build:
 
     def end(self):
         """Whether it is proved and built; says so, or shows the log's last lines."""
-        with open(self.log, "ab") as log:
-            is_built = self.process.returncode == 0 and (not self.crate.is_program or self.crate.link(log))
+        crate = self.crate
+        with open(crate.log, "ab") as log:
+            is_built = self.process.returncode == 0 and (not crate.is_program or crate.link(log))
         if is_built:
-            self.crate.stamp_file.write_text(self.crate.stamp)
+            crate.keep()
             taken = time.monotonic() - self.began
-            print(f"{self.crate.name} is proved and built after {taken:.0f} seconds, {self.spent:.0f} of a processor", flush=True)
+            print(f"{crate.name} is proved and built after {taken:.0f} seconds, {self.spent:.0f} of a processor", flush=True)
             return True
-        sys.stdout.writelines(self.log.read_text(errors="replace").splitlines(keepends=True)[-20:])
-        print(f"{self.crate.name} isn't built: see {self.log.relative_to(ROOT)}", flush=True)
+        sys.stdout.writelines(crate.log.read_text(errors="replace").splitlines(keepends=True)[-20:])
+        print(f"{crate.name} isn't built: see {crate.log}", flush=True)
         return False
 
 
@@ -205,19 +109,34 @@ def within_memory(jobs):
     return max(1, min(jobs, 1 + (free_memory() - FIRST_JOB) // FURTHER_JOB))
 
 
-def build(names, processors):
-    """Builds the crates of these names and all below them that aren't built; the status is 1 where one isn't proved. Of two runs one
-    waits for the other."""
-    LANES.mkdir(parents=True, exist_ok=True)
-    with open(LANES / "lock", "w") as lock:
+@contextlib.contextmanager
+def alone():
+    """Of two runs over what is kept one waits for the other."""
+    CACHE.mkdir(parents=True, exist_ok=True)
+    with open(CACHE / "lock", "w") as lock:
         fcntl.flock(lock, fcntl.LOCK_EX)
-        return build_alone(names, processors)
+        yield
 
 
-def build_alone(names, processors):
-    all_crates = crates()
-    reached = {it for name in names for it in [*all_crates[name].below, all_crates[name]]}
-    wanted = [it for it in all_crates.values() if it in reached and not it.is_built()]
+def build(goals, at_once=None):
+    """Builds crates and all below them that aren't kept, and gives those that aren't built, so none where all is well. It ends with the
+    first that fails."""
+    with alone():
+        return build_alone(goals, at_once or processors())
+
+
+def unkept(goals):
+    """Of crates and all below them those that aren't kept, or that stand on such a one, lowest first. One that stands on others may be
+    found to be kept once these are built again."""
+    wanted = {}
+    for crate in dict.fromkeys(it for goal in goals for it in [*goal.below, goal]):
+        if not wanted.keys().isdisjoint(crate.uses) or not crate.is_kept():
+            wanted[crate] = None
+    return list(wanted)
+
+
+def build_alone(goals, at_once):
+    wanted = unkept(goals)
     chain = chains(wanted)
     left = sorted(wanted, key=lambda it: -chain[it])
     running = []
@@ -226,8 +145,11 @@ def build_alone(names, processors):
         while left or running:
             awaited = {*left, *(it.crate for it in running)}
             ready = [it for it in left if awaited.isdisjoint(it.uses)]
+            for crate in [it for it in ready if it.is_kept()]:
+                ready.remove(crate)
+                left.remove(crate)
             for at, crate in enumerate(ready):
-                idle = processors - sum(it.jobs for it in running)
+                idle = at_once - sum(it.jobs for it in running)
                 if idle > 0 and (not running or free_memory() > FIRST_JOB):
                     left.remove(crate)
                     is_first = all(chain[crate] >= chain[it.crate] for it in running)
@@ -237,30 +159,38 @@ def build_alone(names, processors):
             for it in [it for it in running if it.has_ended()]:
                 running.remove(it)
                 if not it.end():
-                    return 1
-        return 0
+                    return [it.crate, *(other.crate for other in running), *left]
+        return []
     finally:
         for it in running:
             it.stop()
 
 
-def check(name, flags, processors):
+def check(crate, flags):
     """Proves a crate over what earlier checks kept; the status is 1 where it or one below it isn't proved."""
-    crate = crates()[name]
-    if build([it.name for it in crate.uses], processors):
+    if build(crate.uses):
         return 1
     return subprocess.run(crate.check(flags), cwd=crate.folder, stdin=subprocess.DEVNULL, check=False).returncode
 
 
-def main():
-    for name in [it for it in sys.argv[1:] if not it.startswith("-")][: 1 if "--check" in sys.argv else None]:
-        if name not in crates():
+def main(words):
+    if words == ["--where"]:
+        print(CACHE)
+        return 0
+    if words == ["--clean"]:
+        shutil.rmtree(CACHE, ignore_errors=True)
+        return 0
+    known = crates()
+    named = words[1:2] if words[:1] == ["--check"] else words
+    for name in named:
+        if name not in known:
             sys.exit(f"build.py: crates.txt has no crate {name}")
-    processors = int(os.environ.get("LANES") or len(os.sched_getaffinity(0)))
-    if sys.argv[1:2] == ["--check"]:
-        return check(sys.argv[2], sys.argv[3:], processors)
-    return build(sys.argv[1:], processors)
+    if not named:
+        sys.exit(__doc__)
+    if words[0] == "--check":
+        return check(known[named[0]], words[2:])
+    return 1 if build([known[it] for it in named]) else 0
 
 
 if __name__ == "__main__":
-    sys.exit(main())
+    sys.exit(main(sys.argv[1:]))

@@ -4,7 +4,7 @@
 # program that `make build` left.
 set -euo pipefail
 cd "$(dirname "$0")/../.."
-program=crates/pclmin/out/pclmin
+program=build/pclmin
 [ -x "$program" ] || { echo "there is no $program: run make build first" >&2; exit 1; }
 
 version=$("$program" --version | cut -d ' ' -f 2)

@@ -5,7 +5,7 @@ what these get is compared with what the program writes and says. The calls in w
 small stacks, and those with pointers and numbers that no call takes have tests of their own below. Prints what doesn't hold and
 how much does; status 1 if something doesn't.
 
-    tests/library/run.py [PROGRAM]        PROGRAM is crates/pclmin/out/pclmin where none is given
+    tests/library/run.py [PROGRAM]        PROGRAM is build/pclmin where none is given
 """
 import json
 import os
@@ -327,7 +327,7 @@ def write(name, content):
 
 
 def main():
-    program = os.path.abspath(sys.argv[1] if len(sys.argv) > 1 else os.path.join(TOP, "crates/pclmin/out/pclmin"))
+    program = os.path.abspath(sys.argv[1] if len(sys.argv) > 1 else os.path.join(TOP, "build/pclmin"))
     if not os.path.exists(program):
         sys.exit(f"there is no {program}: run make build first")
     shutil.rmtree(BUILD, ignore_errors=True)

@@ -2,7 +2,7 @@
 """What the process of pclmin does where its surroundings fail: for each case of cases.txt the whole of standard error and
 the status are compared, and what is left in files. Prints the cases that don't hold and how many do; status 1 if one doesn't.
 
-    tests/process/run.py [PROGRAM]        PROGRAM is crates/pclmin/out/pclmin where none is given
+    tests/process/run.py [PROGRAM]        PROGRAM is build/pclmin where none is given
 
 A line of cases.txt is a command of the shell, `=>`, the status, `|`, and what standard error has to be, without its line feed.
 The command runs in a folder of its own, which has the files of FILES; `pclmin` is the program. Empty lines and lines that begin
@@ -375,7 +375,7 @@ def check_spared_terminal(program):
 
 
 def main():
-    program = os.path.abspath(sys.argv[1] if len(sys.argv) > 1 else os.path.join(HERE, "../../crates/pclmin/out/pclmin"))
+    program = os.path.abspath(sys.argv[1] if len(sys.argv) > 1 else os.path.join(HERE, "../../build/pclmin"))
     if not os.access(program, os.X_OK):
         sys.exit(f"{program}: not there; `make build` makes it")
     with tempfile.TemporaryDirectory() as folder:

@@ -12,7 +12,7 @@ much does; status 1 if something doesn't.
 
     tests/viewer/test.py [PROGRAM] [--picture FILE]
 
-PROGRAM is crates/pclmin/out/pclmin where none is given; FILE gets a picture of the page.
+PROGRAM is build/pclmin where none is given; FILE gets a picture of the page.
 """
 import argparse
 import base64
@@ -997,7 +997,7 @@ def test_page(held, address, program, folder, jobs, picture):
 
 def main():
     parser = argparse.ArgumentParser(description="Tests the page that shows jobs.")
-    parser.add_argument("program", nargs="?", default=os.path.join(TOP, "crates/pclmin/out/pclmin"))
+    parser.add_argument("program", nargs="?", default=os.path.join(TOP, "build/pclmin"))
     parser.add_argument("--picture", help="a file for a picture of the page")
     words = parser.parse_args()
     if not os.path.exists(words.program):
