@@ -6,8 +6,8 @@ use clap::{ArgMatches, Error};
 use pcl_base::{Dpi, PAGE_LIMIT, Profile};
 use pcl_cert::Format;
 use pcl_explain::kind_named;
-use pcl_page::Readers;
 use pcl_preview::{ImageForm, PageChoice, PageSet, Scale};
+use pcl_printers::Readers;
 use pcl_request::{
     Batch, Beside, Certificate, CheckedFiles, ComparedFiles, Destination, Layout, Profiles,
     Request, Resolution, Rewriting, Run, Shrinking, Source, Target, Task, Work, resolution_named,

@@ -4,7 +4,7 @@ use Rattle.pcl_base.specs.declared.dpi.Dpi.{Dpi}
 use Rattle.pcl_base.specs.declared.fault.JobFault.{JobFault}
 use Rattle.pcl_base.specs.declared.profile.Profile.TheVariants.{Stated, Drivers}
 use Rattle.pcl_base.specs.declared.refusal.Refusal.{Refusal}
-use Rattle.pcl_page.specs.declared.doubts.Readers.{Readers}
+use Rattle.pcl_printers.specs.declared.doubts.Readers.{Readers}
 use Rattle.pcl_shrink.specs.Shrinking.{IsShrunk, IsShrunkAt, IsShrunkEverywhere, IsShrunkEverywhereBy, IsWrittenFor, IsWrittenBy, IsWrittenEverywhere, IsWrittenEverywhereBy, IsRefusedEverywhere, IsRefusedEverywhereBy}
 use Rattle.pcl_shrink.specs.declared.candidate.Shrunk.{Shrunk}
 use Rattle.pcl_request.specs.declared.profiles.Profiles.{Profiles}

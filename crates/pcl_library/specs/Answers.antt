@@ -28,7 +28,7 @@ use Rattle.pcl_request.specs.declared.request.Beside.{Beside}
 use Rattle.pcl_request.specs.declared.request.Layout.TheVariants.{Text}
 use Rattle.pcl_command.specs.Checks.{IsAnswerBeside}
 use Rattle.pcl_command.specs.Comparisons.{IsComparisonFor}
-use Rattle.pcl_page.specs.declared.doubts.Readers.TheVariants.{Printers}
+use Rattle.pcl_printers.specs.declared.doubts.Readers.TheVariants.{Printers}
 use Rattle.pcl_shrink.specs.Shrinking.{IsWrittenFor, IsWrittenEverywhere, IsRefusedEverywhere}
 use Rattle.pcl_explain.specs.Findings.{Explains}
 use Rattle.pcl_same.specs.declared.fault.Which.{Which}

@@ -1,9 +1,9 @@
 -- What is said of a job that is shrunk.
 use Rattle.std.specs.Prelude.{ℕ, ◌==◌, if◌then◌else◌, List, ◌++◌, codes, vec_len, Option, Some, None}
-use Rattle.pcl_page.specs.declared.doubts.Doubt.{Doubt}
-use Rattle.pcl_page.specs.declared.doubts.Doubt.TheVariants.{BetweenDots, ShortRaster, FirstLine, SeedRow, RasterSize, Advance, Code}
-use Rattle.pcl_page.specs.declared.doubts.Doubt.TheVariants.{EmptyMark, ColumnWidth, PastEnd, PartOfUnit, Ejection, Edge, OpenRaster}
-use Rattle.pcl_page.specs.declared.doubts.Doubt.TheVariants.{RowStart, TextScale, Back, JobLine}
+use Rattle.pcl_printers.specs.declared.doubts.Doubt.{Doubt}
+use Rattle.pcl_printers.specs.declared.doubts.Doubt.TheVariants.{BetweenDots, ShortRaster, FirstLine, SeedRow, RasterSize, Advance, Code}
+use Rattle.pcl_printers.specs.declared.doubts.Doubt.TheVariants.{EmptyMark, ColumnWidth, PastEnd, PartOfUnit, Ejection, Edge, OpenRaster}
+use Rattle.pcl_printers.specs.declared.doubts.Doubt.TheVariants.{RowStart, TextScale, Back, JobLine}
 use Rattle.pcl_shrink.specs.declared.candidate.Candidate.{Candidate}
 use Rattle.pcl_shrink.specs.declared.candidate.Candidate.TheVariants.{Input, Raster, Coarse, Glyphs}
 use Rattle.pcl_shrink.specs.declared.candidate.Shrunk.{Shrunk}

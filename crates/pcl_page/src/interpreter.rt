@@ -3,8 +3,8 @@
 ghost use Rattle.std.specs.Prelude.{◌≡◌};
 
 use crate::PageSink;
-use crate::doubts::Doubts;
 use crate::macros::{Action, Keeping, action_of, keeping_of, macro_lasts};
+use crate::observing::{Event, Observer, SeenEnd, seen_raster};
 use crate::performer::Performer;
 use arrayvec::ArrayVec;
 use pcl_base::{
@@ -52,28 +52,24 @@ impl<'a> Interpreter<'a> {
     ghost use Rattle.pcl_page.specs.inner.Reflecting.{EndDone};
     ghost use Rattle.pcl_page.specs.inner.Unfolding.{IsAt, IsSomewhere, resumed, begun_among, work_left, GoesOn, IsStepped, IsActed, IsEntered, InterpreterEnds, IsAsking};
 
-    /// The start of a job that is read by this profile. What is looked for of what printers may read otherwise is given.
-    pub fn new(
-        alloc: Global,
-        profile: Profile,
-        dpi: Dpi,
-        doubts: Doubts,
-    ) -> Result<Interpreter<'a>, AllocError>
+    /// The start of a job that is read by this profile.
+    pub fn new(alloc: Global, profile: Profile, dpi: Dpi) -> Result<Interpreter<'a>, AllocError>
         ensures { IfOk result (λ interpreter. IsAt dpi (at_start profile) interpreter × (interpreter.running.items ≡ [])) }
     {
         Ok(Interpreter {
-            performer: Performer::new(alloc, profile, dpi, doubts)?,
+            performer: Performer::new(alloc, profile, dpi)?,
             macros: Macros::new(alloc),
             running: ArrayVec::new(),
         })
     }
 
     /// Performs the commands of a job of `end` bytes from its start to its end.
-    pub fn perform_all<L: CommandList<'a>, S: PageSink>(
+    pub fn perform_all<L: CommandList<'a>, O: Observer, S: PageSink>(
         &mut self,
         commands: &L,
         end: usize,
         dpi: Dpi,
+        observer: &mut O,
         sink: &mut S,
     ) -> Result<(), JobFault>
         requires begin { IsAt dpi (at_start self.old.performer.environment.profile) self.old }
@@ -84,18 +80,28 @@ impl<'a> Interpreter<'a> {
     {
         let mut place = 0;
         while let Some(command) = commands.command_at(place) {
-            self.perform_at(&command, place, dpi, sink)?;
-            self.run_macros(commands, dpi, sink)?;
+            self.perform_at(&command, place, dpi, observer, sink)?;
+            self.run_macros(commands, dpi, observer, sink)?;
             place += 1;
         }
+        self.tell_job_end(observer);
         self.finish(end, sink)
     }
 
+    /// Tells of the end of the job.
+    fn tell_job_end<O: Observer>(&self, observer: &mut O) {
+        let event = Event::JobEnds {
+            is_marked: self.performer.is_marked,
+        };
+        observer.see(event, &self.performer.environment);
+    }
+
     /// Performs what the macros that run have left.
-    fn run_macros<L: CommandList<'a>, S: PageSink>(
+    fn run_macros<L: CommandList<'a>, O: Observer, S: PageSink>(
         &mut self,
         commands: &L,
         dpi: Dpi,
+        observer: &mut O,
         sink: &mut S,
     ) -> Result<(), JobFault>
         requires somewhere { IsSomewhere dpi self.old }
@@ -105,17 +111,18 @@ impl<'a> Interpreter<'a> {
         ensures idle { OnOk result (self.new.running.items ≡ []) }
     {
         while let Some(macro_run) = self.running.pop() {
-            self.go_on(macro_run, commands, dpi, sink)?;
+            self.go_on(macro_run, commands, dpi, observer, sink)?;
         }
         Ok(())
     }
 
     /// Performs the next command of a macro that runs, or does what its end does.
-    fn go_on<L: CommandList<'a>, S: PageSink>(
+    fn go_on<L: CommandList<'a>, O: Observer, S: PageSink>(
         &mut self,
         newest: Running,
         commands: &L,
         dpi: Dpi,
+        observer: &mut O,
         sink: &mut S,
     ) -> Result<(), JobFault>
         requires level { length self.old.running.items < macro_limit }
@@ -135,13 +142,35 @@ impl<'a> Interpreter<'a> {
                     end: newest.end,
                     saved: newest.saved,
                 });
-                self.perform_at(&command, place, dpi, sink)
+                self.tell_macro(observer);
+                self.perform_at(&command, place, dpi, observer, sink)
             }
             _ => {
+                self.tell_macro_end(&newest, observer);
                 self.leave(newest.saved, dpi);
                 Ok(())
             }
         }
+    }
+
+    /// Tells of a command of a macro.
+    fn tell_macro<O: Observer>(&self, observer: &mut O) {
+        let event = Event::InMacro {
+            is_called: self
+                .running
+                .iter()
+                .any(|macro_run| macro_run.saved.is_some()),
+        };
+        observer.see(event, &self.performer.environment);
+    }
+
+    /// Tells of the end of a macro.
+    fn tell_macro_end<O: Observer>(&self, newest: &Running, observer: &mut O) {
+        let seen = SeenEnd {
+            is_call: newest.saved.is_some(),
+            raster: seen_raster(&self.performer.raster),
+        };
+        observer.see(Event::MacroEnds(seen), &self.performer.environment);
     }
 
     /// Does what the end of a macro does: a call's ends the raster and puts back what was set.
@@ -149,18 +178,18 @@ impl<'a> Interpreter<'a> {
         ensures situation { (s : Situation) → IsAt dpi s self.old → IsAt dpi (macro_ended dpi saved s) self.new }
         ensures rest { (self.new.running ≡ self.old.running) × (self.new.performer.performed ≡ self.old.performer.performed) }
     {
-        self.performer.note_run_end();
         if let Some(saved) = saved {
             self.performer.end_call(saved, dpi);
         }
     }
 
     /// Performs the command at a place, up to the start of a macro that it runs.
-    fn perform_at<S: PageSink>(
+    fn perform_at<O: Observer, S: PageSink>(
         &mut self,
         command: &Command<'a>,
         place: usize,
         dpi: Dpi,
+        observer: &mut O,
         sink: &mut S,
     ) -> Result<(), JobFault>
         requires place { place < 2 ^ 63 }
@@ -172,7 +201,7 @@ impl<'a> Interpreter<'a> {
         ensures no_more { (count : ℕ) → OnOk result (work_left count self.new.performer.performed self.new.running.items
             ≤ work_left count self.old.performer.performed self.old.running.items) }
     {
-        match self.try_command(command, place, dpi, sink) {
+        match self.try_command(command, place, dpi, observer, sink) {
             Ok(()) => Ok(()),
             Err(CallFault::Refused(kind)) => Err(JobFault::Refused(Refusal::new(
                 kind,
@@ -184,11 +213,12 @@ impl<'a> Interpreter<'a> {
     }
 
     /// Performs a command, or says why it is refused.
-    fn try_command<S: PageSink>(
+    fn try_command<O: Observer, S: PageSink>(
         &mut self,
         command: &Command<'a>,
         place: usize,
         dpi: Dpi,
+        observer: &mut O,
         sink: &mut S,
     ) -> Result<(), CallFault>
         requires { place < 2 ^ 63 }
@@ -197,21 +227,22 @@ impl<'a> Interpreter<'a> {
             s result self.old self.new sink.old sink.new }
     {
         if !self.macros.is_begun() {
-            return self.try_counted(command, place, dpi, sink);
+            return self.try_counted(command, place, dpi, observer, sink);
         }
         match keeping_of(command) {
             Keeping::Kept => Ok(()),
             Keeping::Refused(kind) => Err(CallFault::Refused(kind)),
-            Keeping::Ends => self.try_counted(command, place, dpi, sink),
+            Keeping::Ends => self.try_counted(command, place, dpi, observer, sink),
         }
     }
 
     /// Performs a command that counts: while no definition is open, or to end it.
-    fn try_counted<S: PageSink>(
+    fn try_counted<O: Observer, S: PageSink>(
         &mut self,
         command: &Command<'a>,
         place: usize,
         dpi: Dpi,
+        observer: &mut O,
         sink: &mut S,
     ) -> Result<(), CallFault>
         requires place { place < 2 ^ 63 }
@@ -221,7 +252,7 @@ impl<'a> Interpreter<'a> {
             → IsStepped S.takes dpi (after_counted dpi place (view command.now) s)
             (run_from (operation_of command.now.name) command.now.value) s result self.old self.new sink.old sink.new }
     {
-        let operation = self.performer.try_command(command, dpi, sink)?;
+        let operation = self.performer.try_command(command, dpi, observer, sink)?;
         self.manage(operation, command.value, place)
     }
 

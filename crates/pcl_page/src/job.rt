@@ -14,8 +14,8 @@ ghost use Rattle.pcl_page.specs.Jobs.{HasPagesBy, HasAsksBy};
 ghost use Rattle.pcl_page.specs.Delivering.{IsRefusalBy, Delivers, DeliversBy, DeliversAsked, IsPagesOf};
 
 use crate::asks::Asks;
-use crate::doubts::{Doubt, Doubts};
 use crate::interpreter::Interpreter;
+use crate::observing::{NoObserver, Observer};
 use crate::{Page, PageSink};
 use pcl_base::{Dpi, JobFault, Profile};
 use pcl_escape::{Command, CommandList, one_outcome, read_commands};
@@ -50,26 +50,24 @@ pub fn run_asked<'a, S: PageSink>(
 ) -> Result<Asks<'a>, JobFault>
     ensures { HandsOverAsked S.takes dpi (performance profile dpi end (views commands.now)) result sink.old sink.new }
 {
-    let mut doubts = Doubts::new(false);
-    run_list(alloc, &commands, end, profile, dpi, &mut doubts, sink)
+    run_list(alloc, &commands, end, profile, dpi, &mut NoObserver, sink)
 }
 
-/// The same for any list of commands, by a profile, with what printers may read otherwise.
-fn run_list<'a, L: CommandList<'a>, S: PageSink>(
+/// The same for any list of commands, by a profile, before an observer.
+fn run_list<'a, L: CommandList<'a>, O: Observer, S: PageSink>(
     alloc: Global,
     commands: &L,
     end: usize,
     profile: Profile,
     dpi: Dpi,
-    doubts: &mut Doubts,
+    observer: &mut O,
     sink: &mut S,
 ) -> Result<Asks<'a>, JobFault>
     ensures { HandsOverAsked S.takes dpi (performance profile dpi end (L.commands commands.now)) result sink.old sink.new }
 {
-    let mut interpreter: Interpreter<'a> = Interpreter::new(alloc, profile, dpi, doubts.again())?;
-    interpreter.perform_all(commands, end, dpi, sink)?;
+    let mut interpreter: Interpreter<'a> = Interpreter::new(alloc, profile, dpi)?;
+    interpreter.perform_all(commands, end, dpi, observer, sink)?;
     let performer = interpreter.performer;
-    *doubts = performer.doubts;
     Ok(performer.asks)
 }
 
@@ -111,41 +109,22 @@ pub fn perform_asked<'a, S: PageSink>(
 ) -> Result<Asks<'a>, JobFault>
     ensures { DeliversAsked S.takes profile dpi job.now result sink.old sink.new }
 {
-    let mut doubts = Doubts::new(false);
-    perform_with(alloc, job, profile, dpi, &mut doubts, sink)
+    perform_observed(alloc, job, profile, dpi, &mut NoObserver, sink)
 }
 
-/// The same as [`perform_asked`], with the first thing in the job that printers may read otherwise, if there is one. Nothing is promised
-/// of that.
-pub fn perform_doubted<'a, S: PageSink>(
+/// The same as [`perform_asked`], before an observer, who is told how it goes. Nothing is promised of what it makes of that.
+pub fn perform_observed<'a, O: Observer, S: PageSink>(
     alloc: Global,
     job: &'a [u8],
     profile: Profile,
     dpi: Dpi,
-    doubt: &mut Option<Doubt>,
-    sink: &mut S,
-) -> Result<Asks<'a>, JobFault>
-    ensures { DeliversAsked S.takes profile dpi job.now result sink.old sink.new }
-{
-    let mut doubts = Doubts::new(true);
-    let asks = perform_with(alloc, job, profile, dpi, &mut doubts, sink)?;
-    *doubt = doubts.first;
-    Ok(asks)
-}
-
-/// The same as [`perform_asked`], with what printers may read otherwise, if that is looked for.
-fn perform_with<'a, S: PageSink>(
-    alloc: Global,
-    job: &'a [u8],
-    profile: Profile,
-    dpi: Dpi,
-    doubts: &mut Doubts,
+    observer: &mut O,
     sink: &mut S,
 ) -> Result<Asks<'a>, JobFault>
     ensures { DeliversAsked S.takes profile dpi job.now result sink.old sink.new }
 {
     let commands = read_commands(alloc, profile, job)?;
-    let asks = run_list(alloc, &commands, job.len(), profile, dpi, doubts, sink)?;
+    let asks = run_list(alloc, &commands, job.len(), profile, dpi, observer, sink)?;
     Ok(asks.of_job(job))
 }
 

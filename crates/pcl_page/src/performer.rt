@@ -5,7 +5,7 @@ ghost use Rattle.pcl_base.specs.Limits.{command_limit, copies_limit, page_limit}
 ghost use Rattle.pcl_page.specs.Raster.{raster_rows};
 
 use crate::asks::Asks;
-use crate::doubts::{Doubts, is_home};
+use crate::observing::{Event, Observer, SeenCommand, seen_raster, seen_rectangle};
 use crate::raster::{Raster, ends_raster, is_ignored_in_raster};
 use crate::{Page, PageSink};
 use pcl_base::{
@@ -38,8 +38,6 @@ pub struct Performer<'a> {
     pub performed: u32,
     /// What the ejected pages were asked with, and the universal exits.
     pub asks: Asks<'a>,
-    /// What printers may read otherwise.
-    pub doubts: Doubts,
     /// Where pages and rasters take their memory.
     pub alloc: Global,
     ghost few_pages: { ejected ≤ page_limit },
@@ -69,12 +67,7 @@ impl<'a> Performer<'a> {
     ghost use Rattle.pcl_page.specs.inner.Reflecting.{IsIn, IsPrepared, HasRaster, Takes, IsFollowed, IsEjected, IsDrawn, Draws, IsSent, IsTurned, IsHandled, EndDone};
 
     /// The start of a job that is read by this profile: a white page, and the defaults.
-    pub fn new(
-        alloc: Global,
-        profile: Profile,
-        dpi: Dpi,
-        doubts: Doubts,
-    ) -> Result<Performer<'a>, AllocError>
+    pub fn new(alloc: Global, profile: Profile, dpi: Dpi) -> Result<Performer<'a>, AllocError>
         ensures { IfOk result (λ performer. IsIn dpi (at_start profile) performer) }
     {
         let environment = Env::new(profile);
@@ -93,17 +86,17 @@ impl<'a> Performer<'a> {
             ejected: 0,
             performed: 0,
             asks: Asks::new(alloc),
-            doubts,
             alloc,
         })
     }
 
     /// Performs a command, but for what it does to macros, and hands over the page that it ejects. Gives what the command
     /// does, or why it is refused.
-    pub fn try_command<S: PageSink>(
+    pub fn try_command<O: Observer, S: PageSink>(
         &mut self,
         command: &Command<'a>,
         dpi: Dpi,
+        observer: &mut O,
         sink: &mut S,
     ) -> Result<Operation, CallFault>
         ensures { (s : Situation) → IsIn dpi s self.old → IsHandled S.takes dpi (view command.now) s result self.new sink.old sink.new }
@@ -118,10 +111,54 @@ impl<'a> Performer<'a> {
         if self.is_ignored(operation) {
             return Ok(operation);
         }
+        self.tell_comes(operation, observer);
         self.prepare(operation, dpi);
-        self.turn(operation, command.value, dpi, sink)?;
-        self.draw(operation, command, dpi)?;
+        self.turn(operation, command, dpi, observer, sink)?;
+        self.draw(operation, command, dpi, observer)?;
         Ok(operation)
+    }
+
+    /// Tells of a command that comes.
+    fn tell_comes<O: Observer>(&self, operation: Operation, observer: &mut O) {
+        let event = Event::Comes(operation, seen_raster(&self.raster));
+        observer.see(event, &self.environment);
+    }
+
+    /// Tells of a command that has set what it sets.
+    fn tell_set<O: Observer>(&self, operation: Operation, command: &Command<'_>, observer: &mut O) {
+        let seen = SeenCommand {
+            name: command.name,
+            operation,
+            value: command.value,
+            bytes: command.bytes,
+            is_marked: self.is_marked,
+            raster: seen_raster(&self.raster),
+            has_font: self.has_font(operation, command.value),
+        };
+        observer.see(Event::Sets(seen), &self.environment);
+    }
+
+    /// Whether the font that a command names is there.
+    fn has_font(&self, operation: Operation, value: Value) -> bool {
+        let id = match operation {
+            Operation::SelectFont(_) => u16::try_from(value.whole().unsigned_abs()).ok(),
+            Operation::DownloadFont | Operation::DownloadCharacter | Operation::ControlFonts => {
+                Some(self.environment.font_id())
+            }
+            _ => None,
+        };
+        match id {
+            Some(id) => self.fonts.font(id).is_some(),
+            None => false,
+        }
+    }
+
+    /// Tells of a rectangle that is about to be filled, if the value names an ink.
+    fn tell_rectangle<O: Observer>(&self, value: Value, observer: &mut O) {
+        if let Some(ink) = ink_of(value) {
+            let mark = seen_rectangle(ink, &self.environment, self.is_marked);
+            observer.see(Event::Marks(mark), &self.environment);
+        }
     }
 
     /// Whether a raster has begun that ignores the command.
@@ -139,7 +176,6 @@ impl<'a> Performer<'a> {
             return;
         }
         if let Some(raster) = &self.raster {
-            self.doubts.note_end(operation, raster);
             let (x, y) = raster.below(dpi);
             self.environment.move_to(x, y);
         }
@@ -156,14 +192,6 @@ impl<'a> Performer<'a> {
         self.prepare(Operation::EndRaster, dpi);
         self.environment.restore(saved);
         self.note_moved(asked);
-    }
-
-    /// Looks at the end of a macro that ran: printers may do more there.
-    pub fn note_run_end(&mut self)
-        ensures situation { (dpi : Dpi) (s : Situation) → IsIn dpi s self.old → IsIn dpi s self.new }
-        ensures counts { self.new.performed ≡ self.old.performed }
-    {
-        self.doubts.note_run_end();
     }
 
     /// Notes that a marked page was moved, where it was asked with this before.
@@ -185,41 +213,36 @@ impl<'a> Performer<'a> {
 
     /// Sets what a command sets, and ejects the page where it says so: the page has the size and the
     /// copies from before. After a refusal or where memory runs out the sink is as before.
-    fn turn<S: PageSink>(
+    fn turn<O: Observer, S: PageSink>(
         &mut self,
         operation: Operation,
-        value: Value,
+        command: &Command<'_>,
         dpi: Dpi,
+        observer: &mut O,
         sink: &mut S,
     ) -> Result<(), CallFault>
         ensures turned { (s : Situation) → IsIn dpi s self.old
-            → IsTurned S.takes dpi (outcome dpi operation value (is_marked s) s.settings) s result self.new sink.old sink.new }
+            → IsTurned S.takes dpi (outcome dpi operation command.now.value (is_marked s) s.settings) s result self.new sink.old sink.new }
         ensures rest { OnOk result ((self.new.performed ≡ self.old.performed) × (self.new.raster ≡ self.old.raster)) }
     {
         let size = self.environment.size();
         let copies = self.environment.copies();
         let asked = self.environment.asked();
-        let was_home = is_home(&self.environment);
+        observer.see(Event::Begins(operation), &self.environment);
         let Ok(effect) = self
             .environment
-            .apply(operation, value, self.is_marked, dpi)
+            .apply(operation, command.value, self.is_marked, dpi)
         else {
             return Err(CallFault::Refused(Kind::UnsupportedValue));
         };
-        self.doubts.note_command(
-            operation,
-            value,
-            &self.environment,
-            self.is_marked,
-            was_home,
-            dpi,
-        );
+        self.tell_set(operation, command, observer);
         if ejects(effect, self.is_marked) {
             if self.ejected >= PAGE_LIMIT {
                 return Err(CallFault::Refused(Kind::TooManyPages));
             }
             self.follow_size(size)?;
             self.eject(copies, asked, sink)?;
+            observer.see(Event::Ejects(asked), &self.environment);
         }
         Ok(())
     }
@@ -242,7 +265,6 @@ impl<'a> Performer<'a> {
         sink.page(&self.page)?;
         self.page.bitmap.clear();
         self.is_marked = false;
-        self.doubts.note_ejection(asked);
         self.ejected += 1;
         self.environment.new_page();
         Ok(())
@@ -266,11 +288,12 @@ impl<'a> Performer<'a> {
     }
 
     /// Draws what a command draws, and does to the raster and to fonts what it does, or says why it is refused.
-    fn draw(
+    fn draw<O: Observer>(
         &mut self,
         operation: Operation,
         command: &Command<'a>,
         dpi: Dpi,
+        observer: &mut O,
     ) -> Result<(), CallFault>
         requires rows { raster_rows self.old.raster + 2 ^ 20 ≤ 2 ^ 20 * self.old.performed }
         ensures { (s : Situation) → IsIn dpi s self.old
@@ -284,8 +307,11 @@ impl<'a> Performer<'a> {
             Operation::DownloadFont => return self.download_font(command.bytes, dpi),
             Operation::DownloadCharacter => return self.download_character(command.bytes),
             Operation::SelectFont(side) => self.select_font(side, command.value),
-            Operation::PrintText => return self.print_text(command.bytes, dpi),
-            Operation::FillRectangle => return self.fill_rectangle(command.value, dpi),
+            Operation::PrintText => return self.print_text(command.bytes, dpi, observer),
+            Operation::FillRectangle => {
+                self.tell_rectangle(command.value, observer);
+                return self.fill_rectangle(command.value, dpi);
+            }
             Operation::StartRaster => self.start_raster(command.value, dpi)?,
             Operation::RasterOffset => self.skip_rows(command.value),
             Operation::RasterRow => self.send_row(command.bytes, dpi)?,
@@ -332,7 +358,6 @@ impl<'a> Performer<'a> {
         ensures { (dpi : Dpi) (s : Situation) → IsIn dpi s self.old
             → OnOk result (IsIn dpi (put_back (exited lines.now s)) self.new) }
     {
-        self.doubts.note_lines(lines);
         self.asks.push_exit(self.ejected, lines)?;
         self.put_back();
         Ok(())
@@ -374,8 +399,6 @@ impl<'a> Performer<'a> {
         ensures drawn { IsDrawn (rectangle_mark dpi ink self.old.environment) self.old self.new }
         ensures raster { self.new.raster ≡ self.old.raster }
     {
-        self.doubts
-            .note_rectangle(ink, &self.environment, self.is_marked, dpi);
         let unit = u64::from(dpi.unit());
         let width = self.environment.rectangle_width().div_ceil(unit);
         let height = self.environment.rectangle_height().div_ceil(unit);
@@ -394,8 +417,6 @@ impl<'a> Performer<'a> {
             0 => 0,
             _ => self.environment.x() / dpi.unit(),
         };
-        self.doubts
-            .note_start(left, &self.environment, value.whole() != 0, dpi);
         self.raster = Some(Raster::start(self.alloc, left, &self.environment, dpi)?);
         Ok(())
     }
@@ -407,7 +428,6 @@ impl<'a> Performer<'a> {
     {
         if let Some(raster) = &mut self.raster {
             let count = value.whole().unsigned_abs();
-            self.doubts.note_skip(count, raster);
             raster.skip(count);
         }
     }
@@ -419,8 +439,6 @@ impl<'a> Performer<'a> {
     {
         let size = self.environment.size();
         self.follow_size(size)?;
-        self.doubts
-            .note_row(bytes, self.raster.as_ref(), &self.environment, dpi);
         let mut raster = match self.raster.take() {
             Some(raster) => raster,
             None => Raster::start(self.alloc, 0, &self.environment, dpi)?,
@@ -451,7 +469,6 @@ impl<'a> Performer<'a> {
             self.end_asks(is_macro_permanent);
             return Ok(());
         }
-        self.doubts.note_unmarked_end();
         self.end_asks(is_macro_permanent);
         Ok(())
     }

@@ -7,6 +7,7 @@ ghost use Rattle.pcl_rows.specs.Decoding.{decoded};
 ghost use Rattle.pcl_bitmap.specs.Bitmap.{IsPicture, dot};
 ghost use Rattle.pcl_page.specs.Raster.{bytes_of_width, raster_from, skipped, row_sent, with_row, row_mark, is_below_height, cleared_past, is_ignored_in_raster, ends_raster, counted_to};
 
+use crate::observing::SeenRaster;
 use pcl_base::{Dpi, Method, Operation};
 use pcl_bitmap::Bitmap;
 use pcl_env::Env;
@@ -125,23 +126,16 @@ impl Raster {
         (u64::from(left) * unit, row * unit)
     }
 
-    /// Whether it has fewer rows than its height.
-    pub fn is_short(&self) -> bool {
-        self.height.is_some() && self.is_below_height()
-    }
-
-    /// Whether its next row is the last of a page of this height, or below it.
-    pub fn reaches(&self, height: u32) -> bool {
-        let rows = self
-            .rows
-            .saturating_add(1)
-            .saturating_mul(u64::from(self.scale));
-        rows.saturating_add(u64::from(self.top)) >= u64::from(height)
-    }
-
-    /// Whether the seed row has dots.
-    pub fn has_seed(&self) -> bool {
-        self.seed.iter().any(|byte| *byte != 0)
+    /// What an observer is told of it.
+    pub fn seen(&self) -> SeenRaster<'_> {
+        SeenRaster {
+            left: self.left,
+            top: self.top,
+            scale: self.scale,
+            height: self.height,
+            rows: self.rows,
+            seed: &self.seed,
+        }
     }
 
     /// A count of rows, which stops at the height.

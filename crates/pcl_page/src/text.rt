@@ -2,6 +2,7 @@
 
 ghost use Rattle.std.specs.Prelude.{◌≡◌, ◌<◌, ◌≤◌, ◌^◌, pos, negsuc, ◌+ℤ◌, ◌-ℤ◌, ◌*ℤ◌, ◌≤ℤ◌};
 
+use crate::observing::{Event, Observer, seen_character};
 use crate::performer::Performer;
 use pcl_base::{CallFault, Dpi, Kind};
 use pcl_fonts::{FontInfo, Glyph};
@@ -29,14 +30,19 @@ impl<'a> Performer<'a> {
     ghost use Rattle.pcl_page.specs.inner.Reflecting.{drawn_character, IsIn, IsDrawn, IsInked, IsAtCursor, HasSettings, Draws};
 
     /// Prints the codes in the font that is selected and in use. Without one a code above that of a space is refused.
-    pub fn print_text(&mut self, codes: &[u8], dpi: Dpi) -> Result<(), CallFault>
+    pub fn print_text<O: Observer>(
+        &mut self,
+        codes: &[u8],
+        dpi: Dpi,
+        observer: &mut O,
+    ) -> Result<(), CallFault>
         ensures { (s : Situation) → IsIn dpi s self.old
             → Draws dpi (text_refusal codes.now (font_now s)) (text_in dpi codes.now (info_of (font_now s)) s) result self.new }
     {
         match self.font_in_use() {
-            Some(font) => Ok(self.print_codes(codes, font, dpi)?),
+            Some(font) => Ok(self.print_codes(codes, font, dpi, observer)?),
             None if are_spaces(codes) => {
-                self.pass_blanks(codes);
+                self.pass_blanks(codes, observer);
                 Ok(())
             }
             None => Err(CallFault::Refused(Kind::NoFont)),
@@ -54,7 +60,13 @@ impl<'a> Performer<'a> {
     }
 
     /// Prints one code after the other in the font. A character that is printed once more at its dot is inked there already.
-    fn print_codes(&mut self, codes: &[u8], font: FontInfo, dpi: Dpi) -> Result<(), AllocError>
+    fn print_codes<O: Observer>(
+        &mut self,
+        codes: &[u8],
+        font: FontInfo,
+        dpi: Dpi,
+        observer: &mut O,
+    ) -> Result<(), AllocError>
         ensures { (s : Situation) → IsIn dpi s self.old → OnOk result
             (IsIn dpi (codes_printed dpi font (prints s.fonts (font_in_use s.settings)) codes.now s) self.new) }
     {
@@ -62,21 +74,32 @@ impl<'a> Performer<'a> {
         for code in codes {
             match self.glyph(*code) {
                 Some(glyph) => {
+                    self.tell_character(&glyph, font, observer);
                     let here = self.at_cursor(*code, dpi);
                     self.print_glyph(&glyph, here, last == Some(here), font, dpi)?;
                     last = Some(here);
                 }
-                None => self.pass_blank(*code),
+                None => {
+                    observer.see(Event::Blank(*code), &self.environment);
+                    self.pass_blank(*code);
+                }
             }
         }
         Ok(())
     }
 
+    /// Tells of a character of the font that is about to be printed.
+    fn tell_character<O: Observer>(&self, glyph: &Glyph<'_>, font: FontInfo, observer: &mut O) {
+        let mark = seen_character(glyph, font, &self.environment, self.is_marked);
+        observer.see(Event::Marks(mark), &self.environment);
+    }
+
     /// Moves on after one code after the other that prints no character, as without a font.
-    fn pass_blanks(&mut self, codes: &[u8])
+    fn pass_blanks<O: Observer>(&mut self, codes: &[u8], observer: &mut O)
         ensures { (dpi : Dpi) (s : Situation) → IsIn dpi s self.old → IsIn dpi (blanks_passed codes.now s) self.new }
     {
         for code in codes {
+            observer.see(Event::Blank(*code), &self.environment);
             self.pass_blank(*code);
         }
     }
@@ -125,7 +148,7 @@ impl<'a> Performer<'a> {
             self.follow_size(size)?;
             self.ink_glyph(glyph, here, font, dpi)?;
         }
-        self.pass_glyph(glyph, font, dpi);
+        self.pass_glyph(glyph, font);
         Ok(())
     }
 
@@ -142,8 +165,6 @@ impl<'a> Performer<'a> {
         ensures raster { OnOk result (self.new.raster ≡ self.old.raster) }
     {
         let rows = glyph.rows(self.alloc)?;
-        self.doubts
-            .note_ink(glyph, font, &self.environment, self.is_marked);
         let x = right_of(here.x, glyph.left, font, dpi);
         let y = above(here.y, glyph.top, font, dpi);
         let scale = dots_per_bit(font, dpi);
@@ -155,11 +176,9 @@ impl<'a> Performer<'a> {
     }
 
     /// Moves on after a character of the font.
-    fn pass_glyph(&mut self, glyph: &Glyph<'a>, font: FontInfo, dpi: Dpi)
+    fn pass_glyph(&mut self, glyph: &Glyph<'a>, font: FontInfo)
         ensures { HasSettings (after_character font (character_in glyph.now) self.old.environment) self.old self.new }
     {
-        self.doubts
-            .note_character(glyph, font, &self.environment, dpi);
         let units = if font.proportional {
             font.advance(glyph.delta)
         } else {
@@ -172,7 +191,6 @@ impl<'a> Performer<'a> {
     fn pass_blank(&mut self, code: u8)
         ensures { HasSettings (after_blank code self.old.environment) self.old self.new }
     {
-        self.doubts.note_blank(code == SPACE, &self.environment);
         if code == SPACE {
             let units = i64::from(self.environment.hmi());
             self.environment.advance(units);

@@ -4,7 +4,7 @@ ghost use Rattle.std.specs.Prelude.{◌≡◌};
 ghost use Rattle.pcl_request.specs.Requests.{widest_of};
 
 use pcl_base::Profile;
-use pcl_page::Readers;
+use pcl_printers::Readers;
 
 /// How a job is shrunk.
 #[derive(Clone, Copy, Debug, PartialEq, Eq)]

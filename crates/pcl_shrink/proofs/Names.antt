@@ -4,7 +4,8 @@ pub use Rattle.pcl_base.specs.declared.{dpi.Dpi.Dpi, fault.JobFault.JobFault, fa
 pub use Rattle.pcl_bitmap.proofs.Names.{IsPicture}
 pub use Rattle.pcl_output.proofs.Names.{frame_bytes}
 pub use Rattle.pcl_page.proofs.{Jobs.accepted_pages, Jobs.has_pages}
-pub use Rattle.pcl_page.specs.declared.{asks.AskedPage.AskedPage, doubts.Doubt.Doubt, doubts.Readers.Readers}
+pub use Rattle.pcl_page.specs.declared.asks.AskedPage.{AskedPage}
+pub use Rattle.pcl_printers.specs.declared.{doubts.Doubt.Doubt, doubts.Readers.Readers}
 pub use Rattle.pcl_page.specs.{Accepting.IsAccepted, Accepting.IsRefused, Asks.of_job, Performing.asks_among, Performing.performance}
 pub use Rattle.pcl_page.proofs.Names.{AllAlike, Asks, Exit, Hands, HasAsksBy, HasPagesBy, IsRefusalBy, Sheet, asks_of, exit_of}
 pub use Rattle.pcl_writer.proofs.Names.{IsWrittenPage}

@@ -1,6 +1,6 @@
 -- What is written for readers.
 use Rattle.std.proofs.Common.{◌≡◌, ◌≤◌, inl, inr, ℕ, List, length, Option, Some, None, Result, Ok, Err, IfOk, refl, sym, subst, arith}
-use Rattle.pcl_page.specs.declared.doubts.Readers.TheVariants as reader
+use Rattle.pcl_printers.specs.declared.doubts.Readers.TheVariants as reader
 use Rattle.pcl_shrink.proofs.Names.{Profile, Stated, Drivers, Dpi, JobFault, Refused, Memory, HasPagesBy, HasAsksBy, IsRefusalBy, Asks, Sheet, IsAccepted, Doubt, Readers, Shrunk, PrintsAlike, IsShrunk, IsShrunkAt, IsShrunkFor, IsShrunkTo, IsLeft, IsWrittenFor, IsWrittenBy, IsWrittenEverywhere, IsWrittenEverywhereBy, IsShrunkEverywhere, IsShrunkEverywhereBy, CountsAt, IsReadBy, IsReadEverywhere, Refusal}
 use Rattle.pcl_base.specs.declared.dpi.Dpi.TheVariants.{Dpi300, Dpi600}
 use Rattle.pcl_shrink.proofs.Smaller.{OnePages, OneAsks, prints_pages, asks_again, prints_itself}

@@ -17,9 +17,9 @@ use Rattle.pcl_meaning.specs.JobTexts.{said_for, IsJobOfBy}
 use Rattle.pcl_shrink.specs.Asking.{asked_job}
 use Rattle.pcl_shrink.specs.Looking.{IsSameAlso, IsSameAt}
 use Rattle.pcl_shrink.specs.Texts.{AreLeastTexts}
-use Rattle.pcl_page.specs.declared.doubts.Doubt.{Doubt}
-use Rattle.pcl_page.specs.declared.doubts.Readers.{Readers}
-use Rattle.pcl_page.specs.declared.doubts.Readers.TheVariants as reader
+use Rattle.pcl_printers.specs.declared.doubts.Doubt.{Doubt}
+use Rattle.pcl_printers.specs.declared.doubts.Readers.{Readers}
+use Rattle.pcl_printers.specs.declared.doubts.Readers.TheVariants as reader
 use Rattle.pcl_shrink.specs.declared.candidate.Shrunk.{Shrunk}
 
 -- a job that is accepted, with pages like these one by one: as many, of the same sizes, with as many copies, dot for dot

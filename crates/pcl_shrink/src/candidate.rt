@@ -1,6 +1,6 @@
 //! What a job is shrunk to.
 
-use pcl_page::Doubt;
+use pcl_printers::Doubt;
 
 /// A way to write the pages of a job.
 #[derive(Clone, Copy, Debug, PartialEq, Eq)]

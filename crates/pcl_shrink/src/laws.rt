@@ -3,7 +3,7 @@
 ghost use Rattle.std.specs.Prelude.{◌≤◌, ℕ, List, length, Ok};
 ghost use Rattle.pcl_base.specs.declared.dpi.Dpi.{Dpi};
 ghost use Rattle.pcl_base.specs.declared.profile.Profile.{Profile};
-ghost use Rattle.pcl_page.specs.declared.doubts.Readers.{Readers};
+ghost use Rattle.pcl_printers.specs.declared.doubts.Readers.{Readers};
 ghost use Rattle.pcl_page.specs.Situation.{Sheet};
 ghost use Rattle.pcl_page.specs.Asks.{Asks};
 ghost use Rattle.pcl_page.specs.Jobs.{HasPagesBy, HasAsksBy};

@@ -22,7 +22,7 @@ mod watching;
 
 pub use candidate::{Candidate, Shrunk};
 pub use laws::shrunk_jobs_have_the_same_pages;
-pub use pcl_page::{Doubt, Readers};
+pub use pcl_printers::{Doubt, Readers};
 pub use reading::Terms;
 pub use shrinking::{
     shrink, shrink_by, shrink_everywhere, shrink_everywhere_by, shrink_everywhere_watched,

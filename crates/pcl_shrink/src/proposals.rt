@@ -15,7 +15,8 @@ use crate::watching::ShrinkWatcher;
 use glyph_pages::Lettering;
 use glyph_shapes::Collection;
 use pcl_base::JobFault;
-use pcl_page::{Asks, Doubt};
+use pcl_page::Asks;
+use pcl_printers::Doubt;
 use pcl_same::KeptJob;
 use std::alloc::AllocError;
 

@@ -2,7 +2,8 @@
 
 use crate::shifts::Shift;
 use pcl_base::{Dpi, Profile};
-use pcl_page::{Asks, Readers};
+use pcl_page::Asks;
+use pcl_printers::Readers;
 use std::alloc::Global;
 
 /// The terms on which a job is shrunk.

@@ -8,7 +8,8 @@ use glyph_patterns::{FontKind, Form};
 use glyph_shapes::are_equal;
 use pcl_base::{Dpi, JobFault, Profile};
 use pcl_bitmap::{Bitmap, trimmed_len};
-use pcl_page::{Doubt, Page, PageSink, perform_doubted};
+use pcl_page::{Page, PageSink, perform_observed};
+use pcl_printers::{Doubt, Printers};
 use pcl_same::{KeptJob, PageKeeper};
 use std::alloc::{AllocError, Global};
 use std::marker::Model;
@@ -60,12 +61,13 @@ pub fn look_finely<'a, P: ShrinkWatcher>(
         keeper: PageKeeper::new(alloc, room_of(Dpi::Dpi600)),
         watcher,
     };
-    let mut doubt = None;
-    let asks = perform_doubted(alloc, job, profile, Dpi::Dpi600, &mut doubt, &mut finder)?;
+    let dpi = Dpi::Dpi600;
+    let mut printers = Printers::new(dpi);
+    let asks = perform_observed(alloc, job, profile, dpi, &mut printers, &mut finder)?;
     let ShiftFinder { shifts, keeper, .. } = finder;
     Ok(Fine {
         shifts,
-        doubt,
+        doubt: printers.doubt(),
         kept: keeper.finish(asks),
     })
 }

@@ -4,7 +4,7 @@ ghost use Rattle.std.specs.Prelude.{◌≡◌, length, Some, None, IfOk};
 ghost use Rattle.pcl_base.specs.declared.dpi.Dpi.TheVariants.{Dpi600};
 ghost use Rattle.pcl_base.specs.declared.profile.Profile.TheVariants.{Drivers};
 ghost use Rattle.pcl_page.specs.Accepting.{IsAccepted};
-ghost use Rattle.pcl_page.specs.declared.doubts.Readers.TheVariants as reader;
+ghost use Rattle.pcl_printers.specs.declared.doubts.Readers.TheVariants as reader;
 ghost use Rattle.pcl_shrink.specs.Shrinking.{IsShrunk, IsShrunkAt, IsShrunkEverywhere, IsShrunkEverywhereBy};
 ghost use Rattle.pcl_shrink.specs.inner.Best.{best_bytes, IsBest, IsShorter};
 ghost use Rattle.pcl_shrink.specs.inner.Kept.{AreKept, AreKeptSoFar, IsAcceptedAlso, IsKeptAlsoIfAny, IsKeptIfAny};
@@ -22,7 +22,8 @@ use crate::watching::{NoWatcher, Pass, ShrinkWatcher};
 use crate::{Candidate, Shrunk};
 use pcl_base::{Dpi, JobFault, Profile};
 use pcl_meaning::written_jobs_say_copies_and_sizes;
-use pcl_page::{Doubt, Readers, one_meaning};
+use pcl_page::one_meaning;
+use pcl_printers::{Doubt, Readers};
 use pcl_same::KeptJob;
 use std::alloc::{AllocError, Global};
 

@@ -8,7 +8,8 @@ use crate::shifts::{Shift, form_of, shift_at};
 use crate::watching::{NoWatcher, Pass, ShrinkWatcher};
 use glyph_shapes::Collection;
 use pcl_base::JobFault;
-use pcl_page::{Asks, Doubt, Page, PageSink, perform_doubted};
+use pcl_page::{Asks, Page, PageSink, perform_observed};
+use pcl_printers::{Doubt, Printers};
 use pcl_same::PageKeeper;
 use std::alloc::AllocError;
 use std::marker::Model;
@@ -44,13 +45,13 @@ pub fn page_texts<'a, P: ShrinkWatcher>(
         shifts,
         watcher,
     };
-    let mut doubt = None;
-    let asks = perform_doubted(alloc, job, at.profile, at.first, &mut doubt, &mut writer)?;
+    let mut printers = Printers::new(at.first);
+    let asks = perform_observed(alloc, job, at.profile, at.first, &mut printers, &mut writer)?;
     let found = Found {
         shapes: writer.shapes,
         keeper: writer.keeper,
         asks,
-        doubt,
+        doubt: printers.doubt(),
     };
     Ok((writer.texts, found))
 }

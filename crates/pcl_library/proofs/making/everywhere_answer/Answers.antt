@@ -1,6 +1,6 @@
 use Rattle.std.proofs.Common.{arith, subst, sym}
 use Rattle.pcl_base.specs.declared.profile.Profile.TheVariants.{Drivers}
-use Rattle.pcl_page.specs.declared.doubts.Readers.TheVariants.{Printers}
+use Rattle.pcl_printers.specs.declared.doubts.Readers.TheVariants.{Printers}
 use Rattle.pcl_shrink.specs.Shrinking.{IsWrittenEverywhere}
 use Rattle.pcl_shrink.proofs.Written.{written_everywhere}
 use Rattle.pcl_library.proofs.making.everywhere_answer.Goals as goal

@@ -7,7 +7,7 @@ pub returns : goal.returns
 returns g c =
     let h = c.in_ok-asks.ensures.0 in
     let sheets = accepted_pages h in
-    let new = c.perform_doubted.new.sink in
+    let new = c.perform_observed.new.sink in
     let kept = all_kept_within Dpi600 sheets new c.new-2.ensures h.handed.1 in
     let found = subst (KeepAllIfAny Dpi600 sheets) (sym c.finder.view_is) kept in (
       (sheets, has_pages h),

@@ -7,7 +7,7 @@ returns g c =
     let h = c.in_ok-asks.ensures.0 in
     let dpi = c.args.source.at.first in
     let sheets = accepted_pages h in
-    let new = c.perform_doubted.new.sink in
+    let new = c.perform_observed.new.sink in
     let listed = texts_from_none dpi sheets new.texts (texts_taken dpi sheets _ new h.handed.1) (ap least_of c.new.ensures.items) in
     let kept = all_kept_within dpi sheets new.kept c.new-3.ensures (pages_kept dpi sheets _ new h.handed.1) in (
       (sheets, has_pages h, subst (AreLeastTexts dpi sheets) (sym (ap (λ (p : PagesRead). p.texts) c.writer.view_is)) listed),

@@ -9,12 +9,12 @@ next_is : (codes : List ℕ) {i : ℕ} (default : ℕ) → i < length codes → 
 next_is codes {i} default lt = rw (add-one, drop-cons codes i default) refl
 
 pub loop-code-preserved : goal.loop-code-preserved
-loop-code-preserved c = λ dpi s i.
+loop-code-preserved g c = λ dpi s i.
     let next = next_is c.args.codes.now 0 c.loop-code-test.true in
     blank_done (get_or c.args.codes.now c.loop-code.code-index 0) (rw next at (c.loop-code.invariant dpi s i)) c.pass_blank.ensures
 
 pub returns : goal.returns
-returns c = λ dpi s i.
+returns g c = λ dpi s i.
     let p = c.loop-code.invariant dpi s i in
     let none = drop_all c.loop-code.code-index c.args.codes.now (omega (arith, c.loop-code-test.false)) in
     let done : p.now ≡ blanks_passed c.args.codes.now s = rw none at p.left in

@@ -4,5 +4,5 @@ use Rattle.pcl_page.proofs.performer.Performer.pass_blanks.Given as goal
 
 -- the codes so far were passed
 abbrev pub invariant-loop-code : goal.invariant-loop-code
-invariant-loop-code l =
+invariant-loop-code g l =
     (dpi : Dpi) (s : Situation) → IsIn dpi s l.fn.self → IsPassedTo dpi s l.codes (drop l.code-index l.codes) l.self

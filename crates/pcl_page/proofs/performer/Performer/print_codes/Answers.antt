@@ -9,7 +9,7 @@ next_is : (codes : List ℕ) {i : ℕ} (default : ℕ) → i < length codes → 
 next_is codes {i} default lt = rw (add-one, drop-cons codes i default) refl
 
 pub loop-code-preserved : goal.loop-code-preserved
-loop-code-preserved c = λ s i.
+loop-code-preserved g c = λ s i.
     let code = get_or c.args.codes.now c.loop-code.code-index 0 in
     let characters = prints s.fonts (font_in_use s.settings) in
     let next = next_is c.args.codes.now 0 c.loop-code-test.true in

@@ -1,6 +1,6 @@
 //! Raster rows past the page's right edge, where they are cut.
 
-use crate::doubts::offset_units;
+use crate::places::offset_units;
 use pcl_base::{Dpi, Method, ROW_LIMIT};
 use pcl_env::Env;
 use pcl_rows::decode;

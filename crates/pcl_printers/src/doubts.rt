@@ -1,0 +1,53 @@
+//! What printers may read otherwise (docs/SHRINK.md, "Where printers may read otherwise").
+
+/// By whose reading what is written must print what a job prints.
+#[derive(Clone, Copy, Debug, PartialEq, Eq)]
+pub enum Readers {
+    /// Printers, of which some read some places otherwise than docs/LANGUAGE.md: a job with such a place goes as it came.
+    Printers,
+    /// Whoever reads as docs/LANGUAGE.md says.
+    Profile,
+}
+
+/// What printers may read otherwise in a job.
+#[derive(Clone, Copy, Debug, PartialEq, Eq)]
+pub enum Doubt {
+    /// A mark that stands between dots.
+    BetweenDots,
+    /// A mark at the cursor after a raster with fewer rows than its height.
+    ShortRaster,
+    /// A mark at the cursor after a command that may take it to the first line.
+    FirstLine,
+    /// A row by method 3 after an offset of 0 and a row with dots.
+    SeedRow,
+    /// A width or a height of a raster of 0.
+    RasterSize,
+    /// An advance below 0.
+    Advance,
+    /// A code without a character.
+    Code,
+    /// A rectangle or a character without dots, or a raster without rows, on an unmarked page.
+    EmptyMark,
+    /// The column width after another font came into use, or the selected one was sent anew, or has a part of a PCL unit.
+    ColumnWidth,
+    /// A tab, or a move by rows, past the end of the page, or a line spacing of more than its height.
+    PastEnd,
+    /// A part of a unit of 1/7200 inch, or of a PCL unit, also in an advance.
+    PartOfUnit,
+    /// Sides, a media type or a page length on a marked page, which may eject it.
+    Ejection,
+    /// Ink past the left or the right edge of the page, half a dot past its lower one, or past the edge to which the page is moved; a row
+    /// of a raster that began with the cursor at the right edge.
+    Edge,
+    /// A quality of printing, a text scale or a space, which ends a raster that may go on; or a row of one that the end of a macro may end.
+    OpenRaster,
+    /// A row outside a raster, after one that started away from the left edge.
+    RowStart,
+    /// A text scale that isn't 0, which may scale letters, or is the print mode of a DeskJet, which may not know soft fonts.
+    TextScale,
+    /// Sides, the side of the sheet or a paper source that is asked for after a page of a sheet that may have a back, with an offset.
+    Back,
+    /// A line of the printer's job language with a control code, which may end it, or one that may turn pages, set their lines or take what
+    /// follows as a file; or a line feed after the lines, which may be one of them.
+    JobLine,
+}

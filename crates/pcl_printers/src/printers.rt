@@ -1,0 +1,118 @@
+//! Printers, as they may read what is performed.
+
+use crate::asking::Sheets;
+use crate::cursor::Cursor;
+use crate::doubts::Doubt;
+use crate::rasters::Rasters;
+use crate::widths::Width;
+use pcl_base::{Asking, Dpi, Operation};
+use pcl_env::Env;
+use pcl_page::{Event, Observer, SeenCommand};
+
+/// Printers, which look for what some of them read otherwise in a job that is performed.
+#[derive(Drop)]
+pub struct Printers {
+    /// At which resolution the job is performed.
+    pub(crate) dpi: Dpi,
+    /// The first of what they read otherwise.
+    first: Option<Doubt>,
+    /// What they make of the cursor's place.
+    pub(crate) cursor: Cursor,
+    /// What they make of rasters.
+    pub(crate) rasters: Rasters,
+    /// What they make of the column width.
+    pub(crate) width: Width,
+    /// What they make of sheets.
+    pub(crate) sheets: Sheets,
+    /// Whether the last command was a universal exit, or a CR after one.
+    pub(crate) is_exit: bool,
+}
+
+impl Printers {
+    /// Nothing was performed yet. At which resolution the job is performed is given.
+    pub fn new(dpi: Dpi) -> Printers {
+        Printers {
+            dpi,
+            first: None,
+            cursor: Cursor::default(),
+            rasters: Rasters::default(),
+            width: Width::default(),
+            sheets: Sheets::default(),
+            is_exit: false,
+        }
+    }
+
+    /// The first of what they may read otherwise, if there is anything.
+    pub fn doubt(&self) -> Option<Doubt> {
+        self.first
+    }
+
+    /// Notes something, unless something was noted before.
+    pub(crate) fn note(&mut self, doubt: Doubt) {
+        self.note_any(Some(doubt));
+    }
+
+    /// Notes something where the test holds.
+    pub(crate) fn note_if(&mut self, test: bool, doubt: Doubt) {
+        if test {
+            self.note(doubt);
+        }
+    }
+
+    /// Notes something if there is anything.
+    pub(crate) fn note_any(&mut self, doubt: Option<Doubt>) {
+        self.first = self.first.or(doubt);
+    }
+
+    /// Looks at a command that has set what it sets.
+    fn see_command(&mut self, command: &SeenCommand<'_>, environment: &Env) {
+        self.see_parts(command, environment);
+        self.see_width(command, environment);
+        self.see_spacing(command, environment);
+        self.see_feed(command.operation);
+        self.see_unmarked(command);
+        self.see_cursor(command, environment);
+        self.see_asking(command, environment);
+        self.see_raster(command, environment);
+        self.see_lines(command);
+    }
+
+    /// Looks at the end of a job whose last page is marked or not.
+    fn see_job_end(&mut self, is_marked: bool) {
+        self.note_if(!is_marked && self.rasters.has_begun, Doubt::EmptyMark);
+    }
+
+    /// Looks at a command that ejects a page if that is marked, where it isn't.
+    fn see_unmarked(&mut self, command: &SeenCommand<'_>) {
+        let is_kept = !command.is_marked && ejects_marked(command.operation);
+        self.note_if(is_kept && self.rasters.has_begun, Doubt::EmptyMark);
+    }
+}
+
+impl Observer for Printers {
+    fn see(&mut self, event: Event<'_>, environment: &Env) {
+        match event {
+            Event::Comes(operation, Some(raster)) => self.see_raster_end(operation, &raster),
+            Event::Comes(_, None) => {}
+            Event::Begins(_) => self.see_begin(environment),
+            Event::Sets(command) => self.see_command(&command, environment),
+            Event::Ejects(asked) => self.see_ejection(asked),
+            Event::Marks(mark) => self.see_mark(&mark, environment),
+            Event::Blank(code) => self.see_blank(code, environment),
+            Event::InMacro { .. } => {}
+            Event::MacroEnds(end) => self.see_macro_end(&end),
+            Event::JobEnds { is_marked } => self.see_job_end(is_marked),
+        }
+    }
+}
+
+/// Whether a command ejects a page that is marked.
+fn ejects_marked(operation: Operation) -> bool {
+    matches!(
+        operation,
+        Operation::Reset
+            | Operation::UniversalExit
+            | Operation::PageSize
+            | Operation::Ask(Asking::PaperSource | Asking::SheetSide)
+    )
+}
