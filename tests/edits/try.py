@@ -16,6 +16,7 @@ The crates below are built first (tools/build.py). LANES bounds how many process
 """
 
 import concurrent.futures
+import fcntl
 import hashlib
 import importlib.machinery
 import importlib.util
@@ -128,9 +129,11 @@ def line_of(crate):
 
 
 def write_line(name, line):
-    """Puts a crate's line, or none, where it was."""
-    kept = {**lines(), name: line}
-    TRIED.write_text(HEAD + "".join(f"{kept[it]}\n" for it in sorted(kept) if kept[it]))
+    """Puts a crate's line, or none, where it was. Of two runs one waits for the other."""
+    with open(__file__, "rb") as held:
+        fcntl.flock(held, fcntl.LOCK_EX)
+        kept = {**lines(), name: line}
+        TRIED.write_text(HEAD + "".join(f"{kept[it]}\n" for it in sorted(kept) if kept[it]))
 
 
 def try_group(kit, crate, edits, kept):
