@@ -1,6 +1,6 @@
 -- Small jobs, unfolded by hand.
 use Rattle.std.proofs.Common.{◌≡◌, ◌*◌, ℕ, List, [], ◌∷◌, refl}
-use Rattle.pcl_unfolding.proofs.Names.{Dpi300, Name, Three, Absent, Said, performed, enter, return, now, flat_list}
+use Rattle.pcl_unfolding.proofs.Names.{Dpi300, Stated, Name, Three, Absent, Said, performed, enter, return, now, flat_list}
 use Rattle.pcl_base.specs.Operation.{operation_of}
 use Rattle.pcl_env.specs.Outcome.{outcome}
 use Rattle.pcl_page.specs.Situation.{after}
@@ -24,23 +24,23 @@ abbrev job : ℕ → List Said
 job n = macro_id ∷ control 0 ∷ copies ∷ control 1 ∷ control n ∷ []
 
 -- the command in the definition is on the list only where the macro runs
-called : (flat_list Dpi300 (job 3)).items
+called : (flat_list Stated Dpi300 (job 3)).items
     ≡ return 1 ∷ performed 2 copies ∷ enter ∷ performed 4 (control 3) ∷ performed 3 (control 1) ∷ performed 1 (control 0)
     ∷ performed 0 macro_id ∷ []
 unfolding after outcome operation_of
 called = refl
 
 -- a call's end puts the copies back
-copies_put_back : (now Dpi300 (flat_list Dpi300 (job 3)).items).settings.copies ≡ 1
+copies_put_back : (now Stated Dpi300 (flat_list Stated Dpi300 (job 3)).items).settings.copies ≡ 1
 unfolding after outcome operation_of
 copies_put_back = refl
 
 -- an execution's end leaves what it set
-copies_left : (now Dpi300 (flat_list Dpi300 (job 2)).items).settings.copies ≡ 2
+copies_left : (now Stated Dpi300 (flat_list Stated Dpi300 (job 2)).items).settings.copies ≡ 2
 unfolding after outcome operation_of
 copies_left = refl
 
 -- a macro that isn't there is not run
-none_there : (flat_list Dpi300 (control 3 ∷ [])).items ≡ performed 0 (control 3) ∷ []
+none_there : (flat_list Stated Dpi300 (control 3 ∷ [])).items ≡ performed 0 (control 3) ∷ []
 unfolding after outcome operation_of
 none_there = refl

@@ -1,6 +1,6 @@
 -- What proofs of this crate name of std, of the crates below, and of its own definitions; those above take these from here too.
 pub use Rattle.pcl_base.proofs.Names.{macro_limit, operation_of, option_map}
-pub use Rattle.pcl_base.specs.declared.{dpi.Dpi.Dpi, dpi.Dpi.TheVariants.Dpi300, kind.Kind.Kind, name.Name.Name, name.Name.TheVariants.Three, operation.Operation.Operation, operation.Operation.TheVariants.ControlMacros, refusal.Refusal.Refusal, value.Sign.TheVariants.Absent, value.Value.Value}
+pub use Rattle.pcl_base.specs.declared.{dpi.Dpi.Dpi, dpi.Dpi.TheVariants.Dpi300, kind.Kind.Kind, name.Name.Name, name.Name.TheVariants.Three, operation.Operation.Operation, operation.Operation.TheVariants.ControlMacros, profile.Profile.Profile, profile.Profile.TheVariants.Stated, refusal.Refusal.Refusal, value.Sign.TheVariants.Absent, value.Value.Value}
 pub use Rattle.pcl_env.specs.{Settings.Settings, Settings.kept}
 pub use Rattle.pcl_escape.proofs.Names.{Said}
 pub use Rattle.pcl_macros.proofs.Names.{MacroBody}

@@ -5,7 +5,7 @@ use Rattle.pcl_base.specs.declared.kind.Kind.{Kind}
 use Rattle.pcl_base.specs.declared.kind.Kind.TheVariants.{MacroDepth}
 use Rattle.pcl_base.specs.declared.operation.Operation.{Operation}
 use Rattle.pcl_base.specs.declared.operation.Operation.TheVariants.{ControlMacros}
-use Rattle.pcl_base.specs.declared.profile.Profile.TheVariants.{Stated}
+use Rattle.pcl_base.specs.declared.profile.Profile.{Profile}
 use Rattle.pcl_base.specs.declared.refusal.Refusal.{Refusal}
 use Rattle.pcl_base.specs.declared.value.Value.{Value}
 use Rattle.pcl_base.specs.Limits.{macro_limit}
@@ -46,29 +46,30 @@ returned dpi entered s =
     (record (end_raster dpi s) { settings = restored (kept entered.settings) (end_raster dpi s).settings })
 
 -- the newest of some situations, and the one this many items before it
-abbrev pub newest : List Situation → Situation
-newest [] = at_start Stated
-newest (s ∷ past) = s
+abbrev pub newest : Profile → List Situation → Situation
+newest profile [] = at_start profile
+newest profile (s ∷ past) = s
 
-abbrev pub ago : ℕ → List Situation → Situation
-ago zero past = newest past
-ago (suc items) [] = at_start Stated
-ago (suc items) (s ∷ past) = ago items past
+abbrev pub ago : Profile → ℕ → List Situation → Situation
+ago profile zero past = newest profile past
+ago profile (suc items) [] = at_start profile
+ago profile (suc items) (s ∷ past) = ago profile items past
 
 -- the situation after one item more, by those after the items before it, the newest first
-abbrev pub after_item : Dpi → Item → List Situation → Situation
-after_item dpi (performed place command) past = or_as_before (newest past) (after_command dpi place command (newest past))
-after_item dpi enter past = newest past
-after_item dpi leave past = newest past
-after_item dpi (return items) past = returned dpi (ago items past) (newest past)
+abbrev pub after_item : Profile → Dpi → Item → List Situation → Situation
+after_item profile dpi (performed place command) past =
+    or_as_before (newest profile past) (after_command dpi place command (newest profile past))
+after_item profile dpi enter past = newest profile past
+after_item profile dpi leave past = newest profile past
+after_item profile dpi (return items) past = returned dpi (ago profile items past) (newest profile past)
 
 -- the situations after a list, after the list without its newest item, and so on to the empty one
-abbrev pub situations : Dpi → List Item → List Situation
-situations dpi [] = at_start Stated ∷ []
-situations dpi (item ∷ older) = after_item dpi item (situations dpi older) ∷ situations dpi older
+abbrev pub situations : Profile → Dpi → List Item → List Situation
+situations profile dpi [] = at_start profile ∷ []
+situations profile dpi (item ∷ older) = after_item profile dpi item (situations profile dpi older) ∷ situations profile dpi older
 
-abbrev pub now : Dpi → List Item → Situation
-now dpi items = newest (situations dpi items)
+abbrev pub now : Profile → Dpi → List Item → Situation
+now profile dpi items = newest profile (situations profile dpi items)
 
 -- ---- unfolding
 
@@ -143,10 +144,11 @@ with_command bodies place command control (Err kind) items = refused kind comman
 with_command bodies place command control (Ok later) items =
     with_body bodies command control (body_run control later) (performed place command ∷ items)
 
-abbrev pub add : Dpi → Bodies → ℕ → Said → List Item → Unfolding
-add dpi bodies place command items =
-    if is_kept command (now dpi items) then unrefused items
-    else with_command bodies place command (macro_control command (now dpi items)) (after_command dpi place command (now dpi items)) items
+abbrev pub add : Profile → Dpi → Bodies → ℕ → Said → List Item → Unfolding
+add profile dpi bodies place command items =
+    if is_kept command (now profile dpi items) then unrefused items
+    else with_command bodies place command (macro_control command (now profile dpi items))
+    (after_command dpi place command (now profile dpi items)) items
 
 -- ---- macros
 
@@ -156,23 +158,24 @@ ended_by control begun items = unrefused (end_of control (length items - length 
 
 -- A macro that a command runs, with this many levels left: its start, its commands in order, each with one level less, and its end.
 -- Where no level is left the command is refused.
-abbrev pub unfolded : ℕ → Dpi → List Said → Bodies
-unfolded zero dpi all command control body items = refused MacroDepth command items
-unfolded (suc levels) dpi all command control body items =
-    and_on (in_turn (add dpi (unfolded levels dpi all)) body.from (body_said all body) (enter ∷ items)) (ended_by control (enter ∷ items))
+abbrev pub unfolded : ℕ → Profile → Dpi → List Said → Bodies
+unfolded zero profile dpi all command control body items = refused MacroDepth command items
+unfolded (suc levels) profile dpi all command control body items =
+    and_on (in_turn (add profile dpi (unfolded levels profile dpi all)) body.from (body_said all body) (enter ∷ items))
+    (ended_by control (enter ∷ items))
 
 -- ---- a job
 
 -- the flat list of some commands
-abbrev pub flat_list : Dpi → List Said → Unfolding
-flat_list dpi commands = in_turn (add dpi (unfolded macro_limit dpi commands)) 0 commands []
+abbrev pub flat_list : Profile → Dpi → List Said → Unfolding
+flat_list profile dpi commands = in_turn (add profile dpi (unfolded macro_limit profile dpi commands)) 0 commands []
 
 -- what it says of performing them
-abbrev pub performed_by : Dpi → Unfolding → Performance
-performed_by dpi u = record { situation = now dpi u.items; refusal = u.refusal }
+abbrev pub performed_by : Profile → Dpi → Unfolding → Performance
+performed_by profile dpi u = record { situation = now profile dpi u.items; refusal = u.refusal }
 
--- performing commands by the stated profile, and then the input's end, leads to the situation after their flat list, and is refused
--- where that doesn't go on
+-- performing commands by a profile, and then the input's end, leads to the situation after their flat list, and is refused where that
+-- doesn't go on
 abbrev pub PerformingIsUnfolding : Type 0
-PerformingIsUnfolding = (dpi : Dpi) (end : ℕ) (commands : List Said)
-    → performance Stated dpi end commands ≡ then_on (performed_by dpi (flat_list dpi commands)) (after_end dpi end)
+PerformingIsUnfolding = (profile : Profile) (dpi : Dpi) (end : ℕ) (commands : List Said)
+    → performance profile dpi end commands ≡ then_on (performed_by profile dpi (flat_list profile dpi commands)) (after_end dpi end)
