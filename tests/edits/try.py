@@ -188,22 +188,12 @@ def try_all(named):
     return 1 if failed else 0
 
 
-def misfits(crate):
-    """The edits of a crate that no longer fit: a text that they replace has to stand in its file once."""
+def misfits(kit, crate):
+    """The edits of a crate that no longer fit it, and why: a text that they replace has to stand in its file once."""
     for edit in edits_of(crate):
-        path, texts = None, {}
-        for line in edit.read_text().splitlines():
-            word, _, text = line.partition(": ")
-            if word == "file":
-                path = text.strip()
-                texts.setdefault(path, (crate.folder / path).read_text() if (crate.folder / path).is_file() else "")
-            elif word == "old":
-                old = text
-            elif word in ("new", "new:"):
-                if texts[path].count(old) != 1:
-                    yield f"{crate.name}/{edit.name}: its text stands in {path} {texts[path].count(old)} times, not once"
-                    break
-                texts[path] = texts[path].replace(old, text)
+        why = kit.rt.read_edit(str(edit), str(crate.folder))[1]
+        if why:
+            yield f"{crate.name}/{edit.name} can't be tried: {why}"
 
 
 def states(known):
@@ -220,11 +210,11 @@ def states(known):
 
 def check(known):
     """Tells what wasn't tried; the status is 1 where a crate's own line doesn't hold."""
-    changed, waiting = states(known)
+    kit, (changed, waiting) = Kit(), states(known)
     faults = [f"{it.name} has changed since its edits were tried, or they never were: make test-edits {it.name}" for it in changed]
     faults += [f"tests/edits/tried has a line of {it}, which has no edits" for it in sorted(lines().keys())
                if it not in known or not edits_of(known[it])]
-    faults += [fault for it in known.values() for fault in misfits(it)]
+    faults += [fault for it in known.values() for fault in misfits(kit, it)]
     for it in faults:
         print(it, file=sys.stderr)
     count = sum(len(edits_of(it)) for it in known.values())
