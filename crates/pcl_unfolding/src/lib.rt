@@ -3,8 +3,8 @@
 
 ghost use Rattle.pcl_unfolding.specs.FlatList.{PerformingIsUnfolding};
 
-/// The unfolding of macros into one flat list says the same as performing them does, by either profile. For all commands the situation at the
-/// end, and so the pages, and the refusal are the same (docs/LANGUAGE.md, "Macros"). A law: the call does nothing.
+/// The unfolding of macros into one flat list says the same as performing them does, by either profile. For all commands the
+/// situation at the end, and so the pages, and the refusal are the same (docs/LANGUAGE.md, "Macros"). A law: the call does nothing.
 pub fn performing_is_unfolding()
     ensures { PerformingIsUnfolding }
 {}
