@@ -5,13 +5,14 @@
 
 RENDER is a command in which {dpi}, {job} and {name} stand for a resolution, a job's file and a name: it writes the whole sheets as
 NAME-1.pbm, NAME-2.pbm and so on. The jobs are those of shrunk.py, by `--dpi 300`, `--dpi 600` or `--dpi auto`. Of each that gets shorter
-the interpreter has to paint the same sheets from both, at each resolution that counts and by which `pclmin` accepts the job. One that
-differs is kept in FOLDER (build/fuzz) as sheets-SEED-NUMBER.pcl, with a line on standard output, and the status is then 1.
+the interpreter has to paint the same sheets from both, at each resolution that counts and by which `pclmin` accepts the job. Lines on its
+standard error that begin with ASKED say what each page asks for, and have to be the same too. One that differs is kept in FOLDER (build/fuzz) as sheets-SEED-NUMBER.pcl, with a line on standard output, and the status is then 1.
 """
 
 import argparse
 import collections
 import concurrent.futures
+import hashlib
 import os
 import random
 import shlex
@@ -22,24 +23,28 @@ import tempfile
 sys.dont_write_bytecode = True
 from shrunk import TRIES, random_job
 
+Printed = collections.namedtuple("Printed", "sheets asked")
+# Where sheets are painted: in memory, where the machine has such a folder.
+ROOM = "/dev/shm" if os.path.isdir("/dev/shm") else None
+
 
 def ran(words, job):
     came = subprocess.run(words, input=job, capture_output=True, check=False)
     return came.returncode, came.stdout
 
 
-def sheets(render, job, dpi):
-    """The sheets that the interpreter paints of a job, each as the bytes of its file."""
-    with tempfile.TemporaryDirectory() as room:
+def printed(render, job, dpi):
+    """The sheets that the interpreter paints of a job, each as a digest of its file, and what each page asks for, if it says so."""
+    with tempfile.TemporaryDirectory(dir=ROOM) as room:
         file, name = os.path.join(room, "job.pcl"), os.path.join(room, "sheet")
         with open(file, "wb") as out:
             out.write(job)
-        subprocess.run([word.format(dpi=dpi, job=file, name=name) for word in shlex.split(render)], check=True, capture_output=True)
+        came = subprocess.run([word.format(dpi=dpi, job=file, name=name) for word in shlex.split(render)], check=True, capture_output=True)
         found = []
         while os.path.exists("%s-%d.pbm" % (name, len(found) + 1)):
             with open("%s-%d.pbm" % (name, len(found) + 1), "rb") as sheet:
-                found.append(sheet.read())
-        return found
+                found.append(hashlib.blake2b(sheet.read()).digest())
+        return Printed(found, [line for line in came.stderr.decode("latin-1").splitlines() if line.startswith("ASKED")])
 
 
 def look(asked, number):
@@ -55,7 +60,7 @@ def look(asked, number):
     if written == job:
         return "as they came", None
     for at in ["300", "600"] if dpi == "auto" else [dpi]:
-        if ran([asked.pclmin, "pages", "--dpi", at], job)[0] == 0 and sheets(asked.render, job, at) != sheets(asked.render, written, at):
+        if ran([asked.pclmin, "pages", "--dpi", at], job)[0] == 0 and printed(asked.render, job, at) != printed(asked.render, written, at):
             with open(os.path.join(asked.folder, "sheets-%d-%d.pcl" % (asked.seed, number)), "wb") as out:
                 out.write(job)
             return "different", "job %d by --dpi %s differs at %s" % (number, dpi, at)
