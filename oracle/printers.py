@@ -85,11 +85,13 @@ KEPT = "ESC*c5D " + WIDE_FIXED + LETTER.replace("8*<FF FF 81 81>", "32*55") + "E
 add("(5X of a font that the job hasn't", "print", SOFT + "ESC(5X ESC*p300x300Y {AAAA} " + LONG, KEPT)
 add("(5X, which the job hasn't, and spaces", "print", "ESC(5X ESC*p300x300Y {    } " + BOX + LONG, KEPT)
 add("(5X, which the job hasn't, and a column", "print", "ESC(5X ESC&a9C ESC*p300Y " + BOX + LONG, KEPT)
-add("(s#W in a font that the job hasn't", "print", "ESC*c5D " + LETTER + "ESC*p300x300Y " + BOX + LONG, KEPT, "ESC(5X " + "ESC*p300x300Y AA ESCE")
+add("(s#W in a font that the job hasn't", "print", "ESC*c5D " + LETTER + "ESC*p300x300Y " + BOX + LONG, KEPT, "ESC(5X "
+    + "ESC*p300x300Y AA ESCE")
 add(")s#W over a font of the printer's", "print", "ESC*c5D " + FONT + LETTER + "ESC(5X ESC*p300x300Y {AAAA} " + LONG + "ESCE", KEPT,
     "ESC(5X ESC*p300x300Y {AAAA} ESCE")
 MACRO = "ESC&f5y0X ESC*c200a9b0P ESC&f1X "
-add("&f0X over a macro of the printer's", "print", "ESC&f5y0X " + BOX + "ESC&f1X ESC*p300x300Y ESC&f5y3X " + LONG + "ESCE", MACRO + "ESC&f10X ",
+add("&f0X over a macro of the printer's", "print", "ESC&f5y0X " + BOX + "ESC&f1X ESC*p300x300Y ESC&f5y3X " + LONG + "ESCE", MACRO
+    + "ESC&f10X ",
     "ESC*p300x300Y ESC&f5y3X ESCE")
 add("&f2X of a macro that the job hasn't", "print", "ESC*p300x300Y ESC&f5y2X " + LONG, MACRO + "ESC&f10X ")
 
@@ -111,7 +113,8 @@ for paper in PAPERS:
         PANEL % ("PAPER=" + paper))
 add("default PAPER=A4 in the job, and ink low on it", "print", PANEL % "PAPER=A4" + "ESCE ESC&l0E ESC*p300x3400Y " + BOX + LONG)
 add("A4 at the panel, and line feeds within what all share", "print", "ESC*p300x300Y 20*[0A] " + BOX + LONG, PANEL % "PAPER=A4")
-add("PAPERWIDTH and PAPERLENGTH, and ink right on it", "print", SET % "PAPERWIDTH=3600}[0D 0A]{@PJL SET PAPERLENGTH=7200" + "ESC*p1300x300Y " + BOX + LONG)
+add("PAPERWIDTH and PAPERLENGTH, and ink right on it", "print", SET % "PAPERWIDTH=3600}[0D 0A]{@PJL SET PAPERLENGTH=7200"
+    + "ESC*p1300x300Y " + BOX + LONG)
 add("a reset after the size, and line feeds", "print", "ESC&l2A ESC*p300x300Y " + BOX + "ESCE " + MOVED + LONG, PANEL % "PAPER=A4")
 add = row("the default font by @PJL")
 for said in ("PITCH=16.66", "PITCH=20", "FONTNUMBER=4", "PTSIZE=20", "LPARM:PCL PITCH=16.66", "SYMSET=PC8"):
@@ -121,14 +124,16 @@ add("PITCH=16.66, and no column", "print", SET % "PITCH=16.66" + "ESC*p300x300Y 
 add = row("sizes in duplex")
 FRONT, BACK = "ESC*p300x300Y " + BOX + LONG, "ESC*p500x500Y " + BOX + LONG
 add("a size on fronts alone", "print", "ESC&l1S ESC&l2A " + FRONT + "[0C] " + BACK + "[0C] ESC&l2A " + FRONT + "[0C] " + BACK + "[0C] ESCE")
-add("a size on fronts alone, A4", "print", "ESC&l1S ESC&l26A " + FRONT + "[0C] " + BACK + "[0C] ESC&l26A " + FRONT + "[0C] " + BACK + "[0C] ESCE")
+add("a size on fronts alone, A4", "print", "ESC&l1S ESC&l26A " + FRONT + "[0C] " + BACK + "[0C] ESC&l26A " + FRONT + "[0C] " + BACK
+    + "[0C] ESCE")
 add("a size and a source on fronts alone", "print", ("ESC&l1S " + "ESC&l2a1H " + FRONT + "[0C] " + BACK + "[0C] ") * 3 + "ESCE")
 add("a size once, and four pages", "print", "ESC&l1S ESC&l2A " + (FRONT + "[0C] " + BACK + "[0C] ") * 2 + "ESCE")
 add("a size once, and three pages without duplex", "print", "ESC&l2A " + (FRONT + "[0C] ") * 3 + "ESCE")
 add("copies once, and three pages", "print", "ESC&l2x2A " + (FRONT + "[0C] ") * 3 + "ESCE")
 add("a page length once, and four pages", "print", "ESC&l1S ESC&l66P ESC&l0E " + (FRONT + "[0C] " + BACK + "[0C] ") * 2 + "ESCE")
 for said in ("1S", "2S", "0S"):
-    add("sides said again before page 2, &l" + said, "print", "ESC&l%s " % said + FRONT + "[0C] ESC&l%s " % said + BACK + "[0C] " + FRONT + "ESCE")
+    add("sides said again before page 2, &l" + said, "print", "ESC&l%s " % said + FRONT + "[0C] ESC&l%s " % said + BACK + "[0C] " + FRONT
+        + "ESCE")
 add("sides said again on an unmarked first page", "print", "ESC&l1S ESC&l1S " + FRONT + "[0C] " + BACK + "[0C] ESCE")
 add("sides said again after a reset", "print", "ESC&l1S " + FRONT + "[0C] " + BACK + "ESCE ESC&l1S " + FRONT + "[0C] " + BACK + "ESCE")
 add("&a1G that ejects a marked page", "print", "ESC&l1S " + FRONT + "ESC&a1G " + BACK + "[0C] " + FRONT + "[0C] ESCE")
@@ -138,13 +143,17 @@ add("&a1G after a form feed", "print", "ESC&l1S " + FRONT + "[0C] ESC&a1G " + BA
 add("&a2G after a form feed", "print", "ESC&l1S " + FRONT + "[0C] ESC&a2G " + BACK + "[0C] " + FRONT + "[0C] ESCE")
 add("&l0H that ejects a marked page", "print", "ESC&l1S " + FRONT + "ESC&l0H " + BACK + "[0C] " + FRONT + "[0C] ESCE")
 add("&l0H that ejects the last page", "print", "ESC&l2A " + FRONT + "[0C] " + BACK + "ESC&l0H ESCE")
-add("&a1G that ejects a marked page, and an offset after it", "print", "ESC&l1S " + FRONT + "ESC&a1G ESC&l36U " + BACK + "[0C] " + FRONT + "[0C] ESCE")
-add("&l0H that ejects a marked page, and an offset after it", "print", "ESC&l1S " + FRONT + "ESC&l0H ESC&l36U " + BACK + "[0C] " + FRONT + "[0C] ESCE")
-add("&l1H that ejects a marked page, and an offset after it", "print", "ESC&l1S " + FRONT + "ESC&l1H ESC&l36U " + BACK + "[0C] " + FRONT + "[0C] ESCE")
+add("&a1G that ejects a marked page, and an offset after it", "print", "ESC&l1S " + FRONT + "ESC&a1G ESC&l36U " + BACK + "[0C] " + FRONT
+    + "[0C] ESCE")
+add("&l0H that ejects a marked page, and an offset after it", "print", "ESC&l1S " + FRONT + "ESC&l0H ESC&l36U " + BACK + "[0C] " + FRONT
+    + "[0C] ESCE")
+add("&l1H that ejects a marked page, and an offset after it", "print", "ESC&l1S " + FRONT + "ESC&l1H ESC&l36U " + BACK + "[0C] " + FRONT
+    + "[0C] ESCE")
 add("FF in a called macro", "print", "ESC&f1y0X [0C] ESC&f1X ESC&l1S " + FRONT + "ESC&f3X " + BACK + "[0C] " + FRONT + "[0C] ESCE")
 add("FF in an executed macro", "print", "ESC&f1y0X [0C] ESC&f1X ESC&l1S " + FRONT + "ESC&f2X " + BACK + "[0C] " + FRONT + "[0C] ESCE")
 add("DUPLEX by @PJL, and a size once", "print", SET % "DUPLEX=ON" + "ESCE ESC&l2A " + (FRONT + "[0C] " + BACK + "[0C] ") * 2 + "ESCE")
-add("DUPLEX by @PJL, and FF in a called macro", "print", SET % "DUPLEX=ON" + "ESC&f1y0X [0C] ESC&f1X " + FRONT + "ESC&f3X " + BACK + "[0C] " + FRONT + "ESCE")
+add("DUPLEX by @PJL, and FF in a called macro", "print", SET % "DUPLEX=ON" + "ESC&f1y0X [0C] ESC&f1X " + FRONT + "ESC&f3X " + BACK
+    + "[0C] " + FRONT + "ESCE")
 add("DUPLEX by @PJL, and &a1G that ejects a marked page", "print", SET % "DUPLEX=ON" + FRONT + "ESC&a1G " + BACK + "[0C] " + FRONT + "ESCE")
 
 add = row("an orientation that is said")
@@ -167,10 +176,13 @@ add("DUPLEX=ON at the panel", "print", "ESCE " + FRONT + "[0C] " + BACK + "ESCE"
 add = row("jobs in turn")
 ENTER = "ESC%-12345X{@PJL}[0D 0A]{@PJL ENTER LANGUAGE=PCL}[0D 0A]"
 for said in ("COPIES=2", "DUPLEX=ON", "PAPER=A4"):
-    add("an empty job of %s before another" % said, "print", SET % said + "ESCE " + ENTER + FRONT + "[0C] " + BACK + "[0C] ESCE ESC%-12345X")
-    add("an empty job of %s with two resets" % said, "print", SET % said + "ESCE ESCE " + ENTER + FRONT + "[0C] " + BACK + "[0C] ESCE ESC%-12345X")
+    add("an empty job of %s before another" % said, "print", SET % said + "ESCE " + ENTER + FRONT + "[0C] " + BACK
+        + "[0C] ESCE ESC%-12345X")
+    add("an empty job of %s with two resets" % said, "print", SET % said + "ESCE ESCE " + ENTER + FRONT + "[0C] " + BACK
+        + "[0C] ESCE ESC%-12345X")
     add("an empty job of %s without a reset" % said, "print", SET % said + ENTER + FRONT + "[0C] " + BACK + "[0C] ESCE ESC%-12345X")
-    add("a job of %s, and another" % said, "print", SET % said + "ESCE " + FRONT + "ESCE " + ENTER + FRONT + "[0C] " + BACK + "ESCE ESC%-12345X")
+    add("a job of %s, and another" % said, "print", SET % said + "ESCE " + FRONT + "ESCE " + ENTER + FRONT + "[0C] " + BACK
+        + "ESCE ESC%-12345X")
     add("a job of %s, and another, without resets" % said, "print", SET % said + FRONT + ENTER + FRONT + "[0C] " + BACK + "ESC%-12345X")
 add("a reset between two exits before the first page", "print", "ESC%-12345X{@PJL SET COPIES=2}[0A]ESCE ESC%-12345X " + FRONT)
 for said in ("&l1S", "&l26A", "&l2X", "&l1H", "&l3E", "&u600D", "&l8D", "&k2G", "&a9L", "&l36Z", "&l1O", "*t300R", "&a40M", "&s0C"):
@@ -208,26 +220,37 @@ for size in (1, 3, 26):
 add = row("a selected font that goes, or comes anew")
 for what in (0, 1, 2):
     deleted = "ESC*c%dF " % what
-    add("*c%dF of the selected font, and spaces" % what, "print", SOFT + "ESC*p300x200Y AA ESC*c1D " + deleted + "ESC*p300x300Y {    } " + BOX + LONG)
-    add("*c%dF of the selected font, and a column" % what, "print", SOFT + "ESC*p300x200Y AA ESC*c1D " + deleted + "ESC&a9C ESC*p300Y " + BOX + LONG)
+    add("*c%dF of the selected font, and spaces" % what, "print", SOFT + "ESC*p300x200Y AA ESC*c1D " + deleted + "ESC*p300x300Y {    } "
+        + BOX + LONG)
+    add("*c%dF of the selected font, and a column" % what, "print", SOFT + "ESC*p300x200Y AA ESC*c1D " + deleted + "ESC&a9C ESC*p300Y "
+        + BOX + LONG)
 add("*c3F of the selected font, and text", "print", SOFT + "ESC*p300x200Y AA ESC*c1d65e3F ESC*p300x300Y {AAAA} " + BOX + LONG)
-add("*c2F of the selected font, and text in another", "print", SOFT + "ESC*p300x200Y AA ESC*c1d2F ESC*c2D " + FONT + LETTER + "ESC(2X ESC*p300x300Y {AAAA} "
+add("*c2F of the selected font, and text in another", "print", SOFT + "ESC*p300x200Y AA ESC*c1d2F ESC*c2D " + FONT + LETTER
+    + "ESC(2X ESC*p300x300Y {AAAA} "
     + BOX + LONG)
 add("a header with another spacing", "print", SOFT + "ESC*p300x200Y AA ESC*c1D " + FIXED + LETTER + "ESC*p300x300Y {AA AA} " + BOX + LONG)
-add("a header with another spacing, and text without spaces", "print", SOFT + "ESC*p300x200Y AA ESC*c1D " + FIXED + LETTER + "ESC*p300x300Y {AAAA} " + BOX + LONG)
-add("a header with another spacing, and text on another line", "print", SOFT + "ESC*p300x200Y AA ESC*c1D " + WIDE_FIXED + LETTER + "ESC*p300x300Y {AAAA} " + LONG)
-add("a header with another pitch, and text without spaces", "print", SOFT + "ESC*p300x200Y AA ESC*c1D " + WIDE + LETTER + "ESC*p300x300Y {AAAA} " + BOX + LONG)
-add("a header with the same spacing and pitch", "print", SOFT + "ESC*p300x200Y AA ESC*c1D " + FONT + LETTER + "ESC*p300x300Y {AA AA} " + BOX + LONG)
-add("a header with another pitch, and spaces", "print", SOFT + "ESC*p300x200Y AA ESC*c1D " + WIDE + LETTER + "ESC*p300x300Y {AA AA} " + BOX + LONG)
-add("a header with another pitch, and a column", "print", SOFT + "ESC*p300x200Y AA ESC*c1D " + WIDE + LETTER + "ESC&a9C ESC*p300Y " + BOX + LONG)
-add("a header with another pitch, selected again", "print", SOFT + "ESC*p300x200Y AA ESC*c1D " + WIDE + LETTER + "ESC(1X ESC*p300x300Y {AA AA} " + BOX + LONG)
+add("a header with another spacing, and text without spaces", "print", SOFT + "ESC*p300x200Y AA ESC*c1D " + FIXED + LETTER
+    + "ESC*p300x300Y {AAAA} " + BOX + LONG)
+add("a header with another spacing, and text on another line", "print", SOFT + "ESC*p300x200Y AA ESC*c1D " + WIDE_FIXED + LETTER
+    + "ESC*p300x300Y {AAAA} " + LONG)
+add("a header with another pitch, and text without spaces", "print", SOFT + "ESC*p300x200Y AA ESC*c1D " + WIDE + LETTER
+    + "ESC*p300x300Y {AAAA} " + BOX + LONG)
+add("a header with the same spacing and pitch", "print", SOFT + "ESC*p300x200Y AA ESC*c1D " + FONT + LETTER + "ESC*p300x300Y {AA AA} "
+    + BOX + LONG)
+add("a header with another pitch, and spaces", "print", SOFT + "ESC*p300x200Y AA ESC*c1D " + WIDE + LETTER + "ESC*p300x300Y {AA AA} "
+    + BOX + LONG)
+add("a header with another pitch, and a column", "print", SOFT + "ESC*p300x200Y AA ESC*c1D " + WIDE + LETTER + "ESC&a9C ESC*p300Y " + BOX
+    + LONG)
+add("a header with another pitch, selected again", "print", SOFT + "ESC*p300x200Y AA ESC*c1D " + WIDE + LETTER
+    + "ESC(1X ESC*p300x300Y {AA AA} " + BOX + LONG)
 add("a header of another fixed pitch, and text", "print", SOFT.replace(FONT, FIXED) + "ESC*p300x200Y AA ESC*c1D " + WIDE_FIXED + LETTER
     + "ESC*p300x300Y {AAAA} " + BOX + LONG)
 
 add = row("rows")
 START = "ESC*t300R ESC*p300x300Y ESC*r1A "
 for data in ("FF", "1F", "1F FF", "FF FF", "1F FF FF"):
-    add("method 3 that ends in an offset of 31, [%s]" % data, "pass", START + "ESC*b4W[FF 00 FF 00] ESC*b3M ESC*b%dW[%s] ESC*rC " % (len(data.split()), data) + LONG)
+    add("method 3 that ends in an offset of 31, [%s]" % data, "pass", START
+        + "ESC*b4W[FF 00 FF 00] ESC*b3M ESC*b%dW[%s] ESC*rC " % (len(data.split()), data) + LONG)
     add("method 3 that ends in an offset of 31, [00 AA %s]" % data, "pass",
         START + "ESC*b4W[FF 00 FF 00] ESC*b3M ESC*b%dW[00 AA %s] ESC*b1W[00] ESC*rC " % (2 + len(data.split()), data) + LONG)
 add("method 3 that ends in an offset", "print", START + "ESC*b4W[FF 00 FF 00] ESC*b3M ESC*b1W[05] ESC*rC " + LONG)
@@ -235,12 +258,16 @@ add("method 3 with fewer new bytes than it says", "print", START + "ESC*b4W[FF 0
 add("method 2 with fewer bytes than it says", "print", START + "ESC*b2m3W[05 AA BB] ESC*rC " + LONG)
 add("method 1 that ends in a count", "print", START + "ESC*b1m3W[05 AA 02] ESC*rC " + LONG)
 add("rows skipped past the height, and a rectangle", "print", "ESC*p300x300Y ESC*t300R ESC*r1t1A ESC*b2Y ESC*rC " + BOX + LONG)
-add("rows and rows skipped past the height, and a rectangle", "print", "ESC*p300x300Y ESC*t300R ESC*r4t1A ESC*b1W[80] ESC*b9Y ESC*rC " + BOX + LONG)
+add("rows and rows skipped past the height, and a rectangle", "print", "ESC*p300x300Y ESC*t300R ESC*r4t1A ESC*b1W[80] ESC*b9Y ESC*rC "
+    + BOX + LONG)
 add("rows past the height, and a rectangle", "print", "ESC*p300x300Y ESC*t300R ESC*r1t1A 3*<ESC*b1W[FF]> ESC*rC " + BOX + LONG)
 add("rows past the height, and a move", "print", "ESC*p300x300Y ESC*t300R ESC*r1t1A 3*<ESC*b1W[FF]> ESC*rC ESC*p900x900Y " + BOX + LONG)
-add("rows skipped past the lower edge, and a rectangle", "print", "ESC&l0E ESC*p300x3290Y ESC*t300R ESC*r1A ESC*b1W[80] ESC*b20Y ESC*rC ESC*p-5Y " + BOX + LONG)
-add("a raster of 300 whose last row is half below the edge", "print", "ESCE ESC*t300R ESC*r0A ESC*b3112Y ESC*b4W[FF FF FF FF] ESC*rB " + LONG + "ESCE")
-add("a raster of 300 from the first line to the last row but one", "print", "ESCE ESC*t300R ESC*r0A ESC*b3111Y ESC*b4W[FF FF FF FF] ESC*rB " + LONG + "ESCE")
+add("rows skipped past the lower edge, and a rectangle", "print",
+    "ESC&l0E ESC*p300x3290Y ESC*t300R ESC*r1A ESC*b1W[80] ESC*b20Y ESC*rC ESC*p-5Y " + BOX + LONG)
+add("a raster of 300 whose last row is half below the edge", "print", "ESCE ESC*t300R ESC*r0A ESC*b3112Y ESC*b4W[FF FF FF FF] ESC*rB "
+    + LONG + "ESCE")
+add("a raster of 300 from the first line to the last row but one", "print",
+    "ESCE ESC*t300R ESC*r0A ESC*b3111Y ESC*b4W[FF FF FF FF] ESC*rB " + LONG + "ESCE")
 add("rows of a raster by pbmtolj", "print", "ESCE ESC*t300R ESC*r0A 3113*<ESC*b2W[FF FF]> ESC*rB ESCE")
 
 add = row("parts of units")
@@ -267,7 +294,8 @@ PAIRS = [
     ("a size said or not", "ESC&l2A " + FRONT + "ESCE", FRONT + "ESCE"),
     ("an orientation said or not", "ESC&l0O " + FRONT + "ESCE", FRONT + "ESCE"),
     ("a reset between exits", SET % "COPIES=2" + "ESCE " + ENTER + FRONT + "ESCE", SET % "COPIES=2" + ENTER + FRONT + "ESCE"),
-    ("&a1G that ejects, or FF before it", "ESC&l1S " + FRONT + "ESC&a1G " + BACK + "ESCE", "ESC&l1S " + FRONT + "[0C] ESC&a1G " + BACK + "ESCE"),
+    ("&a1G that ejects, or FF before it", "ESC&l1S " + FRONT + "ESC&a1G " + BACK + "ESCE", "ESC&l1S " + FRONT + "[0C] ESC&a1G " + BACK
+     + "ESCE"),
 ]
 
 
@@ -330,7 +358,8 @@ def faults_of(asked, case):
             continue
         outcomes.append("%s %d to %d" % (dpi, len(job), len(written)))
         found = [fault for fault in (others(asked, case, job, written, at) for at in (["300", "600"] if dpi == "auto" else [dpi])) if fault]
-        more = {name.decode(): "%d and %d" % (sayings(job)[name], times) for name, times in sayings(written).items() if times > sayings(job)[name]}
+        more = {name.decode(): "%d and %d" % (sayings(job)[name], times) for name, times in sayings(written).items()
+                if times > sayings(job)[name]}
         if more and case.must == "print":
             found.append("says more: %s" % more)
         if case.must == "pass" and not found:

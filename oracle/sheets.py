@@ -6,7 +6,8 @@
 RENDER is a command in which {dpi}, {job} and {name} stand for a resolution, a job's file and a name: it writes the whole sheets as
 NAME-1.pbm, NAME-2.pbm and so on. The jobs are those of shrunk.py, by `--dpi 300`, `--dpi 600` or `--dpi auto`. Of each that gets shorter
 the interpreter has to paint the same sheets from both, at each resolution that counts and by which `pclmin` accepts the job. Lines on its
-standard error that begin with ASKED say what each page asks for, and have to be the same too. One that differs is kept in FOLDER (build/fuzz) as sheets-SEED-NUMBER.pcl, with a line on standard output, and the status is then 1.
+standard error that begin with ASKED say what each page asks for, and have to be the same too. One that differs is kept in FOLDER
+(build/fuzz) as sheets-SEED-NUMBER.pcl, with a line on standard output, and the status is then 1.
 """
 
 import argparse
