@@ -12,7 +12,7 @@ $(CRATES):
 	@:
 endif
 
-.PHONY: kit demo build test test-edits test-memory test-process test-delivery test-batch test-slurm test-cups oracle examples bench bench-certificates bench-clients install install-cups deb test-cupsd clean lib install-lib test-library web serve test-web
+.PHONY: kit demo build test test-edits test-memory test-process test-delivery test-batch test-slurm test-cups oracle oracle-printers examples bench bench-certificates bench-clients install install-cups deb test-cupsd clean lib install-lib test-library web serve test-web
 
 # Says what the kit is where its command isn't there.
 kit:
@@ -104,6 +104,12 @@ test-cupsd:
 # program that `make build` left.
 oracle:
 	oracle/run.sh
+
+# Has another interpreter of PCL 5 print small jobs and random ones, each before `shrink` and after it: RENDER is how it is called
+# (oracle/README.md). It takes some minutes. Needs Python 3, and the program that `make build` left.
+oracle-printers:
+	oracle/printers.py $(PROGRAM) '$(RENDER)' --workers 2
+	oracle/manual_jobs.py $(PROGRAM) '$(RENDER)' 2000 1 --least --workers 2
 
 # Makes the jobs of examples/ and the picture of the README anew. Needs Python 3, and pbmtolj of netpbm.
 examples:

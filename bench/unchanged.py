@@ -7,7 +7,7 @@ The jobs are those of clients.py, which are made in FOLDER unless they are there
 `shrink --report` at DPI (auto). The first table has a row for each reason, as `--report` says it, with the number of jobs and their
 clients; the second has a row for each client: its jobs, those that are refused, that come out as they came, and the bytes of all that are
 accepted, before and after. `--jobs` has a line for each job. With RENDER, as of oracle/sheets.py, what comes out has to print the same,
-also by a printer whose panel says another paper; the status is 1 if one doesn't.
+also by printers whose panels say another paper, landscape, or other lines or columns; the status is 1 if one doesn't.
 """
 
 import argparse
@@ -24,10 +24,11 @@ sys.path.insert(0, os.path.join(os.path.dirname(os.path.realpath(__file__)), "..
 from sheets import printed
 
 REPORT = re.compile(r"pclmin: ([0-9]+) bytes in, ([0-9]+) out, [0-9]+ pages?, (.*)")
-PANELS = [b"", b"\x1b%-12345X@PJL DEFAULT PAPER=A4\r\n", b"\x1b%-12345X@PJL DEFAULT PAPER=LEGAL\r\n"]
+# What a printer's panel says: nothing, and what else jobs may meet.
+PANELS = ["", "PAPER=A4", "PAPER=LEGAL", "ORIENTATION=LANDSCAPE", "FORMLINES=40", "PITCH=16.66"]
 RESOLUTIONS = {"300": ["300"], "600": ["600"], "auto": ["300", "600"]}
 
-Came = collections.namedtuple("Came", "job sent left how same")
+Came = collections.namedtuple("Came", "job sent left how otherwise")
 
 
 def path_of(folder, job):
@@ -46,13 +47,16 @@ def make(folder, job, number):
         os.rename(path + ".new", path)
 
 
-def prints_the_same(asked, job, written):
-    """At which panel and resolution a job prints otherwise than what is written of it, or nothing."""
-    for panel in PANELS:
-        for dpi in RESOLUTIONS[asked.dpi]:
-            if printed(asked.render, panel + job, dpi) != printed(asked.render, panel + written, dpi):
-                return "%s at %s" % (panel[14:-2].decode() or "no panel", dpi)
-    return ""
+def otherwise(asked, job, written):
+    """At which panels and resolutions a job prints otherwise than what is written of it, in words."""
+    found = []
+    for dpi in RESOLUTIONS[asked.dpi]:
+        pages = subprocess.run([asked.program, "pages", "--dpi", dpi], input=job, capture_output=True)
+        for panel in PANELS if pages.returncode == 0 else []:
+            before = b"\x1b%%-12345X@PJL DEFAULT %s\r\n" % panel.encode() if panel else b""
+            if printed(asked.render, before + job, dpi) != printed(asked.render, before + written, dpi):
+                found.append("%s at %s" % (panel or "no panel", dpi))
+    return ", ".join(found)
 
 
 def look(asked, job):
@@ -68,7 +72,7 @@ def look(asked, job):
     if run.returncode != 0 or not found:
         return Came(job, len(content), 0, re.sub(r" at [0-9]+", "", said.replace("pclmin: ", "")), "")
     is_other = asked.render and run.stdout != content
-    return Came(job, len(content), len(run.stdout), found.group(3), prints_the_same(asked, content, run.stdout) if is_other else "")
+    return Came(job, len(content), len(run.stdout), found.group(3), otherwise(asked, content, run.stdout) if is_other else "")
 
 
 def main():
@@ -91,7 +95,7 @@ def main():
         for each in came:
             print("%s | %d | %d | %s" % (clients.name_of(each.job), each.sent, each.left, each.how))
     tell(came)
-    return 1 if any(each.same for each in came) else 0
+    return 1 if any(each.otherwise for each in came) else 0
 
 
 def tell(came):
@@ -116,8 +120,8 @@ def tell(came):
             for each in read),
                      sum(each.left for each in read)])
     for each in came:
-        if each.same:
-            print("OTHERWISE %s: %s" % (clients.name_of(each.job), each.same))
+        if each.otherwise:
+            print("OTHERWISE %s: %s" % (clients.name_of(each.job), each.otherwise))
 
 
 if __name__ == "__main__":

@@ -32,6 +32,8 @@ from sheets import printed
 
 RESOLUTIONS = {"300": ["300"], "600": ["600"], "auto": ["300", "600"]}
 CHANCE_ODD = 0.2
+# Source 0 leaves the source as it is, which the interpreter may tell as a source: then sources aren't compared.
+SOURCE_0, SOURCE = re.compile(rb"\x1b&l[^\x1b@-Z]*[a-z+-]?0*[hH]"), re.compile(r" source=[0-9]+")
 
 
 def said(text, *values):
@@ -538,8 +540,9 @@ def difference(asked, before, job, after):
                                          if len(came.sheets) != len(comes.sheets) else
                                          "sheet %d" % next(n for n, pair in enumerate(zip(came.sheets, comes.sheets), 1)
                                                            if pair[0] != pair[1]), at), True, False
-            if came.asked != comes.asked:
-                number, pair = next(each for each in enumerate(zip(came.asked, comes.asked), 1) if each[1][0] != each[1][1])
+            asks = [[line if not SOURCE_0.search(job) else SOURCE.sub("", line) for line in each.asked] for each in (came, comes)]
+            if asks[0] != asks[1]:
+                number, pair = next(each for each in enumerate(zip(*asks), 1) if each[1][0] != each[1][1])
                 return "%s: page %d asks %s, then %s" % (dpi, number, *pair), True, False
     return None, changed, refused
 

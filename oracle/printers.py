@@ -59,8 +59,13 @@ add("text after )s3B, which is of the other font", "print", SOFT + "ESC)s3B ESC*
 add("text after )s3B and SO", "pass", SOFT + "ESC)1X ESC)s3B [0E] ESC*p300x300Y {AAAA} " + LONG)
 add("characteristics before the font", "print", "ESC(0N ESC(s0p10h12v0s0b3T " + SOFT + "ESC*p300x300Y {AAAA} " + LONG)
 add("characteristics, and the font again", "print", SOFT + "ESC(s3B ESC(1X ESC*p300x300Y {AAAA} " + LONG)
+for said in ("(s1P", "(s16.66H", "(s0p16.66h8.5v0s0b0T", "(s20V", "(s0p10h12v0s0b3T", "(0N", "(8U"):
+    add("a column after %s, without a font of the job" % said, "print", "ESC%s ESC&a9C ESC*p300Y " % said + BOX + LONG)
+    add("spaces after %s, without a font of the job" % said, "print", "ESC%s ESC*p0x300Y 9*[20] " % said + BOX + LONG)
+    add("a place after %s, without a font of the job" % said, "print", "ESC%s ESC*p300x300Y " % said + BOX + LONG)
 add("characteristics in a job without text", "print", "ESC(0N ESC(s0p10h12v0s0b3T ESC*p300x300Y " + BOX + LONG)
 add("a space after characteristics", "pass", SOFT + "ESC(s3B ESC*p300x300Y {    } " + BOX + LONG)
+add("columns after a symbol set", "pass", SOFT + "ESC(0D ESC&a9C ESC*p300Y " + BOX + LONG)
 add("columns after characteristics", "pass", SOFT + "ESC(s3B ESC&a9C ESC*p300Y " + BOX + LONG)
 
 add = row("a right margin, and an end-of-line wrap")
@@ -72,6 +77,15 @@ add("a cursor right of &a10M, which is set then", "print", "ESC*p900x300Y ESC&a1
 add("spaces past &a10M, and a rectangle", "print", "ESC&a10M ESC*p0x300Y 20*[20] " + BOX + LONG)
 add("a tab past &a10M, and a rectangle", "print", "ESC&a10M ESC*p0x300Y 3*[09] " + BOX + LONG)
 add("&a0M, and a cursor right of it", "print", "ESC&a0M ESC*p900x300Y " + BOX + LONG)
+add("a line past &a0M", "print", SOFT + "ESC&a0M ESC*p0x300Y {AA} " + LONG)
+add("&a10M said after a line", "print", SOFT + "ESC*p0x300Y 40*[41] ESC&a10M ESC*p0x400Y {AA} " + LONG)
+add("&a10M, and a line past it after 9", "print", SOFT + "ESC&a10M ESC9 ESC*p0x300Y 40*[41] " + LONG)
+add("&a10M, and a line past it after a reset", "print", "ESC&a10M ESCE " + SOFT + "ESC*p0x300Y 40*[41] " + LONG)
+add("&a10M, and a line past it after a size", "print", SOFT + "ESC&a10M ESC&l2A ESC*p0x300Y 40*[41] " + LONG)
+add("&a10M, and a character over it", "print", SOFT + "ESC&a10M ESC*p295x300Y A ESC*p900x300Y A " + LONG)
+add("&a10M, and a raster over it", "print", "ESC&a10M ESC*p0x300Y ESC*t300R ESC*r1A ESC*b60W[60*F0] ESC*rC " + LONG)
+add("&a80M, and a line past it", "print", SOFT + "ESC&a80M ESC*p2300x300Y {AAAA} " + LONG)
+add("&a79M, as drivers send it, and a line", "print", SOFT + "ESC&a0l79M ESC*p300x300Y {AAAA} " + LONG)
 add("text past the right edge with wrap", "print", SOFT + "ESC&s0C ESC*p2300x300Y 12*[41] " + LONG)
 add("spaces past the right edge with wrap", "print", SOFT + "ESC&s0C ESC*p2300x300Y 12*[20] " + BOX + LONG)
 add("spaces without a font past the right edge with wrap", "print", "ESC&s0C ESC*p2300x300Y 12*[20] " + BOX + LONG)
@@ -119,7 +133,9 @@ add("a reset after the size, and line feeds", "print", "ESC&l2A ESC*p300x300Y " 
 add = row("the default font by @PJL")
 for said in ("PITCH=16.66", "PITCH=20", "FONTNUMBER=4", "PTSIZE=20", "LPARM:PCL PITCH=16.66", "SYMSET=PC8"):
     for what, moves in (("spaces", "9*[20]"), ("a tab", "[09]"), ("a column", "ESC&a9C ESC*p300Y"), ("a left margin", "ESC&a9L ESC*p300Y")):
-        add("%s, and %s" % (said, what), "print", SET % said + "ESC*p0x300Y " + moves + " " + BOX + LONG)
+        add("%s, and %s" % (said, what), "pass" if said == "PTSIZE=20" else "print", SET % said + "ESC*p0x300Y " + moves + " " + BOX + LONG)
+add("default PITCH=12 in the job, and spaces", "print", PANEL % "LPARM:PCL PITCH=12" + "ESCE ESC*p0x300Y 9*[20] " + BOX + LONG)
+add("FORMLINES=40, and line feeds", "print", SET % "FORMLINES=40" + "ESC*p300x300Y 9*[0A] " + BOX + LONG)
 add("PITCH=16.66, and no column", "print", SET % "PITCH=16.66" + "ESC*p300x300Y " + BOX + LONG)
 add = row("sizes in duplex")
 FRONT, BACK = "ESC*p300x300Y " + BOX + LONG, "ESC*p500x500Y " + BOX + LONG
