@@ -1,13 +1,14 @@
 #!/usr/bin/env python3
 """Tells by reason which jobs of real clients `shrink` lets go as they came, and how many bytes the others take.
 
-    bench/unchanged.py PROGRAM FOLDER [--dpi DPI] [--render RENDER] [--jobs]
+    bench/unchanged.py PROGRAM FOLDER [--dpi DPI] [--render RENDER] [--jobs] [--said]
 
 The jobs are those of clients.py, which are made in FOLDER unless they are there, so that two programs can be compared. Each goes through
 `shrink --report` at DPI (auto). The first table has a row for each reason, as `--report` says it, with the number of jobs and their
 clients; the second has a row for each client: its jobs, those that are refused, that come out as they came, and the bytes of all that are
-accepted, before and after. `--jobs` has a line for each job. With RENDER, as of oracle/sheets.py, what comes out has to print the same,
-also by printers whose panels say another paper, landscape, or other lines or columns; the status is 1 if one doesn't.
+accepted, before and after. `--jobs` has a line for each job, and `--said` tables of what the jobs say in commands that place no ink, and in
+lines of `@PJL`, with their clients. With RENDER, as of oracle/sheets.py, what comes out has to print the same, also by printers whose
+panels say another paper, landscape, or other lines or columns; the status is 1 if one doesn't.
 """
 
 import argparse
@@ -21,11 +22,14 @@ import sys
 sys.dont_write_bytecode = True
 import clients
 sys.path.insert(0, os.path.join(os.path.dirname(os.path.realpath(__file__)), "..", "oracle"))
+import reference
 from sheets import printed
 
 REPORT = re.compile(r"pclmin: ([0-9]+) bytes in, ([0-9]+) out, [0-9]+ pages?, (.*)")
 # What a printer's panel says: nothing, and what else jobs may meet.
 PANELS = ["", "PAPER=A4", "PAPER=LEGAL", "ORIENTATION=LANDSCAPE", "FORMLINES=40", "PITCH=16.66"]
+# Commands that place ink, move the cursor or send data: what they say isn't told.
+WORK = re.compile(rb"\*[pbct].*|\*r[ABCST]|&a[HVCR]|&f.|&p.|[()]s?[WX]|&l[E]|[E=9]|%X|[\0-\x1f]")
 RESOLUTIONS = {"300": ["300"], "600": ["600"], "auto": ["300", "600"]}
 
 Came = collections.namedtuple("Came", "job sent left how otherwise")
@@ -82,6 +86,7 @@ def main():
     words.add_argument("--dpi", choices=sorted(RESOLUTIONS), default="auto")
     words.add_argument("--render")
     words.add_argument("--jobs", action="store_true")
+    words.add_argument("--said", action="store_true")
     words.add_argument("--workers", type=int, default=1)
     asked = words.parse_args()
     jobs = clients.all_jobs()
@@ -95,7 +100,37 @@ def main():
         for each in came:
             print("%s | %d | %d | %s" % (clients.name_of(each.job), each.sent, each.left, each.how))
     tell(came)
+    if asked.said:
+        tell_said(asked.folder, jobs)
     return 1 if any(each.otherwise for each in came) else 0
+
+
+def tell_said(folder, jobs):
+    """What the jobs say beside ink: a table of commands with their values, and one of lines of @PJL; and how many don't say something."""
+    commands, lines, silent = (collections.defaultdict(collections.Counter) for _ in range(3))
+    for job in jobs:
+        try:
+            with open(path_of(folder, job), "rb") as source:
+                read = reference.read(source.read(), reference.Profile.DRIVERS)
+        except (OSError, reference.Refused):
+            continue
+        said = {(each.name.decode("latin-1"), each.value.sign.replace("+", "") + "%g" % (each.value.parts / 10000)) for each in read
+                if each.name != reference.TEXT and not WORK.fullmatch(each.name)}
+        for each in said:
+            commands[each][job.client] += 1
+        for line in {line.strip() for each in read if each.name == b"%X" for line in each.data.decode("latin-1").split("\n")} - {""}:
+            lines[(line, "")][job.client] += 1
+        names = {each.name for each in read}
+        for name, is_said in (("no size", b"&lA" in names), ("no orientation", b"&lO" in names),
+                              ("no reset or exit at the end", {b"E", b"%X"} & {each.name for each in read[-3:]})):
+            if not is_said:
+                silent[(name, "")][job.client] += 1
+    for title, table in (("Not said", silent), ("Command", commands), ("Line", lines)):
+        print()
+        clients.row([title, "Value", "Jobs", "Clients"])
+        clients.row(["---", "---", "---:", "---"])
+        for (name, value), by in sorted(table.items()):
+            clients.row([name, value, sum(by.values()), ", ".join("%s %d" % item for item in sorted(by.items()))])
 
 
 def tell(came):

@@ -1,7 +1,8 @@
 #!/usr/bin/env python3
 """Random jobs of the PCL 5 manual's commands through `pclmin shrink`, which another interpreter of PCL 5 then prints before and after.
 
-    python3 oracle/manual_jobs.py PCLMIN RENDER COUNT SEED [--changed N] [--workers N] [--least] [--alone] [--folder FOLDER] [--only NUMBER]
+    python3 oracle/manual_jobs.py PCLMIN RENDER COUNT SEED [--changed N] [--workers N] [--least] [--alone] [--odd CHANCE]
+                                  [--folder FOLDER] [--only NUMBER]
 
 The jobs are made of what the PCL 5 manual has, not of docs/LANGUAGE.md: each of its commands with ordinary values and odd ones, `@PJL`
 lines of real printers, several jobs in one stream, sides, macros, soft fonts, rasters by methods 0 to 3. Most of a job is what drivers
@@ -12,8 +13,8 @@ Job NUMBER of a SEED goes through `shrink` at 300, 600 and auto. What comes out 
 resolution that counts and by which PCLMIN accepts the job: the same sheets, and for each page the same size, copies, sides and source. One
 that doesn't is kept in FOLDER (build/manual) as SEED-NUMBER.pcl, with what stood before and after it, and told in a line; with `--least`
 what it doesn't need is taken away first, and the lines then have the job in the notation of the tables. At the end they are counted by the
-commands that are left in them. With `--changed` no more jobs are made after so many that came out otherwise. `--only` tries one number. The
-status is 1 if a job differs.
+commands that are left in them. `--odd` says how often something odd stands beside or in a part of a job (0.2). With `--changed` no more
+jobs are made after so many that came out otherwise. `--only` tries one number. The status is 1 if a job differs.
 """
 
 import argparse
@@ -31,6 +32,7 @@ from random_jobs import ESC, compressed_character, with_data
 from sheets import printed
 
 RESOLUTIONS = {"300": ["300"], "600": ["600"], "auto": ["300", "600"]}
+# How often something odd stands beside or in a part of a job that may have it.
 CHANCE_ODD = 0.2
 # Source 0 leaves the source as it is, which the interpreter may tell as a source: then sources aren't compared.
 SOURCE_0, SOURCE = re.compile(rb"\x1b&l[^\x1b@-Z]*[a-z+-]?0*[hH]"), re.compile(r" source=[0-9]+")
@@ -458,10 +460,10 @@ def lines_of(draw, odd):
     return b"\x1b%-12345X" + b"".join(b"@PJL" + (b" " if line else b"") + line.encode() + end for line in chosen) + enter
 
 
-def one_job(draw, odd):
-    """The chunks of a job with an end of its own, and whether something odd stands in it."""
+def one_job(draw, odd, odd_chance):
+    """The chunks of a job with an end of its own, with something odd as often as said, if at all."""
     chunks = []
-    odd_chance = CHANCE_ODD if odd else 0
+    odd_chance = odd_chance if odd else 0
     if draw.random() < 0.4:
         chunks.append(lines_of(draw, draw.random() < 0.4 * odd))
     if draw.random() < 0.8:
@@ -493,13 +495,13 @@ def one_job(draw, odd):
 Made = collections.namedtuple("Made", "before chunks after")
 
 
-def made(seed, number):
+def made(seed, number, odd_chance=CHANCE_ODD):
     """A job as chunks, and what stands before and after it in the stream to the printer."""
     draw = random.Random("%d %d manual" % (seed, number))
     odd = draw.random() < 0.85
-    chunks = one_job(draw, odd)
+    chunks = one_job(draw, odd, odd_chance)
     if draw.random() < 0.12:
-        chunks += one_job(draw, odd)
+        chunks += one_job(draw, odd, odd_chance)
     if draw.random() < 0.03:
         chunks = lines_of_empty_job(draw) + chunks
     before = b"\x1b%%-12345X@PJL DEFAULT %s\r\n" % draw.choice(PANELS).encode() if draw.random() < 0.15 else b""
@@ -670,7 +672,7 @@ def begin(words_of_line):
 
 def look(number):
     """How a job comes out, and a line for one that differs, with its commands."""
-    job = made(asking.words.seed, number)
+    job = made(asking.words.seed, number, asking.words.odd)
     if asking.words.alone:
         job = job._replace(before=b"", after=b"")
     whole = b"".join(job.chunks)
@@ -705,6 +707,7 @@ def main():
     parser.add_argument("--workers", type=int, default=1)
     parser.add_argument("--least", action="store_true")
     parser.add_argument("--alone", action="store_true")
+    parser.add_argument("--odd", type=float, default=CHANCE_ODD)
     parser.add_argument("--folder", default="build/manual")
     parser.add_argument("--only", type=int, action="append")
     asked = parser.parse_args()
