@@ -296,6 +296,17 @@ for said in ("&l180Z", "&l36Z", "&l-180Z", "&l12u24Z"):
 add("&l180Z, and a rectangle at the first line", "print", "ESC&l180Z ESC*p300X " + BOX + LONG)
 add("&l1.2Z, and a rectangle", "print", "ESC&l1.2Z ESC*p301x301Y " + BOX + LONG)
 
+add = row("values that printers may not know")
+TWO = "ESC*p300x300Y " + BOX + "20*[0A] " + BOX + "ESC&a9c9R " + BOX + FRONT + "[0C] " + BACK + "ESCE"
+for known, unknown in (("&l1S", ("&l3S", "&l-1S", "&l1.9S", "&l255S")), ("&l2S", ("&l3S", "&l-2S")), ("&l1H", ("&l20H", "&l9H", "&l-4H")),
+                       ("&l2X", ("&l3.7X",)), ("&l26A", ("&l2.9A",)), ("&l66P", ("&l0P", "&l300P", "&l-60P")), ("&l36Z", ("&l-0Z",)),
+                       ("&l2G", ("&l9G", "&l-1G")), ("&l1M", ("&l9M", "&l-1M")), ("&l6E", ("&l3.9E",)), ("&l60F", ("&l9.9F",)),
+                       ("&a9L", ("&a3.9L",)), ("&k0G", ("&k2.9G",))):
+    for said in unknown:
+        add("%s after %s" % (said, known), "print", "ESC%s ESC%s " % (known, said) + TWO)
+for said in ("&l3S", "&l-1S", "&l255H", "&l9G", "&l0P"):
+    add("%s alone" % said, "print", "ESC%s " % said + TWO)
+
 # Jobs that print otherwise somewhere, of which `same --asked` has to say so.
 PAIRS = [
     ("a setting after the last page", FRONT + "[0C] ESC&l1S", FRONT + "[0C]"),
