@@ -1,6 +1,6 @@
 //! A folder in memory, with the files of a run by their names.
 
-use pcl_files::{FileFault, FileKind, JobFiles};
+use pcl_files::{FileFault, FileKind, FileState, JobFiles};
 use std::alloc::{AllocError, Global};
 use std::io::{self, Cursor, ErrorKind, Write};
 
@@ -110,6 +110,11 @@ impl JobFiles for Folder {
         self.bytes_of(name).map(|_| FileKind::File)
     }
 
+    /// Nobody else changes what is in memory.
+    fn state_of(&self, _name: &str) -> Option<FileState> {
+        None
+    }
+
     fn make_folder(&mut self, name: &str) -> Result<(), FileFault> {
         match plain(name).split('/').next() {
             Some("out" | ".") => Ok(()),
@@ -125,6 +130,10 @@ impl JobFiles for Folder {
     }
 
     fn begin_aside(&mut self, name: &str) -> Result<Held, FileFault> {
+        self.begin(name)
+    }
+
+    fn begin_over(&mut self, name: &str, _seen: Option<FileState>) -> Result<Held, FileFault> {
         self.begin(name)
     }
 
@@ -144,6 +153,20 @@ impl JobFiles for Folder {
     ) -> Result<(), FileFault> {
         self.place(name, file)?;
         self.place(other, other_file)
+    }
+
+    fn place_three(
+        &mut self,
+        name: &str,
+        file: Held,
+        other: &str,
+        other_file: Held,
+        third: &str,
+        third_file: Held,
+    ) -> Result<(), FileFault> {
+        self.place(name, file)?;
+        self.place(other, other_file)?;
+        self.place(third, third_file)
     }
 
     fn discard(&mut self, _name: &str, _file: Held) {}

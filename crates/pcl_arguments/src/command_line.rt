@@ -31,6 +31,8 @@ enum Argument {
     Folder,
     /// That a batch has none, and writes each job in its place.
     InPlace,
+    /// That files are written into.
+    KeepInode,
     /// The format of a certificate.
     Format,
     /// Which pages are shown.
@@ -57,6 +59,9 @@ const ABOUT: &str = "A print filter for HP PCL 5: reads a job, and writes or sho
 /// What it says last.
 const STATUSES: &str =
     "Statuses: 0 done; 1 refused, no such page, not proved or not the same; 2 usage; 3 files or memory.";
+
+/// The option by which files that are there are written into.
+pub(crate) const KEEP_INODE: &str = "keep-inode";
 
 /// The option by which a batch writes least raster jobs.
 const MIN: &str = "min";
@@ -101,6 +106,7 @@ const SUBCOMMANDS: [Subcommand; 9] = [
         takes: &[
             Argument::Job,
             Argument::Output,
+            Argument::KeepInode,
             Argument::Pages,
             Argument::Flag(DRIVERS, READ_AS_SENT),
             Argument::Quiet,
@@ -113,6 +119,7 @@ const SUBCOMMANDS: [Subcommand; 9] = [
         takes: &[
             Argument::Job,
             Argument::Output,
+            Argument::KeepInode,
             Argument::Scale,
             Argument::Pages,
             Argument::Flag(DRIVERS, READ_AS_SENT),
@@ -126,6 +133,7 @@ const SUBCOMMANDS: [Subcommand; 9] = [
         takes: &[
             Argument::Job,
             Argument::Output,
+            Argument::KeepInode,
             Argument::Report,
             Argument::ReportJson,
             Argument::Flag(PROFILE_ONLY, READ_OTHERWISE),
@@ -141,6 +149,7 @@ const SUBCOMMANDS: [Subcommand; 9] = [
         takes: &[
             Argument::Job,
             Argument::Output,
+            Argument::KeepInode,
             Argument::Option(
                 "cert",
                 "FILE",
@@ -157,6 +166,7 @@ const SUBCOMMANDS: [Subcommand; 9] = [
         takes: &[
             Argument::Job,
             Argument::Output,
+            Argument::KeepInode,
             Argument::Json,
             Argument::Flag("tsv", "Write lines of columns, parted by tabs: the default"),
             Argument::Flag(STATED, READ_AS_STATED),
@@ -170,6 +180,7 @@ const SUBCOMMANDS: [Subcommand; 9] = [
         takes: &[
             Argument::Job,
             Argument::Output,
+            Argument::KeepInode,
             Argument::Flag("json", "Write one object of JSON"),
             Argument::Flag(STATED, READ_AS_STATED),
             Argument::Quiet,
@@ -186,6 +197,7 @@ const SUBCOMMANDS: [Subcommand; 9] = [
                 "Keep the jobs' folders below DIR, so that two jobs may have one name",
             ),
             Argument::InPlace,
+            Argument::KeepInode,
             Argument::Flag(
                 MIN,
                 "Write least raster jobs as min does, each with a certificate beside it",
@@ -225,8 +237,8 @@ const SUBCOMMANDS: [Subcommand; 9] = [
         name: "same",
         about: "Tells whether two jobs print the same pages, and where not",
         takes: &[
-            Argument::File("A", "The one job"),
-            Argument::File("B", "The other job"),
+            Argument::File("A", "The one job; - for standard input"),
+            Argument::File("B", "The other job; - for standard input"),
             Argument::Flag(
                 "asked",
                 "Compare what they ask for too: copies, paper, sides, resets, @PJL lines",
@@ -310,6 +322,7 @@ fn arg<'a>(alloc: Global, argument: Argument) -> Result<Arg<'a>, AllocError> {
         Argument::Output => Ok(output(alloc)),
         Argument::Folder => folder(alloc),
         Argument::InPlace => in_place(alloc),
+        Argument::KeepInode => Ok(keep_inode(alloc)),
         Argument::Format => format(alloc),
         Argument::Pages => Ok(pages(alloc)),
         Argument::Scale => Ok(scale(alloc)),
@@ -402,6 +415,15 @@ fn in_place<'a>(alloc: Global) -> Result<Arg<'a>, AllocError> {
     .conflicts_with("output")?
     .conflicts_with("keep-folders")?
     .conflicts_with(MIN)
+}
+
+/// That files are written into which are there.
+fn keep_inode<'a>(alloc: Global) -> Arg<'a> {
+    flag(
+        alloc,
+        KEEP_INODE,
+        "Write into a file that is there: it keeps its ACL, but a kill may cut it",
+    )
 }
 
 /// The format of a certificate.

@@ -1,6 +1,6 @@
 //! What the words of a command line ask for.
 
-use crate::command_line::{VERSION, pclmin, subcommand_named};
+use crate::command_line::{KEEP_INODE, VERSION, pclmin, subcommand_named};
 use clap::error::ErrorKind;
 use clap::{ArgMatches, Error};
 use pcl_base::{Dpi, PAGE_LIMIT, Profile};
@@ -14,6 +14,9 @@ use pcl_request::{
 };
 use std::alloc::{AllocError, Global};
 use std::convert::AsStr;
+
+/// The system's name of standard input.
+const STANDARD_INPUT: &str = "/dev/stdin";
 
 /// A batch, and the files of its jobs: where there are none, standard input names them.
 #[derive(Drop)]
@@ -84,6 +87,7 @@ fn batch_with<'w>(batch: &ArgMatches<'w>) -> Result<Batch<'w>, WrongWord<'w>> {
         resolution,
         layout: layout_of(batch),
         quiet: batch.get_flag("quiet"),
+        keeps_inode: batch.get_flag(KEEP_INODE),
     })
 }
 
@@ -122,6 +126,8 @@ enum WrongWord<'w> {
     Pages(&'w str),
     /// A folder without a name.
     NoFolder,
+    /// Standard input for both jobs that are compared.
+    BothFromInput,
     /// One that has to be there isn't.
     Missing,
 }
@@ -147,6 +153,9 @@ impl WrongWord<'_> {
                 "--page takes pages from 1 to 256 in their order, as 2, 2-5 or 1,3,7-9, and not '{word}'"
             ),
             WrongWord::NoFolder => String::from_str(alloc, "the folder of -o has a name"),
+            WrongWord::BothFromInput => {
+                String::from_str(alloc, "standard input has one job: - stands for A or for B")
+            }
             WrongWord::Missing => String::from_str(alloc, "a word is missing"),
         }
     }
@@ -189,6 +198,7 @@ fn run_of<'w>(name: &str, command: &ArgMatches<'w>) -> Result<Run<'w>, WrongWord
         target: target_of(command),
         resolution: seen_at(work, resolution),
         quiet: command.get_flag("quiet"),
+        keeps_inode: command.get_flag(KEEP_INODE),
     })
 }
 
@@ -279,15 +289,27 @@ fn checked_files<'w>(check: &ArgMatches<'w>) -> Result<CheckedFiles<'w>, WrongWo
 
 /// What the words of `same` ask for.
 fn compared_files<'w>(same: &ArgMatches<'w>) -> Result<ComparedFiles<'w>, WrongWord<'w>> {
+    let (first, second) = (file_of(same, "A")?, file_of(same, "B")?);
+    if first == "-" && second == "-" {
+        return Err(WrongWord::BothFromInput);
+    }
     Ok(ComparedFiles {
-        first: file_of(same, "A")?,
-        second: file_of(same, "B")?,
+        first: read_from(first),
+        second: read_from(second),
         asks: same.get_flag("asked"),
         image: same.get_str("image"),
         profile: profile_of(same),
         layout: layout_of(same),
         resolution: resolution_of(same)?,
     })
+}
+
+/// The name of a file that is read, or the system's name of standard input where `-` stands for that.
+fn read_from(word: &str) -> &str {
+    match word {
+        "-" => STANDARD_INPUT,
+        file => file,
+    }
 }
 
 /// A file that has to be named.

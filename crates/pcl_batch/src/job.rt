@@ -10,9 +10,9 @@ use crate::paths::{Paths, file_name};
 use crate::reasons::{Obstacle, Reason};
 use crate::report::{Outcome, ReportEntry};
 use crate::rewriter::Rewriter;
-use crate::sums::{FileSum, Sums, WrittenSums};
-use pcl_base::{Dpi, JobFault};
-use pcl_files::{FileKind, JobFiles, read_file};
+use crate::sums::{FileSum, SUMS_LIMIT, Sums, WrittenSums};
+use pcl_base::{Dpi, INPUT_LIMIT, JobFault};
+use pcl_files::{FileKind, FileState, JobFiles, read_file, read_plain};
 use pcl_page::page_count;
 use pcl_printers::Readers;
 use pcl_request::{Batch, Destination, Profiles, Rewriting, resolve};
@@ -32,18 +32,16 @@ impl<F: JobFiles, R: Rewriter> RunningBatch<'_, '_, F, R> {
         if let Some(obstacle) = self.obstacle_of(file, paths) {
             return Ok(unseen(file, Reason::of(self.alloc, obstacle)?));
         }
+        let seen = self.files.state_of(file);
         match read_file(self.files, self.alloc, file) {
-            Ok(bytes) => self.write_bytes(file, paths, &bytes),
+            Ok(bytes) => self.write_bytes(file, paths, &bytes, seen),
             Err(fault) => Ok(unseen(file, Reason::of_fault(self.alloc, &fault)?)),
         }
     }
 
     /// Why the job of a file isn't read: it is none, or what is written would take its place.
     fn obstacle_of(&self, file: &str, paths: &Paths) -> Option<Obstacle> {
-        if matches!(
-            self.files.kind_of(file),
-            Some(FileKind::Folder | FileKind::Special)
-        ) {
+        if self.has_no_file(file) {
             return Some(Obstacle::NoFile);
         }
         let is_written = [&paths.job, &paths.certificate, &paths.sums]
@@ -55,12 +53,13 @@ impl<F: JobFiles, R: Rewriter> RunningBatch<'_, '_, F, R> {
         }
     }
 
-    /// Writes a job of these bytes again, unless an earlier batch did.
+    /// Writes a job of these bytes again, whose file was so before they were read, unless an earlier batch did.
     fn write_bytes<'w>(
         &mut self,
         file: &'w str,
         paths: &Paths,
         bytes: &[u8],
+        seen: Option<FileState>,
     ) -> Result<ReportEntry<'w>, AllocError>
         ensures { IfOk result IsHonest }
     {
@@ -72,6 +71,7 @@ impl<F: JobFiles, R: Rewriter> RunningBatch<'_, '_, F, R> {
         let job = Job {
             paths,
             bytes,
+            seen,
             dpi,
             how: how.as_str(),
             input: input.sha256.as_str(),
@@ -116,13 +116,27 @@ impl<F: JobFiles, R: Rewriter> RunningBatch<'_, '_, F, R> {
 
     /// What lies in the place of a job, by its digests and by what is there.
     pub(crate) fn find(&self, job: Job<'_>) -> Result<Found, AllocError> {
+        if self.has_no_file(job.paths.job.as_str()) {
+            return Ok(Found::Obstacle(Obstacle::Foreign));
+        }
+        if self.has_no_file(job.paths.certificate.as_str()) {
+            return Ok(Found::Obstacle(Obstacle::ForeignCertificate));
+        }
         if self.files.kind_of(job.paths.sums.as_str()).is_none() {
             return Ok(self.found_alone(job));
         }
-        match read_file(self.files, self.alloc, job.paths.sums.as_str()) {
+        match read_plain(self.files, self.alloc, job.paths.sums.as_str(), SUMS_LIMIT) {
             Ok(bytes) => self.found_beside(job, &bytes),
             Err(_) => Ok(Found::Obstacle(Obstacle::ForeignSums)),
         }
+    }
+
+    /// Whether a name leads to something that is no file: a pipe may give nothing for ever, and takes nothing.
+    fn has_no_file(&self, name: &str) -> bool {
+        matches!(
+            self.files.kind_of(name),
+            Some(FileKind::Folder | FileKind::Special)
+        )
     }
 
     /// What lies there where no digests do.
@@ -138,9 +152,9 @@ impl<F: JobFiles, R: Rewriter> RunningBatch<'_, '_, F, R> {
 
     /// What lies there beside the bytes of a file of digests.
     fn found_beside(&self, job: Job<'_>, bytes: &[u8]) -> Result<Found, AllocError> {
-        match Sums::parse(bytes) {
+        match Sums::parse(self.alloc, bytes, job.name())? {
             Some(sums) if !self.are_of(sums, job) => Ok(Found::Obstacle(Obstacle::ForeignSums)),
-            Some(sums) if self.has_foreign_certificate(job, sums.has_certificate) => {
+            Some(sums) if self.has_foreign_certificate(job, sums.has_certificate()) => {
                 Ok(Found::Obstacle(Obstacle::ForeignCertificate))
             }
             Some(sums) => self.found_earlier(job, sums, bytes),
@@ -154,7 +168,7 @@ impl<F: JobFiles, R: Rewriter> RunningBatch<'_, '_, F, R> {
     }
 
     /// Whether each job is written over its own file.
-    fn replaces_jobs(&self) -> bool {
+    pub(crate) fn replaces_jobs(&self) -> bool {
         matches!(self.asked.place, Destination::Itself)
     }
 
@@ -193,9 +207,9 @@ impl<F: JobFiles, R: Rewriter> RunningBatch<'_, '_, F, R> {
         }
     }
 
-    /// The digest of a file; none where it can't be read.
+    /// The digest of a plain file; none where it can't be read.
     fn sum_of(&self, name: &str) -> Result<Option<FileSum>, AllocError> {
-        match read_file(self.files, self.alloc, name) {
+        match read_plain(self.files, self.alloc, name, INPUT_LIMIT) {
             Ok(bytes) => Ok(Some(FileSum::of(self.alloc, &bytes)?)),
             Err(_) => Ok(None),
         }
@@ -207,6 +221,8 @@ impl<F: JobFiles, R: Rewriter> RunningBatch<'_, '_, F, R> {
 pub(crate) struct Job<'w> {
     pub(crate) paths: &'w Paths,
     pub(crate) bytes: &'w [u8],
+    /// The state of its file before it was read.
+    pub(crate) seen: Option<FileState>,
     pub(crate) dpi: Dpi,
     /// The version, the command and the resolution, as digests name them.
     pub(crate) how: &'w str,

@@ -7,7 +7,6 @@ ghost use Rattle.pcl_batch.specs.inner.Reports.{AreAllDone};
 use crate::batch::RunningBatch;
 use crate::report::Totals;
 use crate::rewriter::Rewriter;
-use bstr::ByteSlice;
 use indexmap::IndexSet;
 use pcl_base::INPUT_LIMIT;
 use pcl_files::{JobFiles, Outlet, Surroundings};
@@ -85,10 +84,10 @@ fn given<'w>(alloc: Global, paths: &[&'w str]) -> Result<Vec<Name<'w>>, AllocErr
     Ok(names)
 }
 
-/// The names on the lines of a list that aren't empty.
+/// The names on the lines of a list that aren't empty. A line ends in a line feed, and all that stands before that is the name.
 fn listed<'w>(alloc: Global, list: &'w [u8]) -> Result<Vec<Name<'w>>, AllocError> {
     let mut names = Vec::new(alloc);
-    for (place, line) in list.lines().enumerate() {
+    for (place, line) in list.split(|byte| *byte == b'\n').enumerate() {
         if !line.is_empty() {
             names.push(match std::str::from_utf8(line) {
                 Ok(path) => Name::Path(path),

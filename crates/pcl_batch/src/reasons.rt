@@ -5,6 +5,7 @@ ghost use Rattle.pcl_messages.specs.Faults.{status_for};
 ghost use Rattle.pcl_batch.specs.Failing.{HasFailingStatus};
 ghost use Rattle.pcl_batch.specs.inner.Jobs.{IsFailing};
 
+use pcl_files::FileFault;
 use pcl_messages::{
     Failure, TROUBLE_STATUS, UNREAD, USAGE_STATUS, fault_line, fault_status, text_in,
 };
@@ -103,6 +104,13 @@ impl Reason {
             status: failure.status(),
             said: String::from_str(alloc, text_in(failure.line()))?,
         })
+    }
+
+    /// Of a file that can't be begun or put in its place.
+    pub(crate) fn of_file(alloc: Global, why: FileFault) -> Result<Reason, AllocError>
+        ensures { IfOk result IsFailing }
+    {
+        Reason::of_failure(alloc, &Failure::of_file(alloc, why))
     }
 
     /// With what is left of an earlier batch.

@@ -88,7 +88,8 @@ impl<'w> ReportEntry<'w> {
         }
     }
 
-    /// The columns of a table. In a name a tab, a line feed and a backslash stand as `\t`, `\n` and `\\`.
+    /// The columns of a table. In a name a tab, a line feed, a carriage return and a backslash stand as `\t`, `\n`, `\r`
+    /// and `\\`.
     fn row(&self, alloc: Global) -> Result<String, AllocError> {
         let file = name_column(alloc, self.file)?;
         let file = file.as_str();
@@ -139,7 +140,8 @@ fn name_column(alloc: Global, name: Option<&str>) -> Result<String, AllocError> 
 fn escaped(alloc: Global, name: &str) -> Result<String, AllocError> {
     let name = name.replace(alloc, "\\", "\\\\")?;
     let name = name.as_str().replace(alloc, "\t", "\\t")?;
-    name.as_str().replace(alloc, "\n", "\\n")
+    let name = name.as_str().replace(alloc, "\n", "\\n")?;
+    name.as_str().replace(alloc, "\r", "\\r")
 }
 
 /// What came of all jobs.

@@ -3,7 +3,7 @@ use Rattle.std.specs.Prelude.{ℕ, List, Option}
 use Rattle.pcl_streams.specs.declared.fault.Fault.{Fault}
 use Rattle.pcl_streams.specs.declared.fault.Fault.TheVariants as fault
 use Rattle.pcl_files.specs.declared.files.FileFault.{FileFault}
-use Rattle.pcl_files.specs.declared.files.FileFault.TheVariants.{Memory, Folder, Owner, System}
+use Rattle.pcl_files.specs.declared.files.FileFault.TheVariants.{Memory, Folder, Owner, Changed, Nameless, System}
 
 -- A name is the bytes of its text. Of a file that was opened this says which bytes it gives, and of one that was begun which it
 -- holds, where they are known. One that was begun is beside what its name has, until it is placed there or dropped.
@@ -17,6 +17,8 @@ pub data FileAct : Type 0 where
   Unbegun : (name : List ℕ) → (why : FileFault) → FileAct
   Placed : (name : List ℕ) → (holds : Option (List ℕ)) → FileAct
   BothPlaced : (name : List ℕ) → (holds : Option (List ℕ)) → (other : List ℕ) → (other_holds : Option (List ℕ)) → FileAct
+  ThreePlaced : (name : List ℕ) → (holds : Option (List ℕ)) → (other : List ℕ) → (other_holds : Option (List ℕ))
+      → (third : List ℕ) → (third_holds : Option (List ℕ)) → FileAct
   Unplaced : (name : List ℕ) → (why : FileFault) → FileAct
   Dropped : (name : List ℕ) → FileAct
 
@@ -25,6 +27,8 @@ abbrev pub write_fault_of : FileFault → Fault
 write_fault_of Memory = fault.Memory
 write_fault_of Folder = fault.WriteFault
 write_fault_of Owner = fault.WriteFault
+write_fault_of Changed = fault.WriteFault
+write_fault_of Nameless = fault.WriteFault
 write_fault_of System = fault.WriteFault
 
 -- two names are those of one file, or of two

@@ -1,3 +1,4 @@
 pub mod Files
+pub mod Standing
 pub mod WholeFiles
 pub mod World

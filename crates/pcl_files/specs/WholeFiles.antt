@@ -14,6 +14,12 @@ IsFileRead acts files name read =
     (acts files (Unopened name) files × (read ≡ Err ReadFault))
     ⊎ ((given left : Option (List ℕ)) × acts files (Opened name given) files × IsReadAll given left input_limit read)
 
+-- a file of this name wasn't opened, which is a fault of reading; or it was, and read to its end or up to a fault or to this limit
+abbrev pub IsPlainRead : {F : Type 0} → (F → FileAct → F → Type 0) → F → List ℕ → (limit : ℕ) → Result (Vec ℕ) Fault → Type 0
+IsPlainRead acts files name limit read =
+    (read ≡ Err ReadFault)
+    ⊎ ((given left : Option (List ℕ)) × acts files (Opened name given) files × IsReadAll given left limit read)
+
 -- A file that was begun is placed where the task was done, and dropped where it failed or the file can't be placed.
 abbrev pub IsSettled : {F : Type 0} → (F → FileAct → F → Type 0) → List ℕ → (holds : Option (List ℕ)) → Result (Unit {0}) Fault
     → (files kept : F) → Result (Unit {0}) Fault → Type 0

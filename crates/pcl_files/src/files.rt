@@ -4,6 +4,7 @@ ghost use Rattle.std.specs.Prelude.{◌≡◌};
 ghost use Rattle.pcl_files.specs.Files.{write_fault_of};
 ghost use Rattle.pcl_files.specs.declared.files.FileFault.TheVariants.{Memory};
 
+use crate::standing::FileState;
 use pcl_streams::Fault;
 use std::alloc::AllocError;
 use std::io::{self, ErrorKind, Read, Write};
@@ -17,6 +18,10 @@ pub enum FileFault {
     Folder,
     /// The file is another user's, and the one in its place would not be.
     Owner,
+    /// It isn't what was seen there before: somebody has changed it, or is about to.
+    Changed,
+    /// The name is that of a descriptor, and not the file's own.
+    Nameless,
     /// The system doesn't do it.
     System,
 }
@@ -44,7 +49,11 @@ impl From<FileFault> for Fault {
     fn from(why: FileFault) -> Fault {
         match why {
             FileFault::Memory => Fault::Memory,
-            FileFault::Folder | FileFault::Owner | FileFault::System => Fault::WriteFault,
+            FileFault::Folder
+            | FileFault::Owner
+            | FileFault::Changed
+            | FileFault::Nameless
+            | FileFault::System => Fault::WriteFault,
         }
     }
 }
@@ -64,7 +73,7 @@ pub enum FileKind {
 /// What is written is begun beside what its name has, and put in its place at the end. So a name keeps what it has until all is done.
 pub trait JobFiles {
     ghost use Rattle.std.specs.Prelude.{MatchBool, IfOk, IfErr, OnOk, OnErr};
-    ghost use Rattle.pcl_files.specs.Files.{FileAct, Opened, Unopened, OneFile, TwoFiles, FolderMade, Begun, Unbegun, Placed, BothPlaced, Unplaced, Dropped};
+    ghost use Rattle.pcl_files.specs.Files.{FileAct, Opened, Unopened, OneFile, TwoFiles, FolderMade, Begun, Unbegun, Placed, BothPlaced, ThreePlaced, Unplaced, Dropped};
 
     /// A file that was opened.
     type Reader: Read + Drop;
@@ -89,6 +98,9 @@ pub trait JobFiles {
     /// What a name leads to. None where nothing is there, or the system doesn't say.
     fn kind_of(&self, name: &str) -> Option<FileKind>;
 
+    /// The state of the file that a name leads to. None where nothing is there, or the system doesn't say.
+    fn state_of(&self, name: &str) -> Option<FileState>;
+
     /// Makes the folder of a name, and those above it that are missing. It is no error that it is there.
     fn make_folder(&mut self, name: &str) -> Result<(), FileFault>
         ensures made { OnOk result (acts self.old (FolderMade name.now) self.new) }
@@ -97,6 +109,12 @@ pub trait JobFiles {
     /// Begins a file that is to take the place of what this name has. That stays until then. After an error nothing was
     /// begun.
     fn begin(&mut self, name: &str) -> Result<Self::Writer, FileFault>
+        ensures begun { IfOk result (λ file. acts self.old (Begun name.now (Self.Writer.contents file)) self.new) }
+        ensures unbegun { IfErr result (λ why. acts self.old (Unbegun name.now why) self.new) };
+
+    /// The same where this was seen of what the name has, or that it has nothing: it is an error, here or when it is to take its place,
+    /// where that isn't so any more.
+    fn begin_over(&mut self, name: &str, seen: Option<FileState>) -> Result<Self::Writer, FileFault>
         ensures begun { IfOk result (λ file. acts self.old (Begun name.now (Self.Writer.contents file)) self.new) }
         ensures unbegun { IfErr result (λ why. acts self.old (Unbegun name.now why) self.new) };
 
@@ -122,6 +140,21 @@ pub trait JobFiles {
     ) -> Result<(), FileFault>
         ensures placed { OnOk result (acts self.old
             (BothPlaced name.now (Self.Writer.contents file) other.now (Self.Writer.contents other_file)) self.new) }
+        ensures unplaced { IfErr result (λ why. acts self.old (Unplaced name.now why) self.new) };
+
+    /// The same of three files: they take their places in this order, and what is at the first name says whose the others are.
+    fn place_three(
+        &mut self,
+        name: &str,
+        file: Self::Writer,
+        other: &str,
+        other_file: Self::Writer,
+        third: &str,
+        third_file: Self::Writer,
+    ) -> Result<(), FileFault>
+        ensures placed { OnOk result (acts self.old
+            (ThreePlaced name.now (Self.Writer.contents file) other.now (Self.Writer.contents other_file)
+            third.now (Self.Writer.contents third_file)) self.new) }
         ensures unplaced { IfErr result (λ why. acts self.old (Unplaced name.now why) self.new) };
 
     /// Drops a file that was begun for this name: what the name had stays.

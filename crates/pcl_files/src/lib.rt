@@ -2,9 +2,14 @@
 #![tactic(auto)]
 
 mod files;
+mod standing;
 mod surroundings;
 mod whole_files;
 
 pub use files::{FileFault, FileKind, JobFiles};
+pub use standing::{
+    Descriptor, FileState, begun_beside, descriptor_at, is_as_seen, kept_rights, new_rights,
+    part_ending,
+};
 pub use surroundings::{Outlet, Surroundings};
-pub use whole_files::{read_file, settle, settle_aside, settle_both, write_file};
+pub use whole_files::{read_file, read_plain, settle, settle_aside, settle_both, write_file};

@@ -1,8 +1,8 @@
 //! Files that are read whole, and files that are written whole or not at all.
 
-ghost use Rattle.pcl_files.specs.WholeFiles.{AreSettled, IsFileRead, IsFileWritten, IsSettled, IsSettledAside};
+ghost use Rattle.pcl_files.specs.WholeFiles.{AreSettled, IsFileRead, IsFileWritten, IsPlainRead, IsSettled, IsSettledAside};
 
-use crate::files::JobFiles;
+use crate::files::{FileKind, JobFiles};
 use pcl_base::INPUT_LIMIT;
 use pcl_streams::{Fault, read_all, write_all};
 use std::alloc::Global;
@@ -15,6 +15,25 @@ pub fn read_file<F: JobFiles>(files: &F, alloc: Global, name: &str) -> Result<Ve
         Ok(mut file) => read_all(alloc, &mut file, INPUT_LIMIT),
         Err(_) => Err(Fault::ReadFault),
     }
+}
+
+/// The bytes of a plain file of a name, at most as many: TooLong comes where it has more. ReadFault comes where it can't be opened, and
+/// where it is no plain file, as a pipe that may give nothing or a device that gives no end: such a one isn't opened.
+pub fn read_plain<F: JobFiles>(
+    files: &F,
+    alloc: Global,
+    name: &str,
+    limit: usize,
+) -> Result<Vec<u8>, Fault>
+    ensures { IsPlainRead F.acts files.now name.now limit result }
+{
+    if files.kind_of(name) != Some(FileKind::File) {
+        return Err(Fault::ReadFault);
+    }
+    let Ok(mut file) = files.open(name) else {
+        return Err(Fault::ReadFault);
+    };
+    read_all(alloc, &mut file, limit)
 }
 
 /// Places a file that was begun where the task that wrote it is done, and else drops it.

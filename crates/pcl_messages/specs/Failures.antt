@@ -6,7 +6,7 @@ use Rattle.pcl_messages.specs.ComparisonLines.{compare_line_of, compare_status_f
 use Rattle.pcl_messages.specs.declared.compare_fault.CompareFault.{CompareFault}
 use Rattle.pcl_streams.specs.declared.fault.Fault.TheVariants as run
 use Rattle.pcl_files.specs.declared.files.FileFault.{FileFault}
-use Rattle.pcl_files.specs.declared.files.FileFault.TheVariants.{Memory, Folder, Owner, System}
+use Rattle.pcl_files.specs.declared.files.FileFault.TheVariants.{Memory, Folder, Owner, Changed, Nameless, System}
 use Rattle.pcl_messages.specs.declared.failures.Failure.{Failure}
 use Rattle.pcl_messages.specs.declared.failures.Failure.TheVariants.{Said, NoMemory}
 use Rattle.pcl_request.specs.declared.request.Request.{Request}
@@ -40,6 +40,9 @@ HasFailedFile Folder failure =
     IsUnwritten (codes "pclmin: cannot write: the file's folder takes no new file, which would be put in its place\n") failure
 HasFailedFile Owner failure =
     IsUnwritten (codes "pclmin: cannot write: the file is another user's, and would become this one's\n") failure
+HasFailedFile Changed failure = IsUnwritten (codes "pclmin: cannot write: another program has changed it meanwhile\n") failure
+HasFailedFile Nameless failure =
+    IsUnwritten (codes "pclmin: cannot write: a descriptor leads to this file: give the name of the file itself\n") failure
 HasFailedFile System failure = IsUnwritten (codes "pclmin: cannot write\n") failure
 
 -- what is said where some jobs of a batch failed

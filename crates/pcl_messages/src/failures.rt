@@ -79,6 +79,14 @@ impl Failure {
                 alloc,
                 b"pclmin: cannot write: the file is another user's, and would become this one's\n",
             ),
+            FileFault::Changed => Failure::unwritten(
+                alloc,
+                b"pclmin: cannot write: another program has changed it meanwhile\n",
+            ),
+            FileFault::Nameless => Failure::unwritten(
+                alloc,
+                b"pclmin: cannot write: a descriptor leads to this file: give the name of the file itself\n",
+            ),
             FileFault::System => Failure::unwritten(alloc, b"pclmin: cannot write\n"),
         }
     }

@@ -3,7 +3,7 @@
 use crate::running::ask_for_batch;
 use pcl_arguments::{parse_batch, parse_request};
 use pcl_request::{Request, Resolution};
-use pcl_system::Typed;
+use pcl_system::{Replacing, Typed};
 use std::alloc::Global;
 
 /// How the process speaks.
@@ -15,6 +15,8 @@ pub(crate) struct Manner {
     pub is_quiet: bool,
     /// Whether the resolution is left to the job.
     pub is_auto: bool,
+    /// How files take their places.
+    pub replacing: Replacing,
 }
 
 impl Manner {
@@ -24,6 +26,7 @@ impl Manner {
             typed,
             is_quiet: false,
             is_auto: false,
+            replacing: Replacing::ByAnother,
         }
     }
 
@@ -43,6 +46,7 @@ impl Manner {
                 typed: Typed::Names,
                 is_quiet: asked.batch.quiet,
                 is_auto: is_auto(asked.batch.resolution),
+                replacing: replacing(asked.batch.keeps_inode),
             },
             Err(_) => Manner::plain(Typed::Names),
         }
@@ -50,16 +54,17 @@ impl Manner {
 
     /// Where they ask for anything else.
     fn of_request(alloc: Global, words: &[String]) -> Manner {
-        let (is_quiet, resolution) = match parse_request(alloc, words) {
-            Ok(Request::Run(run)) => (run.quiet, run.resolution),
-            Ok(Request::Check(asked)) => (asked.quiet, asked.resolution),
-            Ok(Request::Compare(asked)) => (false, asked.resolution),
+        let (is_quiet, resolution, keeps_inode) = match parse_request(alloc, words) {
+            Ok(Request::Run(run)) => (run.quiet, run.resolution, run.keeps_inode),
+            Ok(Request::Check(asked)) => (asked.quiet, asked.resolution, false),
+            Ok(Request::Compare(asked)) => (false, asked.resolution, false),
             Err(_) => return Manner::plain(Typed::Job),
         };
         Manner {
             typed: Typed::Job,
             is_quiet,
             is_auto: is_auto(resolution),
+            replacing: replacing(keeps_inode),
         }
     }
 
@@ -76,4 +81,13 @@ impl Manner {
 /// Whether a resolution is left to the job.
 fn is_auto(resolution: Resolution) -> bool {
     matches!(resolution, Resolution::FirstAccepted)
+}
+
+/// How files take their places, where a file that is there keeps its number or not.
+fn replacing(keeps_inode: bool) -> Replacing {
+    if keeps_inode {
+        Replacing::InPlace
+    } else {
+        Replacing::ByAnother
+    }
 }

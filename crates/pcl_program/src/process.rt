@@ -28,7 +28,7 @@ fn run_words(rt: &HostRuntime, words: &[String]) -> u8 {
     let troubles = Troubles::new();
     let manner = Manner::of(rt.alloc(), words);
     let ended = run(
-        &mut SystemFiles::new(rt, &troubles),
+        &mut SystemFiles::new(rt, &troubles, manner.replacing),
         rt.alloc(),
         words,
         &mut Input::new(rt, rt.reader(), manner.typed(), &troubles),

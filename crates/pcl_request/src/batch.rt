@@ -62,4 +62,6 @@ pub struct Batch<'w> {
     pub layout: Layout,
     /// Whether nothing is reported but in its report.
     pub quiet: bool,
+    /// Whether files that are there are written into, so that they keep their numbers, links and access lists.
+    pub keeps_inode: bool,
 }

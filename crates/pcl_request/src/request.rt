@@ -106,6 +106,8 @@ pub struct Run<'w> {
     pub resolution: Resolution,
     /// Whether it isn't reported how far it has come.
     pub quiet: bool,
+    /// Whether files that are there are written into, so that they keep their numbers, links and access lists.
+    pub keeps_inode: bool,
 }
 
 impl Task {

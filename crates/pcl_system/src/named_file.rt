@@ -2,29 +2,52 @@
 
 use crate::troubles::{Access, Troubles};
 use std::fs::File;
-use std::io::{self, Read};
+use std::io::{self, Input, Read, StdinLock};
 
 /// A file that is read. What goes wrong, and how it begins, is kept among a run's troubles.
 #[derive(Drop)]
 pub struct NamedFile<'a> {
     rt: &'a HostRuntime,
-    file: File,
+    opened: Opened,
     /// None where memory ran out for it.
     name: Option<String>,
     troubles: &'a Troubles,
     has_begun: bool,
 }
 
+/// What a name has opened.
+#[derive(Drop)]
+enum Opened {
+    File(File),
+    /// Standard input, which one of its names leads to.
+    Input(StdinLock<'static>),
+}
+
 impl<'a> NamedFile<'a> {
+    /// Of a file.
     pub(crate) fn new(
         rt: &'a HostRuntime,
         troubles: &'a Troubles,
         name: &str,
         file: File,
     ) -> NamedFile<'a> {
+        NamedFile::of(rt, troubles, name, Opened::File(file))
+    }
+
+    /// Standard input, by one of its names.
+    pub(crate) fn input(rt: &'a HostRuntime, troubles: &'a Troubles, name: &str) -> NamedFile<'a> {
+        NamedFile::of(rt, troubles, name, Opened::Input(rt.reader()))
+    }
+
+    fn of(
+        rt: &'a HostRuntime,
+        troubles: &'a Troubles,
+        name: &str,
+        opened: Opened,
+    ) -> NamedFile<'a> {
         NamedFile {
             rt,
-            file,
+            opened,
             name: String::from_str(rt.alloc(), name).ok(),
             troubles,
             has_begun: false,
@@ -34,7 +57,11 @@ impl<'a> NamedFile<'a> {
 
 impl Read for NamedFile<'_> {
     fn read(&mut self, buf: &mut [u8]) -> io::Result<usize> {
-        match self.file.read(buf) {
+        let read = match &mut self.opened {
+            Opened::File(file) => file.read(buf),
+            Opened::Input(reader) => reader.read(buf),
+        };
+        match read {
             Ok(count) => {
                 if !self.has_begun {
                     self.has_begun = true;

@@ -1,83 +1,74 @@
 //! Files that are begun beside the ones whose places they take.
 
-use crate::places::place_of;
-use crate::troubles::{Access, Cause, Troubles};
-use pcl_files::FileFault;
+use crate::leftovers::is_at;
+use crate::places::{folder_and_name, is_one, place_of, state_at, state_of};
+use crate::troubles::Cause;
+use pcl_files::{FileFault, FileState, is_as_seen, kept_rights, new_rights, part_ending};
 use std::fs::{self, File, Metadata, OpenOptions, Permissions, TryLockError};
-use std::io::{self, ErrorKind, Write};
-use std::os::unix::fs::{MetadataExt, OpenOptionsExt, fchown};
+use std::io::{self, ErrorKind};
+use std::os::unix::fs::{MetadataExt, OpenOptionsExt, PermissionsExt, fchown};
+use std::random::RandomSource;
 
 /// How many names are tried for a file that is begun beside another.
-const PART_NAMES: u32 = 100;
+const TRIES: u32 = 100;
 
-/// As many bytes of a path's last name are kept in the name of a file beside it: the system allows 255, and an ending has up to 15.
-const NAME_LIMIT: usize = 240;
+/// As many bytes of a path's last name are kept in the name of a file beside it: the system allows 255, and an ending has up to 32.
+const NAME_LIMIT: usize = 223;
 
-/// The rights of a file that is to take the place of another one, until it does: its owner reads and writes it.
+/// The rights of a file that is to take a place, until it does: its owner reads and writes it.
 const UNFINISHED: u32 = 0o600;
 
-/// The rights that are asked for where nothing is there; the system takes away those that the user doesn't give.
-const NEW: u32 = 0o666;
+/// Where the system says what the user's mask is, and how that line begins.
+const STATUS: &str = "/proc/self/status";
 
-/// A file that was begun. Where it is to take the place of another one it has a lock, by which others see that somebody holds it.
+const MASK: &str = "Umask:";
+
+/// A file that was made beside its place. It has a lock, by which others see that somebody holds it.
 #[derive(Drop)]
-pub struct NewFile<'a> {
-    file: File,
-    /// None where it is written in place.
-    part: Option<Part>,
-    called: Called<'a>,
-}
-
-/// What a file is called, and where its troubles are kept.
-#[derive(Drop)]
-struct Called<'a> {
-    rt: &'a HostRuntime,
-    troubles: &'a Troubles,
-    /// None where memory ran out for it.
-    name: Option<String>,
-}
-
-impl<'a> Called<'a> {
-    ghost use Rattle.std.specs.Prelude.{◌≡◌};
-
-    fn new(rt: &'a HostRuntime, troubles: &'a Troubles, name: &str) -> Called<'a> {
-        let name = String::from_str(rt.alloc(), name).ok();
-        Called { rt, troubles, name }
-    }
-
-    /// What came of writing the file. An error is kept among the troubles.
-    fn came<T>(&self, done: io::Result<T>) -> io::Result<T>
-        ensures { result ≡ done }
-    {
-        if let (Err(error), Some(name)) = (&done, &self.name) {
-            self.troubles
-                .note_error(self.rt, Access::Writing, name.as_str(), error);
-        }
-        done
-    }
-}
-
-/// Where a file is that was begun, and where it goes.
-#[derive(Drop)]
-struct Part {
+pub(crate) struct Part {
+    pub(crate) file: File,
     path: String,
     place: String,
-    /// The rights of the file whose place it takes; none where nothing was there.
-    rights: Option<Permissions>,
+    /// The one whose place it takes; none where nothing was there.
+    earlier: Option<Earlier>,
 }
 
-/// A file that was made beside its place.
+/// A file whose place another one takes.
 #[derive(Drop)]
-struct Made {
-    file: File,
-    part: Part,
+pub(crate) struct Earlier {
+    /// Opened to be written, which its owner allows.
+    pub(crate) file: File,
+    pub(crate) state: FileState,
+    rights: u32,
 }
 
-/// Why no file was made beside a place.
+/// Why a file isn't made, or isn't put in its place.
 #[derive(Clone, Copy)]
-struct Unmade {
-    cause: Cause,
-    fault: FileFault,
+pub(crate) struct Unmade {
+    pub(crate) cause: Cause,
+    pub(crate) fault: FileFault,
+}
+
+impl Unmade {
+    /// Since somebody has changed what was seen.
+    pub(crate) const CHANGED: Unmade = Unmade {
+        cause: Cause::Changed,
+        fault: FileFault::Changed,
+    };
+
+    /// Since another run has put a file where none was.
+    const TAKEN: Unmade = Unmade {
+        cause: Cause::Error(ErrorKind::AlreadyExists),
+        fault: FileFault::Changed,
+    };
+
+    /// Since the line of a fault says so.
+    pub(crate) fn stated(fault: FileFault) -> Unmade {
+        Unmade {
+            cause: Cause::Stated,
+            fault,
+        }
+    }
 }
 
 impl From<io::Error> for Unmade {
@@ -89,270 +80,244 @@ impl From<io::Error> for Unmade {
     }
 }
 
-impl Write for NewFile<'_> {
-    fn write(&mut self, buf: &[u8]) -> io::Result<usize> {
-        let written = self.file.write(buf);
-        self.called.came(written)
-    }
-
-    fn flush(&mut self) -> io::Result<()> {
-        let flushed = self.file.flush();
-        self.called.came(flushed)
-    }
-}
-
-impl<'a> NewFile<'a> {
-    /// A file that is written in place, as a device.
-    pub(crate) fn in_place(
-        rt: &'a HostRuntime,
-        troubles: &'a Troubles,
-        name: &str,
-    ) -> Result<NewFile<'a>, FileFault> {
-        let called = Called::new(rt, troubles, name);
-        let file = called.came(fs::create(rt, name))?;
-        let part = None;
-        Ok(NewFile { file, part, called })
-    }
-
-    /// Begins a file beside the one that a name leads to, or beside where it would be.
-    pub(crate) fn beside(
-        rt: &'a HostRuntime,
-        troubles: &'a Troubles,
-        name: &str,
-    ) -> Result<NewFile<'a>, FileFault> {
-        match made_beside(rt, name) {
-            Ok(Made { file, part }) => {
-                let called = Called::new(rt, troubles, name);
-                let part = Some(part);
-                Ok(NewFile { file, part, called })
-            }
-            Err(unmade) => {
-                troubles.note(rt, Access::Writing, name, unmade.cause);
-                Err(unmade.fault)
-            }
-        }
-    }
-
-    /// Puts the file in its place, once all of it is on the disk. After an error it is removed, and what was there stays.
-    pub(crate) fn place(self, rt: &HostRuntime) -> io::Result<()> {
-        match self.finish() {
-            Ok(()) => self.put(rt),
-            Err(error) => {
-                self.discard(rt);
-                Err(error)
-            }
-        }
-    }
-
-    /// Removes the file.
-    pub(crate) fn discard(self, rt: &HostRuntime) {
-        if let Some(part) = &self.part {
-            let _ = fs::remove_file(rt, &part.path);
-        }
-    }
-
-    /// Gives the file its rights, and waits until all of it is on the disk.
-    fn finish(&self) -> io::Result<()> {
-        match &self.part {
-            Some(part) => self.called.came(part.finish(&self.file)),
-            None => Ok(()),
-        }
-    }
-
-    /// Puts a finished file in its place. After an error it is removed.
-    fn put(self, rt: &HostRuntime) -> io::Result<()> {
-        let Some(part) = &self.part else {
-            return Ok(());
-        };
-        let done = self.called.came(part.put(rt));
-        if done.is_err() {
-            let _ = fs::remove_file(rt, &part.path);
-        }
-        done
-    }
-
-    /// What its place has now.
-    fn keep(&self, rt: &HostRuntime) -> io::Result<Kept> {
-        match &self.part {
-            Some(part) => part.keep(rt),
-            None => Ok(Kept::Unknown),
-        }
-    }
-}
-
-/// Makes a file beside the one that a name leads to, or beside where it would be.
-fn made_beside(rt: &HostRuntime, name: &str) -> Result<Made, Unmade> {
-    let place = place_of(rt, name)?;
-    match fs::metadata(rt, &place) {
-        Ok(there) => made_beside_file(rt, place, &there),
-        Err(error) if error.kind() == ErrorKind::NotFound => {
-            let (file, path) = create(rt, place.as_str(), NEW)?;
-            let rights = None;
-            let part = Part {
-                path,
-                place,
-                rights,
-            };
-            Ok(Made { file, part })
-        }
-        Err(error) => Err(Unmade::from(error)),
-    }
-}
-
-/// Makes a file beside one that is there and may be written. It gets its owner, and at the end its rights.
-fn made_beside_file(rt: &HostRuntime, place: String, there: &Metadata) -> Result<Made, Unmade> {
-    require_writable(rt, place.as_str())?;
-    let (file, path) = match create(rt, place.as_str(), UNFINISHED) {
-        Ok(made) => made,
-        Err(error) => return Err(denied(error, FileFault::Folder)),
-    };
-    if let Err(error) = give_to_owner(&file, there) {
-        let _ = fs::remove_file(rt, &path);
-        return Err(denied(error, FileFault::Owner));
-    }
-    let rights = Some(there.permissions());
-    let part = Part {
-        path,
-        place,
-        rights,
-    };
-    Ok(Made { file, part })
-}
-
 impl Part {
+    /// Makes a file beside the one that a name leads to, or beside where it would be. Where that one was seen before, it has to be so
+    /// still.
+    pub(crate) fn beside(
+        rt: &HostRuntime,
+        name: &str,
+        seen: Option<FileState>,
+    ) -> Result<Part, Unmade> {
+        let place = place_of(rt, name)?;
+        match fs::symlink_metadata(rt, &place) {
+            Ok(there) => {
+                require_own_name(rt, name, &there)?;
+                Part::beside_file(rt, place, &there, seen)
+            }
+            Err(error) if error.kind() == ErrorKind::NotFound => {
+                Part::beside_nothing(rt, name, place, seen)
+            }
+            Err(error) => Err(Unmade::from(error)),
+        }
+    }
+
+    /// Makes a file beside one that is there and may be written. It gets its owner, and at the end its rights.
+    fn beside_file(
+        rt: &HostRuntime,
+        place: String,
+        there: &Metadata,
+        seen: Option<FileState>,
+    ) -> Result<Part, Unmade> {
+        let file = opened_to_write(rt, place.as_str())?;
+        let state = seen.unwrap_or(state_of(there));
+        if !state.is(state_of(there)) {
+            return Err(Unmade::CHANGED);
+        }
+        let made = match create(rt, place.as_str()) {
+            Ok(made) => made,
+            Err(error) => return Err(denied(error, FileFault::Folder)),
+        };
+        if !made.is_named {
+            let _ = fs::remove_file(rt, &made.path);
+            return Err(Unmade::stated(FileFault::Folder));
+        }
+        if let Err(error) = give_to_owner(&made.file, there) {
+            let _ = fs::remove_file(rt, &made.path);
+            return Err(denied(error, FileFault::Owner));
+        }
+        let rights = there.mode();
+        Ok(Part {
+            file: made.file,
+            path: made.path,
+            place,
+            earlier: Some(Earlier {
+                file,
+                state,
+                rights,
+            }),
+        })
+    }
+
+    /// Makes a file for a place where nothing is.
+    fn beside_nothing(
+        rt: &HostRuntime,
+        name: &str,
+        place: String,
+        seen: Option<FileState>,
+    ) -> Result<Part, Unmade> {
+        if seen.is_some() {
+            return Err(Unmade::CHANGED);
+        }
+        if fs::metadata(rt, name).is_ok() {
+            return Err(Unmade::stated(FileFault::Nameless));
+        }
+        let Made { file, path, .. } = create(rt, place.as_str())?;
+        let earlier = None;
+        Ok(Part {
+            file,
+            path,
+            place,
+            earlier,
+        })
+    }
+
     /// Gives the file its rights, and waits until all of it is on the disk.
-    fn finish(&self, file: &File) -> io::Result<()> {
-        if let Some(rights) = &self.rights {
-            file.set_permissions(Permissions::clone(rights)?)?;
+    pub(crate) fn finish(&self, rt: &HostRuntime) -> io::Result<()> {
+        match &self.earlier {
+            Some(earlier) => {
+                let there = earlier.file.metadata()?;
+                let rights = kept_rights(earlier.rights, there.mode());
+                self.file.set_permissions(Permissions::from_mode(rights))?;
+            }
+            None => give_new_rights(rt, &self.file)?,
         }
-        file.sync_all()
+        self.file.sync_all()
     }
 
-    /// Puts the file in its place. Where nothing was there, something that another run has put there meanwhile stays, and that is
-    /// an error.
-    fn put(&self, rt: &HostRuntime) -> io::Result<()> {
-        if self.rights.is_none() {
-            match fs::hard_link(rt, &self.path, &self.place) {
-                Ok(()) => return fs::remove_file(rt, &self.path),
-                Err(error) if error.kind() == ErrorKind::AlreadyExists => return Err(error),
-                Err(_) => {}
-            }
+    /// Takes the place for itself: nobody else is putting a file there, and what was seen there is there.
+    pub(crate) fn claim(&self, rt: &HostRuntime) -> Result<Claim, Unmade> {
+        match &self.earlier {
+            Some(earlier) => earlier.claim(rt, self.place.as_str()),
+            None => Ok(Claim::Nothing),
         }
-        fs::rename(rt, &self.path, &self.place)
     }
 
-    /// Keeps what its place has under another name too.
-    fn keep(&self, rt: &HostRuntime) -> io::Result<Kept> {
-        // nothing is asked of memory once the second name is there
-        let place = String::from_str(rt.alloc(), self.place.as_str())?;
-        if self.rights.is_none() {
-            return Ok(Kept::Nothing { place });
+    /// Puts the file in its place. Where nothing was there, something that another run has put there meanwhile stays.
+    pub(crate) fn put(&self, rt: &HostRuntime) -> Result<(), Unmade> {
+        if self.earlier.is_some() {
+            return Ok(fs::rename(rt, &self.path, &self.place)?);
         }
-        let stem = stem_of(self.place.as_str());
-        for number in 1..=PART_NAMES {
-            let path = part_path(rt, stem, number)?;
-            match fs::hard_link(rt, &self.place, &path) {
-                Ok(()) => return Ok(Kept::Linked { path, place }),
-                Err(error) if error.kind() == ErrorKind::AlreadyExists => {}
-                Err(_) => return Ok(Kept::Unknown),
+        match fs::hard_link(rt, &self.path, &self.place) {
+            Ok(()) => {
+                // one of two names of what is whole: it goes with the next run where it doesn't now
+                let _ = fs::remove_file(rt, &self.path);
+                Ok(())
             }
+            Err(error) if error.kind() == ErrorKind::AlreadyExists => Err(Unmade::TAKEN),
+            Err(_) if state_at(rt, self.place.as_str())?.is_none() => {
+                Ok(fs::rename(rt, &self.path, &self.place)?)
+            }
+            Err(_) => Err(Unmade::TAKEN),
         }
-        Ok(Kept::Unknown)
+    }
+
+    /// Takes the file away again that was put in its place, and puts back what was there.
+    pub(crate) fn take_back(&self, rt: &HostRuntime, claim: &Claim) {
+        if !matches!(is_at(rt, self.place.as_str(), &self.file), Ok(true)) {
+            return;
+        }
+        match claim {
+            Claim::Nothing => {
+                let _ = fs::remove_file(rt, &self.place);
+            }
+            Claim::Linked(path) => {
+                let _ = fs::rename(rt, path, &self.place);
+            }
+            Claim::Unlinked => {}
+        }
+    }
+
+    /// Removes the file, unless it is in its place.
+    pub(crate) fn discard(&self, rt: &HostRuntime) {
+        let _ = fs::remove_file(rt, &self.path);
     }
 }
 
-/// What a place had before a file was put there.
+/// What is held of a place while a file is put there.
 #[derive(Drop)]
-enum Kept {
-    Nothing { place: String },
-    /// A file that this path leads to as well.
-    Linked { path: String, place: String },
-    /// It is written in place, or the system has no second name for a file.
-    Unknown,
+pub(crate) enum Claim {
+    /// Nothing is there: only one file can be put there.
+    Nothing,
+    /// What is there has this second name, which one run alone can make: by it that can be put back.
+    Linked(String),
+    /// The system has no second name for it.
+    Unlinked,
 }
 
-impl Kept {
-    /// Puts it back.
-    fn restore(self, rt: &HostRuntime) {
-        match self {
-            Kept::Nothing { place } => {
-                let _ = fs::remove_file(rt, &place);
-            }
-            Kept::Linked { path, place } => {
-                let _ = fs::rename(rt, &path, &place);
-            }
-            Kept::Unknown => {}
-        }
-    }
-
+impl Claim {
     /// Lets it go.
-    fn forget(self, rt: &HostRuntime) {
-        if let Kept::Linked { path, .. } = self {
-            let _ = fs::remove_file(rt, &path);
+    pub(crate) fn let_go(&self, rt: &HostRuntime) {
+        if let Claim::Linked(path) = self {
+            let _ = fs::remove_file(rt, path);
         }
     }
 }
 
-/// Puts two files in their places. After an error both are removed, and what was there stays.
-pub(crate) fn place_both(
-    rt: &HostRuntime,
-    first: NewFile<'_>,
-    second: NewFile<'_>,
-) -> io::Result<()> {
-    match finish_both(rt, &first, &second) {
-        Ok(kept) => put_both(rt, first, second, kept),
-        Err(error) => {
-            first.discard(rt);
-            second.discard(rt);
-            Err(error)
+impl Earlier {
+    /// Of a file that is open, and in this state.
+    pub(crate) fn new(file: File, there: &Metadata) -> Earlier {
+        Earlier {
+            file,
+            state: state_of(there),
+            rights: there.mode(),
         }
     }
-}
 
-/// Finishes two files, and keeps what the place of the first has.
-fn finish_both(rt: &HostRuntime, first: &NewFile<'_>, second: &NewFile<'_>) -> io::Result<Kept> {
-    first.finish()?;
-    second.finish()?;
-    first.keep(rt)
-}
-
-/// Puts two finished files in their places; where the second can't be, the first is taken back.
-fn put_both(
-    rt: &HostRuntime,
-    first: NewFile<'_>,
-    second: NewFile<'_>,
-    kept: Kept,
-) -> io::Result<()> {
-    if let Err(error) = first.put(rt) {
-        second.discard(rt);
-        kept.forget(rt);
-        return Err(error);
+    /// Takes the place of this file for one run alone, by a second name that ends in its number. While the run goes on the file has a
+    /// lock, so that nobody takes that name for a leftover.
+    pub(crate) fn claim(&self, rt: &HostRuntime, place: &str) -> Result<Claim, Unmade> {
+        let is_held = matches!(self.file.try_lock(), Err(TryLockError::WouldBlock));
+        let path = part_path(rt, stem_of(place), self.state.number)?;
+        let claim = match fs::hard_link(rt, place, &path) {
+            Ok(()) => Claim::Linked(path),
+            Err(error) if error.kind() == ErrorKind::AlreadyExists => {
+                match state_at(rt, path.as_str())? {
+                    Some(there) if there.number != self.state.number => Claim::Unlinked,
+                    _ if is_held => return Err(Unmade::CHANGED),
+                    _ => Claim::Linked(path),
+                }
+            }
+            Err(_) => Claim::Unlinked,
+        };
+        match self.is_there(rt, place, &claim) {
+            Ok(true) => Ok(claim),
+            Ok(false) => {
+                claim.let_go(rt);
+                Err(Unmade::CHANGED)
+            }
+            Err(error) => {
+                claim.let_go(rt);
+                Err(Unmade::from(error))
+            }
+        }
     }
-    let done = second.put(rt);
-    match done {
-        Ok(()) => kept.forget(rt),
-        Err(_) => kept.restore(rt),
+
+    /// Whether a place has this file, as it was seen, and its second name leads to it too.
+    fn is_there(&self, rt: &HostRuntime, place: &str, claim: &Claim) -> io::Result<bool> {
+        let seen = Some(self.state);
+        let is_claimed = match claim {
+            Claim::Linked(path) => is_as_seen(seen, state_at(rt, path.as_str())?),
+            Claim::Nothing | Claim::Unlinked => true,
+        };
+        Ok(is_claimed && is_as_seen(seen, state_at(rt, place)?))
     }
-    done
 }
 
-/// Makes a file beside the one of a place, of a name that no other file has, and locks it.
-fn create(rt: &HostRuntime, place: &str, rights: u32) -> io::Result<(File, String)> {
+/// A file that was made.
+#[derive(Drop)]
+struct Made {
+    file: File,
+    path: String,
+    /// Whether its folder lets names go, so that its own can end in its number and it can take a place.
+    is_named: bool,
+}
+
+/// Makes a file beside the one of a place, of a name that no other file has, locks it, and gives it a name that ends in its number.
+fn create(rt: &HostRuntime, place: &str) -> io::Result<Made> {
     let stem = stem_of(place);
-    for number in 1..=PART_NAMES {
-        let path = part_path(rt, stem, number)?;
-        remove_abandoned(rt, path.as_str());
-        if let Some(file) = make(rt, path.as_str(), rights)? {
-            return Ok((file, path));
+    for _ in 0..TRIES {
+        let path = part_path(rt, stem, random_number(rt)?)?;
+        if let Some(file) = make(rt, path.as_str())? {
+            return named(rt, stem, file, path);
         }
     }
     Err(io::Error::from(ErrorKind::AlreadyExists))
 }
 
 /// Makes and locks the file of a path; none where there is one already, or another run took it in that moment.
-fn make(rt: &HostRuntime, path: &str, rights: u32) -> io::Result<Option<File>> {
+fn make(rt: &HostRuntime, path: &str) -> io::Result<Option<File>> {
     let mut how = OpenOptions::new();
-    how.write(true).create_new(true).mode(rights);
+    how.write(true).create_new(true).mode(UNFINISHED);
     let file = match how.open(rt, path) {
         Ok(file) => file,
         Err(error) if error.kind() == ErrorKind::AlreadyExists => return Ok(None),
@@ -375,39 +340,49 @@ fn is_own(rt: &HostRuntime, path: &str, file: &File) -> io::Result<bool> {
     }
 }
 
-/// Removes a file that a run has left which was killed: nobody holds it.
-fn remove_abandoned(rt: &HostRuntime, path: &str) {
-    let is_file = match fs::symlink_metadata(rt, path) {
-        Ok(there) => there.is_file(),
-        Err(_) => false,
+/// Gives a file that was made a name that ends in its number, unless somebody has that name, or the folder lets no name go.
+fn named(rt: &HostRuntime, stem: &str, file: File, path: String) -> io::Result<Made> {
+    let (path, is_named) = match renamed(rt, stem, &file, path.as_str()) {
+        Ok(Some(named)) => (named, true),
+        Ok(None) => (path, true),
+        Err(error) if error.kind() == ErrorKind::PermissionDenied => (path, false),
+        Err(error) => {
+            let _ = fs::remove_file(rt, &path);
+            return Err(error);
+        }
     };
-    if !is_file {
-        return;
+    Ok(Made {
+        file,
+        path,
+        is_named,
+    })
+}
+
+/// Renames a file so that its name ends in its number, and gives the new path; none where something is there.
+fn renamed(rt: &HostRuntime, stem: &str, file: &File, path: &str) -> io::Result<Option<String>> {
+    let to = part_path(rt, stem, file.metadata()?.ino())?;
+    if state_at(rt, to.as_str())?.is_some() {
+        return Ok(None);
     }
-    let Ok(file) = fs::open(rt, path) else {
-        return;
-    };
-    if file.try_lock().is_ok() && matches!(is_at(rt, path, &file), Ok(true)) {
-        let _ = fs::remove_file(rt, path);
+    fs::rename(rt, path, &to)?;
+    Ok(Some(to))
+}
+
+/// An error where a name leads to a file by something else than the place that links lead to, as one of a file that is removed.
+fn require_own_name(rt: &HostRuntime, name: &str, there: &Metadata) -> Result<(), Unmade> {
+    let reached = fs::metadata(rt, name)?;
+    if is_one(&reached, there) {
+        Ok(())
+    } else {
+        Err(Unmade::stated(FileFault::Nameless))
     }
 }
 
-/// Whether a path leads to an open file, by no link.
-fn is_at(rt: &HostRuntime, path: &str, file: &File) -> io::Result<bool> {
-    let file = file.metadata()?;
-    match fs::symlink_metadata(rt, path) {
-        Ok(there) => Ok(there.dev() == file.dev() && there.ino() == file.ino()),
-        Err(error) if error.kind() == ErrorKind::NotFound => Ok(false),
-        Err(error) => Err(error),
-    }
-}
-
-/// An error where a file may not be written.
-fn require_writable(rt: &HostRuntime, path: &str) -> io::Result<()> {
+/// A file that is there, opened to be written.
+fn opened_to_write(rt: &HostRuntime, path: &str) -> io::Result<File> {
     let mut how = OpenOptions::new();
-    let file = how.write(true).open(rt, path)?;
-    drop(file);
-    Ok(())
+    how.write(true);
+    how.open(rt, path)
 }
 
 /// Gives a file the owner and the group of another one.
@@ -419,25 +394,68 @@ fn give_to_owner(file: &File, other: &Metadata) -> io::Result<()> {
     fchown(file, Some(other.uid()), Some(other.gid()))
 }
 
-/// This fault where an error says that a user has no right to something, and else the error's own.
-fn denied(error: io::Error, fault: FileFault) -> Unmade {
-    match error.kind() {
-        ErrorKind::PermissionDenied | ErrorKind::ReadOnlyFilesystem => {
-            let cause = Cause::Stated;
-            Unmade { cause, fault }
+/// Gives a new file the rights that the user's mask leaves. Where that isn't known its owner alone has any.
+fn give_new_rights(rt: &HostRuntime, file: &File) -> io::Result<()> {
+    let Some(mask) = mask(rt)? else {
+        return Ok(());
+    };
+    match file.set_permissions(Permissions::from_mode(new_rights(mask))) {
+        // a file system may give all files the same rights
+        Err(error) if error.kind() == ErrorKind::PermissionDenied => Ok(()),
+        done => done,
+    }
+}
+
+/// The user's mask; none where the system doesn't say.
+fn mask(rt: &HostRuntime) -> io::Result<Option<u32>> {
+    let status = match fs::read_to_string(rt, STATUS) {
+        Ok(status) => status,
+        Err(error) if is_hidden(error.kind()) => return Ok(None),
+        Err(error) => return Err(error),
+    };
+    for line in status.as_str().lines() {
+        if let Some(digits) = line.strip_prefix(MASK) {
+            return Ok(u32::from_str_radix(digits.trim(), 8).ok());
         }
+    }
+    Ok(None)
+}
+
+/// Whether an error of this kind says that the system has no such file for this process.
+fn is_hidden(kind: ErrorKind) -> bool {
+    matches!(
+        kind,
+        ErrorKind::NotFound | ErrorKind::NotADirectory | ErrorKind::PermissionDenied
+    )
+}
+
+/// This fault where an error says that a user has no right to something, and else the error's own.
+pub(crate) fn denied(error: io::Error, fault: FileFault) -> Unmade {
+    match error.kind() {
+        ErrorKind::PermissionDenied | ErrorKind::ReadOnlyFilesystem => Unmade::stated(fault),
         _ => Unmade::from(error),
     }
 }
 
-/// The path of a file beside the one of a path, by its number.
-fn part_path(rt: &HostRuntime, stem: &str, number: u32) -> io::Result<String> {
-    Ok(format!(in rt.alloc(); "{stem}.pclmin-part{number}")?)
+/// A number that nobody knows before.
+fn random_number(rt: &HostRuntime) -> io::Result<u64> {
+    let mut bytes = [0; 8];
+    rt.fill_bytes(&mut bytes)?;
+    Ok(u64::from_le_bytes(bytes))
+}
+
+/// The path of a file beside the one of a path, by a number.
+fn part_path(rt: &HostRuntime, stem: &str, number: u64) -> io::Result<String> {
+    let mut path = String::from_str(rt.alloc(), stem)?;
+    let ending = part_ending(rt.alloc(), number)?;
+    path.push_str(std::str::from_utf8(&ending).unwrap_or(""))?;
+    Ok(path)
 }
 
 /// A path whose last name is short enough for an ending.
 fn stem_of(path: &str) -> &str {
-    let begin = path.rfind('/').map_or(0, |slash| slash.saturating_add(1));
+    let (_, name) = folder_and_name(path);
+    let begin = path.len().saturating_sub(name.len());
     let end = path.len().min(begin.saturating_add(NAME_LIMIT));
     path.get(..path.floor_char_boundary(end)).unwrap_or(path)
 }

@@ -7,6 +7,9 @@ use std::io::{self, ErrorKind};
 /// As many bytes of a job are kept as tell its language.
 pub const START_LENGTH: usize = 12;
 
+/// What is said of a file that isn't what was seen.
+const CHANGED: &str = "another program has changed it meanwhile";
+
 /// What was to be done with a file.
 #[derive(Clone, Copy, PartialEq, Eq)]
 pub enum Access {
@@ -23,6 +26,8 @@ pub enum Cause {
     Standard,
     /// A file is where a folder is to be.
     NoFolder,
+    /// Somebody has changed it since it was seen.
+    Changed,
     /// The line of the fault says so.
     Stated,
 }
@@ -48,6 +53,7 @@ impl Trouble {
             Cause::Error(kind) => reason(kind),
             Cause::Standard => Some("standard input or output is this file"),
             Cause::NoFolder => Some("it is no folder"),
+            Cause::Changed => Some(CHANGED),
             Cause::Stated => None,
         }
     }
@@ -148,6 +154,8 @@ fn reason(kind: ErrorKind) -> Option<&'static str> {
         ErrorKind::ReadOnlyFilesystem => "nothing can be written there",
         ErrorKind::FilesystemLoop => "a link leads back to itself",
         ErrorKind::InvalidFilename => "the name is too long",
+        ErrorKind::StaleNetworkFileHandle => CHANGED,
+        ErrorKind::InvalidData => "a link leads to a name that isn't text",
         ErrorKind::AlreadyExists => "another run has written it meanwhile",
         _ => return None,
     })
