@@ -7,7 +7,8 @@ The jobs are made in a temporary folder: pages of text by ghostscript's drivers 
 are refused, cut short, empty or not there. A batch over all of them is killed in the middle, run again, and run once more; then the
 lines of docs/BATCH.md that use GNU parallel are run as they stand there, over an ssh server on loopback in place of the hosts. Each
 time each job has to have one line of the report with the right outcome and digests, and a file in the folder that is whole. The
-batch that is killed may leave the one file that it was writing, `NAME.pclmin-part1`, which the next one takes away. Some
+batch that is killed may leave the two files of the job that it was writing, `NAME.pclmin-partN` with its own number for N, which the next
+one takes away. Some
 jobs are compared, and some are written with certificates, which are checked. Prints what held, and how many jobs, pages and bytes a
 batch does in how many seconds; status 1 if something doesn't hold.
 
@@ -193,7 +194,8 @@ def main(program, count):
         parts = [it for it in (home / "again").iterdir() if it.name.endswith(".pcl")]
         holds("killed: what lies in the folder is whole", all(digest(it) == digest(home / "smaller" / it.name) for it in parts) and parts)
         left = [it for it in (home / "again").iterdir() if re.search(r"\.pclmin-part\d+$", it.name)]
-        holds("killed: at most the one file that was being written is left", len(left) <= 1)
+        holds("killed: at most the two files of the job that was being written are left", len(left) <= 2)
+        holds("killed: what is left is called after its own number", all(it.name.endswith(f"part{it.stat().st_ino}") for it in left))
         batch(program, home, names, home / "resumed.tsv", *words)
         rows = look("resumed", home, wanted, home / "resumed.tsv", home / "again", ["written", "kept"])
         holds("resumed: what was done is kept", sum(it[1] == "kept" for it in rows) >= len(parts) - 1)

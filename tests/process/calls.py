@@ -5,7 +5,8 @@
 
 PROGRAM is a built pclmin. A run in which a read fails, interrupted ones too, says `pclmin: cannot read`; one in which a write, a
 rename or a sync fails says `pclmin: cannot write`; both end with status 3. One in which a file can't be opened says either. Where
-something else of the system fails, a run says one of these or does what it does else. Standard output then has a prefix of what it has
+something else of the system fails, a run says one of these or does what it does else; where a file can't be removed, one that is called
+after its own number may be left. Standard output then has a prefix of what it has
 else, or nothing where a job is read no further; the files of -o and --cert are as they were, both, and so is that of --image or it is
 whole; none is left beside them. Where each read gives and each write takes one byte, all is as ever.
 
@@ -22,7 +23,7 @@ import sys
 import tempfile
 
 sys.dont_write_bytecode = True
-from failing import AS_IT_WAS, HERE, Failing
+from failing import AS_IT_WAS, HERE, Failing, tidy
 
 EXAMPLES = HERE.parent.parent / "examples"
 READ, WRITE = rb"pclmin: cannot read[^\n]*\n", rb"pclmin: cannot write[^\n]*\n"
@@ -35,7 +36,7 @@ BATCHES = {"batch -o out dot.pcl bad.pcl other.pcl": ("", ".sha256"),
            "batch --min -o out dot.pcl bad.pcl other.pcl": ("", ".sha256", ".cert")}
 THEIRS = {name: b"theirs" for name in ("dot.pcl", "other.pcl", "other.pcl.sha256")}
 LINES = {"read": [READ], "write": [WRITE], "rename": [WRITE], "fsync": [WRITE], "open": [READ, WRITE]}
-OTHERS = ["link", "flock", "realpath", "statx", "fchmod", "fcntl"]
+OTHERS = ["link", "flock", "realpath", "statx", "fchmod", "fcntl", "unlink"]
 ERRORS = [errno.EIO, errno.EINTR]
 
 
@@ -78,6 +79,8 @@ def try_run(failing, words):
             lines = LINES.get(what, [READ, WRITE])
 
             def holds(ran):
+                if what == "unlink":
+                    tidy(failing.folder)
                 # the run in which no call has that number is the last
                 ended = int(failing.count.read_text()) < holds.number
                 holds.number += 1
@@ -102,6 +105,8 @@ def try_batch(failing, words, parts, how, before):
             out.mkdir(exist_ok=True)
             (out / name).write_bytes(content)
         ran = failing.run(words, **settings)
+        if settings.get("what") == "unlink" and out.exists():
+            tidy(out)
         return ran, {path.name: path.read_bytes() for path in out.iterdir()} if out.exists() else {}
 
     def rows_of(ran):

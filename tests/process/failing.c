@@ -1,7 +1,8 @@
 // Makes one call of a program fail: the one whose number FAIL_AT has, counted from 1 over the calls that FAIL_WHAT names, which is
-// `memory` for all allocations, or one of read, write, open, rename, link, fsync, flock, realpath, statx, fchmod and fcntl. It fails
-// with the error whose number FAIL_ERROR has, and an allocation with ENOMEM. At its end the program writes into the file FAIL_COUNT
-// how many of these calls it made. Where FAIL_SHORT is set, each read gives and each write takes one byte at most. It is loaded before
+// `memory` for all allocations, or one of read, write, open, rename, link, unlink, fsync, flock, realpath, statx, fchmod and fcntl. It
+// fails with the error whose number FAIL_ERROR has, and an allocation with ENOMEM. At its end the program writes into the file FAIL_COUNT
+// how many of these calls it made. Where FAIL_SHORT is set, each read gives and each write takes one byte at most. A read of /proc is
+// never counted. Where FAIL_DELAY is set, each open, rename, link and unlink is made after as many microseconds. It is loaded before
 // the C library (LD_PRELOAD).
 #define _GNU_SOURCE
 #include <dlfcn.h>
@@ -15,7 +16,7 @@
 #include <sys/stat.h>
 #include <unistd.h>
 
-static long asked, fails_at = -1;
+static long asked, fails_at = -1, delay;
 static const char *what = "";
 static int error, is_short;
 
@@ -24,6 +25,7 @@ static void begin(void) {
     what = getenv("FAIL_WHAT") ? getenv("FAIL_WHAT") : "memory";
     error = with ? atoi(with) : EIO;
     is_short = getenv("FAIL_SHORT") != NULL;
+    delay = getenv("FAIL_DELAY") ? atol(getenv("FAIL_DELAY")) : 0;
     fails_at = at ? atol(at) : 0;
 }
 
@@ -34,6 +36,14 @@ static int fails(const char *call, int with) {
         return 0;
     errno = with;
     return 1;
+}
+
+// A call that is made late.
+static int fails_late(const char *call, int with) {
+    int is_failed = fails(call, with);
+    if (delay > 0)
+        usleep((useconds_t)delay);
+    return is_failed;
 }
 
 #define NEXT(name) ((__typeof__(&name))dlsym(RTLD_NEXT, #name))
@@ -66,8 +76,15 @@ int posix_memalign(void **block, size_t alignment, size_t size) {
     return fails("memory", ENOMEM) ? ENOMEM : next(block, alignment, size);
 }
 
+// Whether what is open is of the system itself, as the state of the process.
+static int is_of_system(int file) {
+    char link[32], name[8] = "";
+    snprintf(link, sizeof link, "/proc/self/fd/%d", file);
+    return readlink(link, name, sizeof name) >= 6 && memcmp(name, "/proc/", 6) == 0;
+}
+
 ssize_t read(int file, void *bytes, size_t size) {
-    return fails("read", error) ? -1 : NEXT(read)(file, bytes, is_short && size > 1 ? 1 : size);
+    return !is_of_system(file) && fails("read", error) ? -1 : NEXT(read)(file, bytes, is_short && size > 1 ? 1 : size);
 }
 
 ssize_t write(int file, const void *bytes, size_t size) {
@@ -83,15 +100,19 @@ int open(const char *path, int flags, ...) {
     va_start(more, flags);
     mode_t mode = flags & O_CREAT ? va_arg(more, mode_t) : 0;
     va_end(more);
-    return fails("open", error) ? -1 : NEXT(open)(path, flags, mode);
+    return fails_late("open", error) ? -1 : NEXT(open)(path, flags, mode);
 }
 
 int rename(const char *from, const char *to) {
-    return fails("rename", error) ? -1 : NEXT(rename)(from, to);
+    return fails_late("rename", error) ? -1 : NEXT(rename)(from, to);
 }
 
 int link(const char *from, const char *to) {
-    return fails("link", error) ? -1 : NEXT(link)(from, to);
+    return fails_late("link", error) ? -1 : NEXT(link)(from, to);
+}
+
+int unlink(const char *path) {
+    return fails_late("unlink", error) ? -1 : NEXT(unlink)(path);
 }
 
 int fsync(int file) {

@@ -11,6 +11,13 @@ KEPT, MADE = ("kept", "kept.cert"), ("cert", "image")
 AS_IT_WAS = {name: b"kept" for name in KEPT}
 
 
+def tidy(folder):
+    """Removes what a run couldn't remove: it is called after its own number."""
+    for path in list(folder.iterdir()):
+        if path.name.endswith(f".pclmin-part{path.stat().st_ino}"):
+            path.unlink()
+
+
 class Failing:
     """Runs in a folder, where files `kept` and `kept.cert` are put before each, and what a run makes else is removed."""
 

@@ -17,6 +17,7 @@ The limits of memory, what is long, and the terminal have tests of their own bel
 import os
 import pty
 import shutil
+import struct
 import subprocess
 import sys
 import tempfile
@@ -34,6 +35,7 @@ STEP, ENOUGH = 16, 50
 PLENTY = 4_000_000
 OUT_OF_MEMORY = "pclmin: out of memory"
 OTHER_OWNER = "pclmin: cannot write {}: the file is another user's, and would become this one's\n"
+FOLDER_KEPT = "pclmin: cannot write grows/old.pcl: the file's folder takes no new file, which would be put in its place\n"
 # As many bytes a job may have.
 LENGTH_LIMIT = 2_147_483_647
 # A blank Letter page as `min` writes it, its image at 600 dots per inch, and the bytes of its certificate: four for the length of its
@@ -200,6 +202,69 @@ def check_owners(program):
             if came != (status, said, owner, owner, mode) or not is_right:
                 wrong.append(f"-o of a file of user {owner} with mode {mode:o}: {came}")
     return wrong, 2
+
+
+def access_list(*entries):
+    """An access list as Linux keeps it: of each entry whose it is, the rights, and the number of the user."""
+    return struct.pack("<I", 2) + b"".join(struct.pack("<HHI", *entry) for entry in entries)
+
+
+def check_access_lists(program):
+    """A folder's default access list opens no new file beyond the user's mask, and a file that is written into keeps its own and its
+    attributes."""
+    wrong, nobody = [], 0xFFFFFFFF
+    everyone = access_list((1, 7, nobody), (2, 7, NOBODY), (4, 7, nobody), (16, 7, nobody), (32, 7, nobody))
+    one_user = access_list((1, 6, nobody), (2, 6, NOBODY), (4, 0, nobody), (16, 6, nobody), (32, 0, nobody))
+    with tempfile.TemporaryDirectory() as folder:
+        path = os.path.join(folder, "dot.pcl")
+        with open(path, "wb") as file:
+            file.write(DOT)
+        try:
+            os.setxattr(folder, "system.posix_acl_default", everyone)
+            os.setxattr(path, "system.posix_acl_access", one_user)
+            os.setxattr(path, "user.note", b"mine")
+        except OSError:
+            return [], 0
+        run = lambda *words: subprocess.run([program, "min", *words, path], capture_output=True, umask=0o027, timeout=60, check=False)
+        new = os.path.join(folder, "new.pcl")
+        done = run("-o", new)
+        came = (done.returncode, done.stderr, os.stat(new).st_mode & 0o777)
+        if came != (0, b"", 0o640):
+            wrong.append(f"a new file in a folder with a default access list: {came}")
+        done = run("--keep-inode", "-o", path)
+        came = (done.returncode, done.stderr, os.getxattr(path, "system.posix_acl_access"), os.getxattr(path, "user.note"))
+        if came != (0, b"", one_user, b"mine"):
+            wrong.append(f"--keep-inode of a file with an access list: {came}")
+    return wrong, 2
+
+
+def check_append_only(program):
+    """A folder that takes new files and lets none go takes a new one, and what is there stays, unless it is written into."""
+    if os.geteuid() != 0 or not shutil.which("chattr"):
+        return [], 0
+    wrong, kept = [], FOLDER_KEPT.encode()
+    with tempfile.TemporaryDirectory() as folder:
+        fill(folder, program)
+        grows = os.path.join(folder, "grows")
+        os.mkdir(grows)
+        with open(os.path.join(grows, "old.pcl"), "wb") as file:
+            file.write(b"kept")
+        for name in (grows, os.path.join(grows, "old.pcl")):
+            os.chown(name, NOBODY, NOBODY)
+        if subprocess.run(["chattr", "+a", grows], capture_output=True, check=False).returncode != 0:
+            return [], 0
+        try:
+            for words, name, status, said, content in (([], "new.pcl", 0, b"", WRITTEN), ([], "old.pcl", 3, kept, b"kept"),
+                                                       (["--keep-inode"], "old.pcl", 0, b"", WRITTEN)):
+                done = subprocess.run([program, "min", *words, "-o", "grows/" + name, "dot.pcl"], cwd=folder, capture_output=True,
+                                      preexec_fn=without_rights, timeout=60, check=False)
+                with open(os.path.join(grows, name), "rb") as file:
+                    came = (done.returncode, done.stderr, file.read())
+                if came != (status, said, content):
+                    wrong.append(f"min {words} -o {name} in a folder that lets no file go: {came}")
+        finally:
+            subprocess.run(["chattr", "-a", grows], check=True)
+    return wrong, 3
 
 
 def check_lengths(program):
@@ -383,8 +448,8 @@ def main():
         copy = shutil.copy(program, os.path.join(folder, "program"))
         os.chmod(copy, 0o755)
         wrong, count = [], 0
-        for check in (check_table, check_texts, check_owners, check_lengths, check_sizes, check_memory, check_terminal,
-                      check_hints, check_spared_terminal):
+        for check in (check_table, check_texts, check_owners, check_access_lists, check_append_only, check_lengths, check_sizes, check_memory,
+                      check_terminal, check_hints, check_spared_terminal):
             try:
                 faults, cases_of_it = check(copy)
             except subprocess.TimeoutExpired as late:
