@@ -14,13 +14,13 @@ _pclmin() {
         --cert | --image | --output | -o) mapfile -t COMPREPLY < <(compgen -f -- "$word"); return ;;
     esac
     case $command:$word in
-        min:-*) mapfile -t COMPREPLY < <(compgen -W "--dpi --cert --format --quiet --output --help" -- "$word") ;;
-        pbm:-*) mapfile -t COMPREPLY < <(compgen -W "--dpi --page --drivers --quiet --output --help" -- "$word") ;;
-        pgm:-*) mapfile -t COMPREPLY < <(compgen -W "--dpi --scale --page --drivers --quiet --output --help" -- "$word") ;;
-        shrink:-*) mapfile -t COMPREPLY < <(compgen -W "--dpi --report --json --profile-only --stated --drivers --quiet --output --help" -- "$word") ;;
-        pages:-*) mapfile -t COMPREPLY < <(compgen -W "--dpi --json --tsv --stated --quiet --output --help" -- "$word") ;;
-        batch:-*) mapfile -t COMPREPLY < <(compgen -W "--dpi --min --profile-only --stated --drivers --json --quiet --output --keep-folders --in-place --help" -- "$word") ;;
-        explain:-*) mapfile -t COMPREPLY < <(compgen -W "--dpi --json --stated --quiet --output --help" -- "$word") ;;
+        min:-*) mapfile -t COMPREPLY < <(compgen -W "--dpi --cert --format --quiet --keep-inode --output --help" -- "$word") ;;
+        pbm:-*) mapfile -t COMPREPLY < <(compgen -W "--dpi --page --drivers --quiet --keep-inode --output --help" -- "$word") ;;
+        pgm:-*) mapfile -t COMPREPLY < <(compgen -W "--dpi --scale --page --drivers --quiet --keep-inode --output --help" -- "$word") ;;
+        shrink:-*) mapfile -t COMPREPLY < <(compgen -W "--dpi --report --json --profile-only --stated --drivers --quiet --keep-inode --output --help" -- "$word") ;;
+        pages:-*) mapfile -t COMPREPLY < <(compgen -W "--dpi --json --tsv --stated --quiet --keep-inode --output --help" -- "$word") ;;
+        batch:-*) mapfile -t COMPREPLY < <(compgen -W "--dpi --min --profile-only --stated --drivers --json --quiet --keep-inode --output --keep-folders --in-place --help" -- "$word") ;;
+        explain:-*) mapfile -t COMPREPLY < <(compgen -W "--dpi --json --stated --quiet --keep-inode --output --help" -- "$word") ;;
         check:-*) mapfile -t COMPREPLY < <(compgen -W "--dpi --page --json --quiet --help" -- "$word") ;;
         same:-*) mapfile -t COMPREPLY < <(compgen -W "--dpi --asked --image --json --stated --quiet --help" -- "$word") ;;
         min:* | pbm:* | pgm:* | shrink:* | pages:* | batch:* | explain:* | check:* | same:*) mapfile -t COMPREPLY < <(compgen -f -- "$word") ;;

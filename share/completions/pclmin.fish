@@ -32,5 +32,6 @@ complete -c pclmin -n "__fish_seen_subcommand_from pbm pgm" -l drivers -d "Read 
 complete -c pclmin -n "__fish_seen_subcommand_from shrink batch" -l drivers -d "Read jobs as those of drivers"
 complete -c pclmin -n "__fish_seen_subcommand_from min pbm pgm shrink pages batch explain check same" -F
 complete -c pclmin -n "__fish_seen_subcommand_from min pbm pgm shrink pages explain" -s o -l output -r -F -d "Write to a file"
+complete -c pclmin -n "__fish_seen_subcommand_from min pbm pgm shrink pages explain batch" -l keep-inode -d "Write into a file that is there"
 complete -c pclmin -n "__fish_seen_subcommand_from same" -l image -r -F -d "Draw the dots that differ"
 complete -c pclmin -n "__fish_seen_subcommand_from help" -a "min pbm pgm shrink pages batch explain check same"
