@@ -4,6 +4,7 @@ use Rattle.pcl_printers.specs.declared.doubts.Doubt.{Doubt}
 use Rattle.pcl_printers.specs.declared.doubts.Doubt.TheVariants.{BetweenDots, ShortRaster, FirstLine, SeedRow, RasterSize, Advance, Code}
 use Rattle.pcl_printers.specs.declared.doubts.Doubt.TheVariants.{EmptyMark, ColumnWidth, PastEnd, PartOfUnit, Ejection, Edge, OpenRaster}
 use Rattle.pcl_printers.specs.declared.doubts.Doubt.TheVariants.{RowStart, TextScale, Back, JobLine}
+use Rattle.pcl_printers.specs.declared.doubts.Doubt.TheVariants.{OtherFont, RightMargin, RowData, Sides, CalledMacro, Paper}
 use Rattle.pcl_shrink.specs.declared.candidate.Candidate.{Candidate}
 use Rattle.pcl_shrink.specs.declared.candidate.Candidate.TheVariants.{Input, Raster, Coarse, Glyphs}
 use Rattle.pcl_shrink.specs.declared.candidate.Shrunk.{Shrunk}
@@ -38,6 +39,12 @@ doubt_text RowStart = codes "where a row begins, after a raster away from the le
 doubt_text TextScale = codes "a text scale that isn't 0"
 doubt_text Back = codes "the side of a sheet after a page that is moved"
 doubt_text JobLine = codes "a line of @PJL"
+doubt_text OtherFont = codes "a font that no ID of the job selects"
+doubt_text RightMargin = codes "a line past a right margin, or one that wraps"
+doubt_text RowData = codes "a row by method 3 that ends in an offset"
+doubt_text Sides = codes "which side of the sheet comes next"
+doubt_text CalledMacro = codes "a page size or the end of a page in a called macro"
+doubt_text Paper = codes "a page without a size, where papers differ"
 
 -- what follows the number of its pages
 abbrev pub pages_word : ℕ → List ℕ

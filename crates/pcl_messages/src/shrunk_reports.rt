@@ -154,5 +154,11 @@ fn doubt_name(doubt: Doubt) -> &'static [u8]
         Doubt::TextScale => b"a text scale that isn't 0",
         Doubt::Back => b"the side of a sheet after a page that is moved",
         Doubt::JobLine => b"a line of @PJL",
+        Doubt::OtherFont => b"a font that no ID of the job selects",
+        Doubt::RightMargin => b"a line past a right margin, or one that wraps",
+        Doubt::RowData => b"a row by method 3 that ends in an offset",
+        Doubt::Sides => b"which side of the sheet comes next",
+        Doubt::CalledMacro => b"a page size or the end of a page in a called macro",
+        Doubt::Paper => b"a page without a size, where papers differ",
     }
 }

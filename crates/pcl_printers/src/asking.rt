@@ -16,20 +16,51 @@ pub struct Sheets {
     has_back: bool,
     /// Whether the last command was a reset or a universal exit.
     is_reset: bool,
+    /// The sides that were said before the command.
+    sides: Option<i64>,
+    /// Whether an odd number of pages was ejected since a reset or other sides, and whether one was since a reset.
+    is_odd: bool,
+    has_page: bool,
+    /// Whether the side of the sheet that the next page has isn't counted from these, and whether printers differ in it.
+    is_side_asked: bool,
+    is_side_open: bool,
 }
 
 impl Sheets {
+    /// A command begins while this is asked.
+    pub fn begin(&mut self, asked: Asked) {
+        self.sides = asked.sides;
+    }
+
     /// A page was ejected that was asked with this.
     pub fn eject(&mut self, asked: Asked) {
         self.has_back |= !self.is_reset && may_have_back(asked);
+        self.has_page = !self.is_reset;
+        self.is_odd = !self.is_reset && !self.is_odd;
+    }
+
+    /// Whether sides that are said again may end a sheet: they do after a front.
+    fn may_end_sheet(&self, asked: Asked) -> bool {
+        let is_said_again = self.sides == asked.sides && asked.sides != Some(0);
+        is_said_again && (self.is_odd || self.is_side_asked)
+    }
+
+    /// Sides are said: others begin a sheet.
+    fn say_sides(&mut self, asked: Asked) {
+        if self.sides != asked.sides {
+            self.is_odd = false;
+            self.is_side_asked = false;
+        }
     }
 
     /// A command was performed: where it is a reset, no page was moved or ejected since.
     fn pass(&mut self, operation: Operation) {
         self.is_reset = matches!(operation, Operation::Reset | Operation::UniversalExit);
         if self.is_reset {
-            self.has_offset = false;
-            self.has_back = false;
+            *self = Sheets {
+                is_reset: true,
+                ..Sheets::default()
+            };
         }
     }
 }
@@ -44,6 +75,7 @@ impl Printers {
         let is_scaled = what == Asking::TextScale && command.value.whole() != 0;
         self.note_if(is_scaled, Doubt::TextScale);
         self.see_back(what, command, environment.asked());
+        self.see_side(what, command, environment.asked());
         self.see_asked(what, command, environment);
     }
 
@@ -73,6 +105,29 @@ impl Printers {
         }
     }
 
+    /// Looks at sides, a side of the sheet and a paper source: after a page printers count the next side in several ways.
+    fn see_side(&mut self, what: Asking, command: &SeenCommand<'_>, asked: Asked) {
+        match what {
+            Asking::Sides => {
+                let ends = !command.is_marked && self.sheets.may_end_sheet(asked);
+                self.note_if(ends, Doubt::Sides);
+                self.sheets.say_sides(asked);
+            }
+            Asking::SheetSide | Asking::PaperSource => {
+                let is_odd = self.sheets.is_odd;
+                let may_turn = is_odd || what == Asking::SheetSide && self.sheets.has_page;
+                self.sheets.is_side_asked |= command.is_marked || may_turn;
+                self.sheets.is_side_open |= command.is_marked && may_have_back(asked);
+            }
+            _ => {}
+        }
+    }
+
+    /// Looks at a mark: it stands on the next page.
+    pub fn see_on_sheet(&mut self) {
+        self.note_if(self.sheets.is_side_open, Doubt::Sides);
+    }
+
     /// Looks at what is asked for after a page on a two-sided sheet: where the page is moved, its back may be moved the other way.
     fn see_back(&mut self, what: Asking, command: &SeenCommand<'_>, asked: Asked) {
         let follows_back = self.sheets.has_back || command.is_marked && may_have_back(asked);
@@ -97,7 +152,7 @@ impl Printers {
 }
 
 /// Whether the sheet of a page that was asked with this may have a back: it does where the printer is set so and no sides are said.
-fn may_have_back(asked: Asked) -> bool {
+pub fn may_have_back(asked: Asked) -> bool {
     asked.sides != Some(0)
 }
 

@@ -1,5 +1,6 @@
 //! Where the cursor may stand elsewhere.
 
+use crate::asking::may_have_back;
 use crate::doubts::Doubt;
 use crate::places::{
     WHOLE, has_rest, is_at_end, is_at_right_end, is_home, is_on_first_line, unit_of,
@@ -99,6 +100,7 @@ impl Cursor {
 impl Printers {
     /// Looks at a command before it sets anything.
     pub fn see_begin(&mut self, environment: &Env) {
+        self.sheets.begin(environment.asked());
         self.cursor.was_home = is_home(environment);
     }
 
@@ -109,12 +111,19 @@ impl Printers {
                 self.cursor.settle();
             }
             Operation::CarriageReturn => self.cursor.column = None,
-            Operation::TopMargin if !command.is_marked => self.cursor.take_margin(),
+            Operation::TopMargin if !command.is_marked => {
+                self.see_lines_of_0(environment);
+                self.cursor.take_margin();
+            }
+            Operation::TopMargin | Operation::TextLength => self.see_lines_of_0(environment),
             Operation::Move(axis, unit) => {
                 self.see_move(axis, unit, command.value.sign, environment);
+                self.see_stop(environment);
             }
             Operation::HorizontalTab => {
                 self.note_if(is_at_right_end(environment), Doubt::PastEnd);
+                self.see_right_of_margin(environment);
+                self.see_stop(environment);
             }
             Operation::LineFeed | Operation::HalfLineFeed => self.cursor.go_by_rows(),
             Operation::CursorStack => self.cursor.push_or_pop(command.value),
@@ -123,6 +132,11 @@ impl Printers {
             }
             _ => {}
         }
+    }
+
+    /// Looks at a margin or a text length, by a line spacing of 0: printers may ignore it.
+    fn see_lines_of_0(&mut self, environment: &Env) {
+        self.note_if(environment.vmi() == 0, Doubt::FirstLine);
     }
 
     /// Looks at a move that was made.
@@ -141,6 +155,7 @@ impl Printers {
     pub fn see_parts(&mut self, command: &SeenCommand<'_>, environment: &Env) {
         let value = command.value;
         let has_parts = match command.operation {
+            Operation::RectangleSize(_, Unit::Decipoint) => value.parts % WHOLE != 0,
             Operation::Move(axis, unit) | Operation::RectangleSize(axis, unit) => {
                 (unit == Unit::PclUnit && value.parts % WHOLE != 0)
                     || has_rest(value, unit_of(axis, unit, environment))
@@ -170,10 +185,13 @@ impl Printers {
     }
 
     /// Looks at a page that was ejected, and was asked with this.
-    pub fn see_ejection(&mut self, asked: Asked) {
+    pub fn see_ejection(&mut self, asked: Asked, environment: &Env) {
+        let may_turn = self.calls.is_called && may_have_back(asked);
+        self.note_if(may_turn, Doubt::CalledMacro);
         self.cursor.eject();
         self.sheets.eject(asked);
         self.rasters.has_begun = false;
+        self.see_page_end(environment);
     }
 }
 

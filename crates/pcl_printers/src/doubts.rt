@@ -1,4 +1,4 @@
-//! What printers may read otherwise (docs/SHRINK.md, "Where printers may read otherwise").
+//! What printers may read otherwise (docs/PRINTERS.md).
 
 /// By whose reading what is written must print what a job prints.
 #[derive(Clone, Copy, Debug, PartialEq, Eq)]
@@ -47,7 +47,22 @@ pub enum Doubt {
     TextScale,
     /// Sides, the side of the sheet or a paper source that is asked for after a page of a sheet that may have a back, with an offset.
     Back,
-    /// A line of the printer's job language with a control code, which may end it, or one that may turn pages, set their lines or take what
-    /// follows as a file; or a line feed after the lines, which may be one of them.
+    /// A line of the printer's job language that isn't known to leave pages as they are, or with a control code, which may end it; or a
+    /// line feed after the lines, which may be one of them.
     JobLine,
+    /// Text, or a column, where another font may be selected: one by its characteristics, one that the job hasn't sent, or none; or a
+    /// character for a font that the job hasn't sent.
+    OtherFont,
+    /// A mark at the cursor that a right margin may have stopped, or text past it; or text past the right edge, with end-of-line wrap.
+    RightMargin,
+    /// Data of a row by method 3 that end within an offset.
+    RowData,
+    /// Sides that are said again after a front; or a page after one that a side of the sheet or a paper source ejected, whose sheet may
+    /// have a back.
+    Sides,
+    /// A page size, or an ejected page whose sheet may have a back, in a called macro.
+    CalledMacro,
+    /// What differs on Letter, A4 and Legal in a job that says no size: ink past what they share, a page that a line feed ejects, or a
+    /// mark at the cursor that an edge may have stopped.
+    Paper,
 }

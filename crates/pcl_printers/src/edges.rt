@@ -1,5 +1,6 @@
 //! Raster rows past the page's right edge, where they are cut.
 
+use crate::papers::shared_width;
 use crate::places::offset_units;
 use pcl_base::{Dpi, Method, ROW_LIMIT};
 use pcl_env::Env;
@@ -14,8 +15,9 @@ const QUARTER_INCH: i64 = 1_800;
 /// The rows of a raster, as far as the sheet goes past the page's right edge.
 #[derive(Drop)]
 pub struct SheetRows {
-    /// How many of their dots lie on the page, whole.
+    /// How many of their dots lie on the page, whole, and how many on every paper that the job may get.
     on_page: u32,
+    on_shared: u32,
     /// How many bytes they have.
     len: usize,
     /// The row that delta rows start from.
@@ -28,12 +30,14 @@ impl SheetRows {
         let scale = (dpi.dots() / environment.resolution().max(1)).max(1);
         let on_page = environment.size().width(dpi).saturating_sub(left) / scale;
         let on_sheet = on_page.saturating_add(dots_past_page(environment, dpi).div_ceil(scale));
+        let on_shared = shared_width(environment, dpi).saturating_sub(left) / scale;
         let width = environment.raster_width().unwrap_or(on_sheet).min(on_sheet);
         if width <= on_page && !is_wanted {
             return None;
         }
         Some(SheetRows {
             on_page,
+            on_shared,
             len: (width.div_ceil(8) as usize).min(SHEET_LIMIT),
             seed: [0; SHEET_LIMIT],
         })
@@ -47,6 +51,11 @@ impl SheetRows {
     /// Whether the row that came last has dots.
     pub fn has_dots(&self) -> bool {
         has_dots_from(&self.seed, 0)
+    }
+
+    /// Whether the row that came last has dots past the right edge of a paper that the job may get.
+    pub fn is_past_shared(&self) -> bool {
+        has_dots_from(&self.seed, self.on_shared)
     }
 
     /// Whether the next row has dots past the page's edge. It is the seed row then.

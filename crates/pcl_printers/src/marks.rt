@@ -1,6 +1,7 @@
 //! Rectangles and characters.
 
 use crate::doubts::Doubt;
+use crate::papers::is_past_shared;
 use crate::places::{
     has_part_of_unit, is_at_end, is_at_right_end, is_half_past_or_more, is_lowered,
     is_more_than_half_past, is_raised,
@@ -20,6 +21,8 @@ impl Printers {
                 self.see_character(glyph, font, mark, environment);
             }
         }
+        self.see_on_sheet();
+        self.see_on_paper(is_past_shared(mark, environment), environment);
     }
 
     /// Looks at a rectangle.
@@ -29,8 +32,10 @@ impl Printers {
             return;
         }
         self.see_at_cursor();
+        let is_moved = is_raised(environment) || is_lowered(environment);
         let is_between = is_half_past_or_more(environment.x(), self.dpi)
-            || is_more_than_half_past(environment.y(), self.dpi);
+            || is_more_than_half_past(environment.y(), self.dpi)
+            || (is_moved && is_half_past_or_more(environment.y(), self.dpi));
         self.note_if(is_between, Doubt::BetweenDots);
         let unit = u64::from(self.dpi.unit());
         let size = environment.size();
@@ -54,6 +59,8 @@ impl Printers {
         let is_unseen = !mark.is_marked && !is_on_page(mark, environment);
         self.note_if(is_unseen, Doubt::EmptyMark);
         self.rasters.is_text_next = false;
+        self.see_text(environment);
+        self.see_line(end_of(glyph, font, mark, environment), environment);
         self.note_if(font.proportional && glyph.delta < 0, Doubt::Advance);
         if !font.proportional {
             self.see_column(environment);
@@ -80,6 +87,9 @@ impl Printers {
         self.note_if(code != b' ', Doubt::Code);
         self.note_if(self.rasters.is_text_next, Doubt::OpenRaster);
         self.rasters.is_text_next = false;
+        self.see_text(environment);
+        let end = i64::from(environment.x()).saturating_add(i64::from(environment.hmi()));
+        self.see_line(end, environment);
         self.see_column(environment);
     }
 
@@ -88,6 +98,17 @@ impl Printers {
         self.note_any(self.cursor.column);
         self.note_any(self.cursor.row);
     }
+}
+
+/// How far a character and its advance go along the line.
+fn end_of(glyph: &Glyph<'_>, font: FontInfo, mark: &SeenMark<'_>, environment: &Env) -> i64 {
+    let advance = if font.proportional {
+        font.advance(glyph.delta)
+    } else {
+        i64::from(environment.hmi())
+    };
+    mark.right
+        .max(i64::from(environment.x()).saturating_add(advance))
 }
 
 /// Whether a mark has no dots.

@@ -1,13 +1,17 @@
 //! Printers, as they may read what is performed.
 
 use crate::asking::Sheets;
+use crate::calls::Calls;
 use crate::cursor::Cursor;
 use crate::doubts::Doubt;
+use crate::fonts::SelectedFonts;
+use crate::job_lines::JobLines;
+use crate::margins::RightMargin;
 use crate::rasters::Rasters;
 use crate::widths::Width;
 use pcl_base::{Asking, Dpi, Operation};
 use pcl_env::Env;
-use pcl_page::{Event, Observer, SeenCommand};
+use pcl_page::{Event, Observer, SeenCommand, SeenRaster};
 
 /// Printers, which look for what some of them read otherwise in a job that is performed.
 #[derive(Drop)]
@@ -22,10 +26,18 @@ pub struct Printers {
     pub(crate) rasters: Rasters,
     /// What they make of the column width.
     pub(crate) width: Width,
+    /// What they make of the selected fonts.
+    pub(crate) fonts: SelectedFonts,
+    /// What they make of a right margin.
+    pub(crate) margin: RightMargin,
     /// What they make of sheets.
     pub(crate) sheets: Sheets,
-    /// Whether the last command was a universal exit, or a CR after one.
-    pub(crate) is_exit: bool,
+    /// What they make of lines of the job language.
+    pub(crate) lines: JobLines,
+    /// In which macros they are.
+    pub(crate) calls: Calls,
+    /// The command that was performed last.
+    pub(crate) last: Operation,
 }
 
 impl Printers {
@@ -37,8 +49,12 @@ impl Printers {
             cursor: Cursor::default(),
             rasters: Rasters::default(),
             width: Width::default(),
+            fonts: SelectedFonts::default(),
+            margin: RightMargin::default(),
             sheets: Sheets::default(),
-            is_exit: false,
+            lines: JobLines::default(),
+            calls: Calls::default(),
+            last: Operation::Reset,
         }
     }
 
@@ -64,14 +80,31 @@ impl Printers {
         self.first = self.first.or(doubt);
     }
 
+    /// Looks at a command that comes, with the raster that has begun.
+    fn see_coming(
+        &mut self,
+        operation: Operation,
+        raster: Option<SeenRaster<'_>>,
+        environment: &Env,
+    ) {
+        self.calls.take_command();
+        self.last = operation;
+        if let Some(raster) = &raster {
+            self.see_raster_end(operation, raster, environment);
+        }
+    }
+
     /// Looks at a command that has set what it sets.
     fn see_command(&mut self, command: &SeenCommand<'_>, environment: &Env) {
         self.see_parts(command, environment);
         self.see_width(command, environment);
+        self.see_fonts(command, environment);
+        self.see_margin(command, environment);
         self.see_spacing(command, environment);
         self.see_feed(command.operation);
         self.see_unmarked(command);
         self.see_cursor(command, environment);
+        self.see_called(command.operation);
         self.see_asking(command, environment);
         self.see_raster(command, environment);
         self.see_lines(command);
@@ -92,15 +125,14 @@ impl Printers {
 impl Observer for Printers {
     fn see(&mut self, event: Event<'_>, environment: &Env) {
         match event {
-            Event::Comes(operation, Some(raster)) => self.see_raster_end(operation, &raster),
-            Event::Comes(_, None) => {}
+            Event::Comes(operation, raster) => self.see_coming(operation, raster, environment),
             Event::Begins(_) => self.see_begin(environment),
             Event::Sets(command) => self.see_command(&command, environment),
-            Event::Ejects(asked) => self.see_ejection(asked),
+            Event::Ejects(asked) => self.see_ejection(asked, environment),
             Event::Marks(mark) => self.see_mark(&mark, environment),
             Event::Blank(code) => self.see_blank(code, environment),
-            Event::InMacro { .. } => {}
-            Event::MacroEnds(end) => self.see_macro_end(&end),
+            Event::InMacro { is_called } => self.calls.go_on(is_called),
+            Event::MacroEnds(end) => self.see_macro_end(&end, environment),
             Event::JobEnds { is_marked } => self.see_job_end(is_marked),
         }
     }

@@ -19,6 +19,11 @@ pub struct Width {
 }
 
 impl Width {
+    /// It may be another font's.
+    pub fn open(&mut self) {
+        self.is_open = true;
+    }
+
     /// A macro ended: a call's return may leave it to a font that was sent anew.
     pub fn end_macro(&mut self) {
         self.is_open |= self.is_font_anew;
