@@ -120,7 +120,9 @@ def alone():
 
 def build(goals, at_once=None):
     """Builds crates and all below them that aren't kept, and gives those that aren't built, so none where all is well. It ends with the
-    first that fails."""
+    first that fails. Where all is kept it waits for no other run."""
+    if not unkept(goals):
+        return []
     with alone():
         return build_alone(goals, at_once or processors())
 
