@@ -127,17 +127,24 @@ def build(goals, at_once=None):
         return build_alone(goals, at_once or processors())
 
 
+def reached(goals):
+    """Crates and all below them, lowest first."""
+    return dict.fromkeys(it for goal in goals for it in [*goal.below, goal])
+
+
 def unkept(goals):
     """Of crates and all below them those that aren't kept, or that stand on such a one, lowest first. One that stands on others may be
     found to be kept once these are built again."""
     wanted = {}
-    for crate in dict.fromkeys(it for goal in goals for it in [*goal.below, goal]):
+    for crate in reached(goals):
         if not wanted.keys().isdisjoint(crate.uses) or not crate.is_kept():
             wanted[crate] = None
     return list(wanted)
 
 
 def build_alone(goals, at_once):
+    for crate in reached(goals):
+        crate.look_again()
     wanted = unkept(goals)
     chain = chains(wanted)
     left = sorted(wanted, key=lambda it: -chain[it])

@@ -128,14 +128,18 @@ class Crate:
         """Whether what was made is there, as it was made, of what stands here and over what is kept of the crates below."""
         return self.result is not None and self.stamp_file.is_file() and self.stamp_file.read_text() == self.kept_stamp()
 
+    def look_again(self):
+        """Forgets what was seen of what was made: another run may make it anew."""
+        vars(self).pop("result", None)
+
     def keep(self):
         """Notes what was made."""
-        vars(self).pop("result", None)
+        self.look_again()
         self.stamp_file.write_text(self.kept_stamp())
 
     def forget(self):
         """Makes room for what will be made. A program stays until another takes its place."""
-        vars(self).pop("result", None)
+        self.look_again()
         self.stamp_file.unlink(missing_ok=True)
         if self.made.is_dir():
             shutil.rmtree(self.made)
