@@ -56,11 +56,13 @@ test-memory:
 	tests/process/memory.py $(PROGRAM) build/memory_cases crates/memory_cases/stdout
 
 # Compares what the process says and its status where files, standard streams and memory fail, what a terminal is told
-# (tests/process/cases.txt), and help and usage faults whole (those of crates/command_cases), and makes each call of the system in some
-# runs fail in turn (tests/process/calls.py). Needs Python 3, a C compiler, and the program that `make build` left.
+# (tests/process/cases.txt), and help and usage faults whole (those of crates/command_cases), makes each call of the system in some
+# runs fail in turn (tests/process/calls.py), and runs two at once (tests/process/together.py). Needs Python 3, a C compiler, and the
+# program that `make build` left.
 test-process:
 	tests/process/run.py $(PROGRAM)
 	tests/process/calls.py $(PROGRAM)
+	tests/process/together.py $(PROGRAM)
 
 # All that gets the filter to people: test-cups, test-batch and test-cupsd, and then the manual pages by their linter, the completions
 # in each shell, what file managers show of jobs, what the console blocks of the documents print and where their links lead, what
