@@ -7,7 +7,7 @@ use crate::places::{
     are_one, descriptor_of, folder_and_name, is_same_place, is_special, is_standard, place_of,
     state_of,
 };
-use crate::placing::Placing;
+use crate::placing::{Placing, place_one};
 use crate::troubles::{Access, Cause, Troubles};
 use pcl_files::{Descriptor, FileFault, FileKind, FileState, JobFiles};
 use std::cell::Cell;
@@ -217,9 +217,7 @@ impl<'a> JobFiles for SystemFiles<'a> {
     }
 
     fn place(&mut self, _name: &str, file: NewFile<'a>) -> Result<(), FileFault> {
-        let mut placing = Placing::new(self.rt);
-        placing.add(file);
-        placing.place()
+        place_one(self.rt, file)
     }
 
     fn place_both(

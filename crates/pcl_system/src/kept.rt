@@ -45,7 +45,7 @@ impl KeptFile {
         if !seen.unwrap_or(state).is(state) {
             return Err(Unmade::CHANGED);
         }
-        let earlier = Earlier::new(file, &there);
+        let earlier = Earlier::new(rt, place.as_str(), file, &there)?;
         let begun = None;
         Ok(KeptFile {
             earlier,

@@ -153,17 +153,19 @@ impl<'a> NewFile<'a> {
         let done = match &mut self.sink {
             Sink::Output(_) | Sink::Device(_) => Ok(()),
             Sink::Kept(kept) => kept.finish(rt),
-            Sink::Beside(part) => part.finish(rt),
+            Sink::Beside(part) => part.finish(),
         };
         Ok(self.called.came(done)?)
     }
 
     /// Takes its place for itself.
-    pub(crate) fn claim(&self) -> Result<Claim, FileFault> {
-        match &self.sink {
+    pub(crate) fn claim(&mut self) -> Result<Claim, FileFault> {
+        let rt = self.called.rt;
+        let claimed = match &mut self.sink {
             Sink::Output(_) | Sink::Device(_) | Sink::Kept(_) => Ok(Claim::Nothing),
-            Sink::Beside(part) => self.called.made(part.claim(self.called.rt)),
-        }
+            Sink::Beside(part) => part.claim(rt),
+        };
+        self.called.made(claimed)
     }
 
     /// Puts a finished file in its place.

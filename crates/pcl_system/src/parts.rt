@@ -31,6 +31,8 @@ pub(crate) struct Part {
     place: String,
     /// The one whose place it takes; none where nothing was there.
     earlier: Option<Earlier>,
+    /// The rights that it gets where nothing was there; none where the user's mask isn't known: then its owner alone has any.
+    rights: Option<u32>,
 }
 
 /// A file whose place another one takes.
@@ -40,6 +42,8 @@ pub(crate) struct Earlier {
     pub(crate) file: File,
     pub(crate) state: FileState,
     rights: u32,
+    /// The second name by which it is claimed, until then: nothing is asked of memory when files take their places.
+    claim: Option<String>,
 }
 
 /// Why a file isn't made, or isn't put in its place.
@@ -109,10 +113,10 @@ impl Part {
         seen: Option<FileState>,
     ) -> Result<Part, Unmade> {
         let file = opened_to_write(rt, place.as_str())?;
-        let state = seen.unwrap_or(state_of(there));
-        if !state.is(state_of(there)) {
+        if !seen.unwrap_or(state_of(there)).is(state_of(there)) {
             return Err(Unmade::CHANGED);
         }
+        let earlier = Earlier::new(rt, place.as_str(), file, there)?;
         let made = match create(rt, place.as_str()) {
             Ok(made) => made,
             Err(error) => return Err(denied(error, FileFault::Folder)),
@@ -125,16 +129,12 @@ impl Part {
             let _ = fs::remove_file(rt, &made.path);
             return Err(denied(error, FileFault::Owner));
         }
-        let rights = there.mode();
         Ok(Part {
             file: made.file,
             path: made.path,
             place,
-            earlier: Some(Earlier {
-                file,
-                state,
-                rights,
-            }),
+            earlier: Some(earlier),
+            rights: None,
         })
     }
 
@@ -151,6 +151,7 @@ impl Part {
         if fs::metadata(rt, name).is_ok() {
             return Err(Unmade::stated(FileFault::Nameless));
         }
+        let rights = mask(rt)?.map(|mask| new_rights(mask));
         let Made { file, path, .. } = create(rt, place.as_str())?;
         let earlier = None;
         Ok(Part {
@@ -158,25 +159,26 @@ impl Part {
             path,
             place,
             earlier,
+            rights,
         })
     }
 
     /// Gives the file its rights, and waits until all of it is on the disk.
-    pub(crate) fn finish(&self, rt: &HostRuntime) -> io::Result<()> {
+    pub(crate) fn finish(&self) -> io::Result<()> {
         match &self.earlier {
             Some(earlier) => {
                 let there = earlier.file.metadata()?;
                 let rights = kept_rights(earlier.rights, there.mode());
                 self.file.set_permissions(Permissions::from_mode(rights))?;
             }
-            None => give_new_rights(rt, &self.file)?,
+            None => give_new_rights(&self.file, self.rights)?,
         }
         self.file.sync_all()
     }
 
     /// Takes the place for itself: nobody else is putting a file there, and what was seen there is there.
-    pub(crate) fn claim(&self, rt: &HostRuntime) -> Result<Claim, Unmade> {
-        match &self.earlier {
+    pub(crate) fn claim(&mut self, rt: &HostRuntime) -> Result<Claim, Unmade> {
+        match &mut self.earlier {
             Some(earlier) => earlier.claim(rt, self.place.as_str()),
             None => Ok(Claim::Nothing),
         }
@@ -245,19 +247,28 @@ impl Claim {
 
 impl Earlier {
     /// Of a file that is open, and in this state.
-    pub(crate) fn new(file: File, there: &Metadata) -> Earlier {
-        Earlier {
+    pub(crate) fn new(
+        rt: &HostRuntime,
+        place: &str,
+        file: File,
+        there: &Metadata,
+    ) -> io::Result<Earlier> {
+        let state = state_of(there);
+        Ok(Earlier {
             file,
-            state: state_of(there),
+            state,
             rights: there.mode(),
-        }
+            claim: Some(part_path(rt, stem_of(place), state.number)?),
+        })
     }
 
     /// Takes the place of this file for one run alone, by a second name that ends in its number. While the run goes on the file has a
     /// lock, so that nobody takes that name for a leftover.
-    pub(crate) fn claim(&self, rt: &HostRuntime, place: &str) -> Result<Claim, Unmade> {
+    pub(crate) fn claim(&mut self, rt: &HostRuntime, place: &str) -> Result<Claim, Unmade> {
         let is_held = matches!(self.file.try_lock(), Err(TryLockError::WouldBlock));
-        let path = part_path(rt, stem_of(place), self.state.number)?;
+        let Some(path) = self.claim.take() else {
+            return Ok(Claim::Unlinked);
+        };
         let claim = match fs::hard_link(rt, place, &path) {
             Ok(()) => Claim::Linked(path),
             Err(error) if error.kind() == ErrorKind::AlreadyExists => {
@@ -394,12 +405,12 @@ fn give_to_owner(file: &File, other: &Metadata) -> io::Result<()> {
     fchown(file, Some(other.uid()), Some(other.gid()))
 }
 
-/// Gives a new file the rights that the user's mask leaves. Where that isn't known its owner alone has any.
-fn give_new_rights(rt: &HostRuntime, file: &File) -> io::Result<()> {
-    let Some(mask) = mask(rt)? else {
+/// Gives a new file these rights, where they are known.
+fn give_new_rights(file: &File, rights: Option<u32>) -> io::Result<()> {
+    let Some(rights) = rights else {
         return Ok(());
     };
-    match file.set_permissions(Permissions::from_mode(new_rights(mask))) {
+    match file.set_permissions(Permissions::from_mode(rights)) {
         // a file system may give all files the same rights
         Err(error) if error.kind() == ErrorKind::PermissionDenied => Ok(()),
         done => done,

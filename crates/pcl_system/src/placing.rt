@@ -19,6 +19,24 @@ struct Claimed<'a> {
     claim: Claim,
 }
 
+/// Puts a file in its place, and asks nothing of memory. After an error it isn't there, and what was there stays.
+pub(crate) fn place_one(rt: &HostRuntime, mut file: NewFile<'_>) -> Result<(), FileFault> {
+    let mut claim = Claim::Nothing;
+    let done = try_to_place(&mut file, &mut claim);
+    if done.is_err() {
+        file.take_back(&claim);
+    }
+    claim.let_go(rt);
+    done
+}
+
+/// Finishes a file, takes its place for this run, and puts it there.
+fn try_to_place(file: &mut NewFile<'_>, claim: &mut Claim) -> Result<(), FileFault> {
+    file.finish()?;
+    *claim = file.claim()?;
+    file.put()
+}
+
 impl<'a> Placing<'a> {
     /// Of no file.
     pub(crate) fn new(rt: &'a HostRuntime) -> Placing<'a> {
