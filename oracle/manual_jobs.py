@@ -654,7 +654,7 @@ def names(job):
         prefix = prefix.group() if prefix else ""
         for value, letter in re.findall(r"([-+]?[0-9.]*)([@-^`-~])", body[len(prefix):]) if prefix else [("", body)]:
             found.add(prefix + letter.upper())
-    return found - {"*pX", "*pY", "*tR", "*rA", "*bW", "*rB", "*rC", "*cA", "*cB", "*cP", "*bM"}
+    return found - {"*pX", "*pY", "*tR", "*rA", "*bW", "*rB", "*rC", "*cA", "*cB", "*cP"}
 
 
 class Asked:
