@@ -6,7 +6,7 @@ use Rattle.pcl_base.specs.declared.operation.Axis.TheVariants.{Horizontal, Verti
 use Rattle.pcl_base.specs.declared.operation.Unit.TheVariants.{PclUnit, Decipoint, Column}
 use Rattle.pcl_base.specs.declared.operation.Side.TheVariants.{Primary, Secondary}
 use Rattle.pcl_base.specs.declared.operation.Asking.{Asking}
-use Rattle.pcl_base.specs.declared.operation.Asking.TheVariants.{Sides, OutputBin, MediaType, PaperSource, SheetSide, PageLength, LeftOffset, TopOffset, JobSeparation, TextScale, PrintQuality, Shingling, Depletion, RasterQuality}
+use Rattle.pcl_base.specs.declared.operation.Asking.TheVariants.{Sides, OutputBin, MediaType, PaperSource, SheetSide, PageLength, Orientation, LeftOffset, TopOffset, JobSeparation, TextScale, PrintQuality, Shingling, Depletion, RasterQuality}
 use Rattle.pcl_base.specs.declared.operation.Operation.{Operation}
 use Rattle.pcl_base.specs.declared.operation.Operation.TheVariants.{Reset, UniversalExit, ClearMargins, HalfLineFeed, HorizontalTab, LineFeed, FormFeed, CarriageReturn, Shift, PageSize, Copies, VerticalMotionIndex, LineSpacing, TopMargin, TextLength, PerforationSkip, OnlyZero, Ask, UnitOfMeasure, HorizontalMotionIndex, LineTermination, LeftMargin, Move, CursorStack, MacroId, ControlMacros, RectangleSize, FillRectangle, FontId, CharacterCode, ControlFonts, DownloadFont, DownloadCharacter, SelectFont, PrintText, RasterResolution, RasterWidth, RasterHeight, RasterPresentation, StartRaster, EndRaster, EndRasterResetMethod, RasterMethod, SeedRowSource, RasterOffset, RasterRow, NoEffect}
 use Rattle.pcl_base.specs.declared.profile.Profile.{Profile}
@@ -51,7 +51,7 @@ operations =
     (named (codes "&lE"), TopMargin) ∷
     (named (codes "&lF"), TextLength) ∷
     (named (codes "&lL"), PerforationSkip) ∷
-    (named (codes "&lO"), OnlyZero) ∷
+    (named (codes "&lO"), Ask Orientation) ∷
     (named (codes "&lU"), Ask LeftOffset) ∷
     (named (codes "&lZ"), Ask TopOffset) ∷
     (named (codes "&lH"), Ask PaperSource) ∷

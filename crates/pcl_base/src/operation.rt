@@ -49,6 +49,8 @@ pub enum Asking {
     SheetSide,
     /// The length of the page in lines, by which printers choose a paper ("Page Length").
     PageLength,
+    /// Which way round the page lies on its sheet ("Logical Page Orientation").
+    Orientation,
     /// How far the page is moved to the right on its sheet ("Left Offset Registration").
     LeftOffset,
     /// How far the page is moved down on its sheet ("Top Offset Registration").
@@ -82,6 +84,7 @@ impl Asking {
             | Asking::PaperSource
             | Asking::SheetSide
             | Asking::PageLength
+            | Asking::Orientation
             | Asking::LeftOffset
             | Asking::TopOffset => true,
             Asking::JobSeparation
@@ -129,7 +132,7 @@ pub enum Operation {
     TextLength,
     /// Sets whether a line feed skips the bottom margin ("Perforation Skip").
     PerforationSkip,
-    /// Takes 0 alone and does nothing: orientation, print direction, transparency.
+    /// Takes 0 alone and does nothing: print direction, transparency.
     OnlyZero,
     /// Asks something of the printer besides dots; a paper source and a side of the sheet eject a marked page.
     Ask(Asking),
@@ -225,7 +228,7 @@ impl Operation {
             Name::Three(b'&', b'l', b'E') => Operation::TopMargin,
             Name::Three(b'&', b'l', b'F') => Operation::TextLength,
             Name::Three(b'&', b'l', b'L') => Operation::PerforationSkip,
-            Name::Three(b'&', b'l', b'O') => Operation::OnlyZero,
+            Name::Three(b'&', b'l', b'O') => Operation::Ask(Asking::Orientation),
             Name::Three(b'&', b'l', b'U') => Operation::Ask(Asking::LeftOffset),
             Name::Three(b'&', b'l', b'Z') => Operation::Ask(Asking::TopOffset),
             Name::Three(b'&', b'l', b'H') => Operation::Ask(Asking::PaperSource),

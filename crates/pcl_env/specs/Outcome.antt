@@ -7,7 +7,7 @@ use Rattle.pcl_base.specs.declared.dpi.Dpi.TheVariants.{Dpi300, Dpi600}
 use Rattle.pcl_base.specs.declared.method.Method.{Method}
 use Rattle.pcl_base.specs.declared.method.Method.TheVariants.{Plain}
 use Rattle.pcl_base.specs.declared.operation.Asking.{Asking}
-use Rattle.pcl_base.specs.declared.operation.Asking.TheVariants.{PaperSource, SheetSide, LeftOffset, TopOffset}
+use Rattle.pcl_base.specs.declared.operation.Asking.TheVariants.{PaperSource, SheetSide, Orientation, LeftOffset, TopOffset}
 use Rattle.pcl_base.specs.declared.operation.Axis.{Axis}
 use Rattle.pcl_base.specs.declared.operation.Axis.TheVariants.{Horizontal, Vertical}
 use Rattle.pcl_base.specs.declared.operation.Unit.{Unit as Measure}
@@ -186,8 +186,9 @@ abbrev pub is_offset_taken : Profile → Value → Bool → Option ℤ → Bool
 is_offset_taken Stated v m said = whole_of v == 0
 is_offset_taken Drivers v m said = not m || int_eq (page_offset v) (lies_at said)
 
--- the value is taken of what is asked: of an offset as the profile and the page allow, else any
+-- the value is taken of what is asked: of the orientation portrait alone, of an offset as the profile and the page allow, else any
 abbrev pub is_asking_taken : Asking → Value → Bool → Settings → Bool
+is_asking_taken Orientation v m s = whole_of v == 0
 is_asking_taken LeftOffset v m s = is_offset_taken s.profile v m s.asked.left_offset
 is_asking_taken TopOffset v m s = is_offset_taken s.profile v m s.asked.top_offset
 is_asking_taken other v m s = true

@@ -4,7 +4,7 @@ use Rattle.std.specs.Ordering.{int_eq}
 use Rattle.pcl_base.specs.declared.method.Method.{Method}
 use Rattle.pcl_base.specs.declared.method.Method.TheVariants.{Plain}
 use Rattle.pcl_base.specs.declared.operation.Asking.{Asking}
-use Rattle.pcl_base.specs.declared.operation.Asking.TheVariants.{Sides, OutputBin, MediaType, PaperSource, SheetSide, PageLength, LeftOffset, TopOffset, JobSeparation, TextScale, PrintQuality, Shingling, Depletion, RasterQuality}
+use Rattle.pcl_base.specs.declared.operation.Asking.TheVariants.{Sides, OutputBin, MediaType, PaperSource, SheetSide, PageLength, Orientation, LeftOffset, TopOffset, JobSeparation, TextScale, PrintQuality, Shingling, Depletion, RasterQuality}
 use Rattle.pcl_base.specs.declared.operation.Side.{Side}
 use Rattle.pcl_base.specs.declared.operation.Side.TheVariants.{Primary, Secondary}
 use Rattle.pcl_base.specs.declared.profile.Profile.{Profile}
@@ -107,6 +107,7 @@ nothing_asked = record {
   copies = None;
   page_size = None;
   page_length = None;
+  orientation = None;
   sides = None;
   output_bin = None;
   media_type = None;
@@ -129,6 +130,7 @@ asked_with MediaType v vmi asked = record asked { media_type = Some (signed_whol
 asked_with PaperSource v _ asked = if int_eq (signed_whole v) (pos 0) then asked else record asked { paper_source = Some (signed_whole v) }
 asked_with SheetSide v vmi asked = asked
 asked_with PageLength v vmi asked = record asked { page_length = Some (signed_whole v *ℤ pos vmi) }
+asked_with Orientation v vmi asked = record asked { orientation = Some (signed_whole v) }
 asked_with LeftOffset v vmi asked = record asked { left_offset = Some (page_offset v) }
 asked_with TopOffset v vmi asked = record asked { top_offset = Some (page_offset v) }
 asked_with JobSeparation v vmi asked = asked

@@ -19,6 +19,8 @@ pub struct Asked {
     /// The length of the page, `&lP`, in units of 1/7200 inch: as many lines as the value says, of the line spacing that was set then.
     /// Nothing where a page size was said after it.
     pub page_length: Option<i64>,
+    /// Which way round the page lies on its sheet, `&lO`.
+    pub orientation: Option<i64>,
     /// One side or both, `&lS`.
     pub sides: Option<i64>,
     /// Where printed sheets go, `&lG`.
@@ -50,6 +52,7 @@ impl Asked {
         copies: None,
         page_size: None,
         page_length: None,
+        orientation: None,
         sides: None,
         output_bin: None,
         media_type: None,
@@ -86,6 +89,10 @@ impl Asked {
             Asking::SheetSide | Asking::JobSeparation => self,
             Asking::PageLength => Asked {
                 page_length: Some(whole * i64::from(line_spacing)),
+                ..self
+            },
+            Asking::Orientation => Asked {
+                orientation: Some(whole),
                 ..self
             },
             Asking::LeftOffset => Asked {

@@ -87,6 +87,7 @@ impl Env {
             | Asking::OutputBin
             | Asking::MediaType
             | Asking::PageLength
+            | Asking::Orientation
             | Asking::LeftOffset
             | Asking::TopOffset
             | Asking::JobSeparation
@@ -105,6 +106,7 @@ impl Env {
     {
         let profile = self.setup.profile;
         match what {
+            Asking::Orientation => value.whole() == 0,
             Asking::LeftOffset => {
                 is_offset_taken(profile, value, is_marked, self.setup.asked.left_offset)
             }
