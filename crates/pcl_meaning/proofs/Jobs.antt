@@ -1,6 +1,6 @@
 -- Whole jobs of page texts are accepted, and mean the pages of the texts.
-use Rattle.std.proofs.Common.{◌≡◌, ℕ, ◌+◌, ◌*◌, ◌<◌, ◌≤◌, List, [], ◌∷◌, ◌++◌, length, map, Option, None, refl, sym, ap, subst, ◌∙◌, append_assoc, append-nil, length-append, arith, lit≤, false}
-use Rattle.pcl_meaning.proofs.Names.{flat_map, nat_tests, Dpi, Profile, Stated, Size, Refusal, macro_limit, command_limit, page_limit, page_width, page_height, page_row_bytes, height_small, commands_of, IsReading, Settings, defaults, Page, Temporary, control, pages_fit, Mark, is_black, Sheet, Situation, at_start, at_end, Shows, Performance, done, unless, then_on, runs, after_all, end_refusal, after_end, pages_of, asks_among, HasPagesBy, HasAsksBy, performance, Token, command_count, token_bytes, start_bytes, end_bytes, frame_bytes, IsPageText, bitmap_rows, IsWrittenPage, AreAlike, AllAlike, PrintEach, most_commands, of_job, said_for, page_said, first_page, next_page, PageStart, dot_of_rows, job_of, MeansRows}
+use Rattle.std.proofs.Common.{◌≡◌, ℕ, ◌+◌, ◌*◌, ◌<◌, ◌≤◌, true, List, [], ◌∷◌, ◌++◌, length, map, Option, None, refl, sym, ap, subst, ◌∙◌, append_assoc, append-nil, length-append, arith, lit≤, false}
+use Rattle.pcl_meaning.proofs.Names.{flat_map, nat_tests, Dpi, Profile, Stated, Size, Refusal, macro_limit, command_limit, page_limit, page_width, page_height, page_row_bytes, height_small, commands_of, IsReading, Settings, defaults, Page, Temporary, control, pages_fit, Mark, is_black, Sheet, Situation, at_start, at_end, Shows, Performance, done, unless, then_on, runs, after_all, end_refusal, after_end, pages_of, asks_among, HasPagesBy, HasAsksBy, performance, Token, command_count, token_bytes, start_bytes, end_bytes, frame_bytes, IsPageText, bitmap_rows, IsWrittenPage, AreAlike, AllAlike, PrintEach, most_commands, of_job, said_for, page_said, later_said, first_page, PageStart, dot_of_rows, job_of, MeansRows}
 use Rattle.pcl_env.specs.Outcome.{outcome}
 use Rattle.pcl_macros.specs.declared.table.MacroControl.TheVariants as macros
 use Rattle.pcl_macros.specs.History.{control as macro_control}
@@ -40,7 +40,7 @@ closed profile pages n =
     record (between (defaults profile) pages n) {
       fonts = control Temporary 0 0 ∷ reset_fonts;
       macros = macro_control macros.Temporary 0 ∷ reset_macros;
-      asks = said_for pages;
+      asks = record (said_for pages) { is_reset = true };
     }
 
 -- the end of the input changes nothing after a reset
@@ -179,10 +179,10 @@ page_alike : {dpi : Dpi} {sheet other : Sheet} (start : PageStart) → AreAlike 
 page_alike start alike = rw (alike.size, alike.copies) refl
 
 pages_alike : (dpi : Dpi) (meant again : List Sheet) → AllAlike dpi meant again
-    → map (page_said next_page) again ≡ map (page_said next_page) meant
+    → map later_said again ≡ map later_said meant
 pages_alike dpi [] [] a = refl
 pages_alike dpi (sheet ∷ meant) (other ∷ again) a =
-    let one = page_alike next_page a.0 in
+    let one : later_said other ≡ later_said sheet = rw (a.0.size, a.0.copies) refl in
     let more = pages_alike dpi meant again a.1 in cc
 pages_alike dpi meant again a = absurd a
 

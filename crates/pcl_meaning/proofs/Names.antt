@@ -20,8 +20,8 @@ pub use Rattle.pcl_output.proofs.Names.{AreWhite, IsPageText, IsRowOf, IsSpelled
 pub use Rattle.pcl_output.specs.{Tokens.letter}
 pub use Rattle.pcl_output.proofs.{Numbers.decimal_spelled}
 pub use Rattle.pcl_page.proofs.{Keeping.after_adds, Keeping.then_from, Steps.checked_as, Turns.pages_fit}
-pub use Rattle.pcl_page.specs.{Asks.first_page, Asks.next_page, Asks.of_job}
+pub use Rattle.pcl_page.specs.{Asks.first_page, Asks.next_page, Asks.of_job, Asks.with_said_size}
 pub use Rattle.pcl_page.specs.declared.{asks.PageStart.PageStart}
 pub use Rattle.pcl_page.proofs.Names.{AllAlike, AreAlike, Asks, HasAsksBy, HasPages, HasPagesBy, Mark, Performance, Raster, Run, Sheet, Shows, Situation, after_all, after_checked, after_command, after_end, asks_among, at_start, at_end, bytes_of_width, cleared_past, done, dot_at, drawn_on, end_refusal, ends_raster, first_bits, in_order, is_black, after_macros, page_limit, pages_of, performance, raster_from, row_mark, row_sent, run_from, run_of, runs, scale_of, step, then_on, unless, with_page}
 pub use Rattle.pcl_writer.proofs.Names.{IsWrittenPage}
-pub use Rattle.pcl_meaning.specs.{JobTexts.IsJobOf, JobTexts.IsJobOfBy, JobTexts.IsLeastJobText, JobTexts.PrintEach, JobTexts.PrintsShortest, JobTexts.most_commands, JobTexts.page_said, JobTexts.said_for, JobTexts.sheet_said, PageTexts.MeansRows, PageTexts.dot_of_rows, PageTexts.job_of}
+pub use Rattle.pcl_meaning.specs.{JobTexts.IsJobOf, JobTexts.IsJobOfBy, JobTexts.IsLeastJobText, JobTexts.PrintEach, JobTexts.PrintsShortest, JobTexts.later_said, JobTexts.most_commands, JobTexts.page_said, JobTexts.said_for, JobTexts.sheet_said, PageTexts.MeansRows, PageTexts.dot_of_rows, PageTexts.job_of}

@@ -1,9 +1,9 @@
 -- Job texts that print pages, the least of them, and a job written again.
-use Rattle.std.specs.Prelude.{◌≡◌, ℕ, ◌+◌, ◌*◌, ◌≤◌, List, [], ◌∷◌, ◌++◌, length, map}
+use Rattle.std.specs.Prelude.{◌≡◌, ℕ, pos, ◌+◌, ◌*◌, ◌≤◌, List, [], ◌∷◌, ◌++◌, length, map, Some}
 use Rattle.pcl_base.specs.declared.dpi.Dpi.{Dpi}
 use Rattle.pcl_base.specs.declared.profile.Profile.{Profile}
 use Rattle.pcl_base.specs.declared.profile.Profile.TheVariants.{Stated}
-use Rattle.pcl_base.specs.Size.{page_height}
+use Rattle.pcl_base.specs.Size.{code_of, page_height}
 use Rattle.pcl_bitmap.specs.declared.page.Page.{Page}
 use Rattle.pcl_env.specs.declared.asked.Asked.{Asked}
 use Rattle.pcl_env.specs.Settings.{nothing_asked, copies_said, size_said}
@@ -58,9 +58,13 @@ sheet_said sheet = size_said sheet.size (copies_said sheet.copies nothing_asked)
 abbrev pub page_said : PageStart → Sheet → AskedPage
 page_said start sheet = record { said = sheet_said sheet; start = start }
 
+-- a page text after another one says its size between the two pages
+abbrev pub later_said : Sheet → AskedPage
+later_said sheet = page_said (record next_page { size = Some (pos (code_of sheet.size)) }) sheet
+
 abbrev pub pages_said : List Sheet → List AskedPage
 pages_said [] = []
-pages_said (sheet ∷ sheets) = page_said first_page sheet ∷ map (page_said next_page) sheets
+pages_said (sheet ∷ sheets) = page_said first_page sheet ∷ map later_said sheets
 
 -- what a job text of these pages asks for: what each page text says, without a reset between them, and nothing else
 abbrev pub said_for : List Sheet → Asks

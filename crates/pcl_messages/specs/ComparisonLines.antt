@@ -17,7 +17,7 @@ use Rattle.pcl_same.specs.declared.comparison.ExitDifference.TheVariants as exit
 use Rattle.pcl_same.specs.declared.comparison.AskedDifference.{AskedDifference}
 use Rattle.pcl_same.specs.declared.comparison.AskedDifference.TheVariants as asked
 use Rattle.pcl_same.specs.declared.comparison.Setting.{Setting}
-use Rattle.pcl_same.specs.declared.comparison.Setting.TheVariants.{Copies, PageSize, PageLength, Sides, OutputBin, MediaType, PaperSource, LeftOffset, TopOffset, TextScale, PrintQuality, Shingling, Depletion, RasterQuality, SheetSide}
+use Rattle.pcl_same.specs.declared.comparison.Setting.TheVariants.{Copies, PageSize, PageLength, Orientation, Sides, OutputBin, MediaType, PaperSource, LeftOffset, TopOffset, TextScale, PrintQuality, Shingling, Depletion, RasterQuality, SheetSide, SizeAgain, SidesAgain, SourceAgain}
 use Rattle.pcl_same.specs.declared.comparison.SettingDifference.{SettingDifference}
 use Rattle.pcl_same.specs.declared.comparison.Difference.{Difference}
 use Rattle.pcl_same.specs.declared.comparison.Difference.TheVariants as difference
@@ -51,6 +51,7 @@ abbrev pub setting_label : Setting → List ℕ
 setting_label Copies = codes "copies "
 setting_label PageSize = codes "size "
 setting_label PageLength = codes "length "
+setting_label Orientation = codes "orientation "
 setting_label Sides = codes "sides "
 setting_label OutputBin = codes "bin "
 setting_label MediaType = codes "media "
@@ -63,6 +64,9 @@ setting_label Shingling = codes "shingling "
 setting_label Depletion = codes "depletion "
 setting_label RasterQuality = codes "raster quality "
 setting_label SheetSide = codes "side "
+setting_label SizeAgain = codes "size again "
+setting_label SidesAgain = codes "sides again "
+setting_label SourceAgain = codes "source again "
 
 -- an offset in decipoints with its decimals, all others as whole numbers
 abbrev pub number_text : Setting → ℤ → List ℕ
@@ -85,6 +89,7 @@ asked_text (asked.Setting difference) = setting_text difference
 
 abbrev pub exit_text : ExitDifference → List ℕ
 exit_text (exit.Place first second) = pair_text (codes "pages before ") (decimal first) (decimal second)
+exit_text exit.Reset = codes "reset"
 exit_text exit.Lines = codes "lines"
 
 abbrev pub asks_text : AsksDifference → List ℕ

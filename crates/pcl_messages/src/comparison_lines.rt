@@ -132,6 +132,7 @@ fn append_number(setting: Setting, value: i64, line: &mut Vec<u8>) -> Result<(),
         Setting::Copies
         | Setting::PageSize
         | Setting::PageLength
+        | Setting::Orientation
         | Setting::Sides
         | Setting::OutputBin
         | Setting::MediaType
@@ -141,7 +142,10 @@ fn append_number(setting: Setting, value: i64, line: &mut Vec<u8>) -> Result<(),
         | Setting::Shingling
         | Setting::Depletion
         | Setting::RasterQuality
-        | Setting::SheetSide => line.extend_from_slice(Buffer::new().format(value).as_bytes()),
+        | Setting::SheetSide
+        | Setting::SizeAgain
+        | Setting::SidesAgain
+        | Setting::SourceAgain => line.extend_from_slice(Buffer::new().format(value).as_bytes()),
     }
 }
 
@@ -153,6 +157,7 @@ fn setting_label(setting: Setting) -> &'static [u8]
         Setting::Copies => b"copies ",
         Setting::PageSize => b"size ",
         Setting::PageLength => b"length ",
+        Setting::Orientation => b"orientation ",
         Setting::Sides => b"sides ",
         Setting::OutputBin => b"bin ",
         Setting::MediaType => b"media ",
@@ -165,6 +170,9 @@ fn setting_label(setting: Setting) -> &'static [u8]
         Setting::Depletion => b"depletion ",
         Setting::RasterQuality => b"raster quality ",
         Setting::SheetSide => b"side ",
+        Setting::SizeAgain => b"size again ",
+        Setting::SidesAgain => b"sides again ",
+        Setting::SourceAgain => b"source again ",
     }
 }
 
@@ -179,6 +187,7 @@ fn append_exit(difference: ExitDifference, line: &mut Vec<u8>) -> Result<(), All
             Buffer::new().format(second).as_bytes(),
             line,
         ),
+        ExitDifference::Reset => line.extend_from_slice(b"reset"),
         ExitDifference::Lines => line.extend_from_slice(b"lines"),
     }
 }

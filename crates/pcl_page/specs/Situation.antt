@@ -5,9 +5,9 @@ use Rattle.pcl_base.specs.declared.dpi.Dpi.{Dpi}
 use Rattle.pcl_base.specs.declared.kind.Kind.{Kind}
 use Rattle.pcl_base.specs.declared.kind.Kind.TheVariants.{UnsupportedCommand, UnsupportedValue, TooManyCommands, TooManyPages}
 use Rattle.pcl_base.specs.declared.operation.Asking.{Asking}
-use Rattle.pcl_base.specs.declared.operation.Asking.TheVariants.{Sides, MediaType, SheetSide, JobSeparation}
+use Rattle.pcl_base.specs.declared.operation.Asking.TheVariants.{Sides, MediaType, PaperSource, SheetSide, Orientation, JobSeparation}
 use Rattle.pcl_base.specs.declared.operation.Operation.{Operation}
-use Rattle.pcl_base.specs.declared.operation.Operation.TheVariants.{Reset, UniversalExit, Ask, FillRectangle, ControlFonts, DownloadFont, DownloadCharacter, SelectFont, PrintText, StartRaster, RasterOffset, RasterRow}
+use Rattle.pcl_base.specs.declared.operation.Operation.TheVariants.{Reset, UniversalExit, PageSize, Ask, FillRectangle, ControlFonts, DownloadFont, DownloadCharacter, SelectFont, PrintText, StartRaster, RasterOffset, RasterRow}
 use Rattle.pcl_base.specs.declared.profile.Profile.{Profile}
 use Rattle.pcl_base.specs.declared.size.Size.{Size}
 use Rattle.pcl_base.specs.declared.value.Value.{Value}
@@ -30,7 +30,7 @@ use Rattle.pcl_fonts.specs.Fields.{Font, Character, info_of}
 use Rattle.pcl_fonts.specs.History.{FontEvent, header, character, control, font_after, has_permanent as is_font_permanent}
 use Rattle.pcl_macros.specs.History.{MacroEvent, has_permanent as is_macro_permanent}
 use Rattle.pcl_macros.specs.Table.{Begun}
-use Rattle.pcl_page.specs.Asks.{Asks, no_asks, with_page, with_exit, restarted, with_side, with_separation, lasting_if}
+use Rattle.pcl_page.specs.Asks.{Asks, no_asks, with_page, with_exit, with_reset, restarted, with_side, with_said_size, with_said_sides, with_said_source, with_separation, lasting_if}
 use Rattle.pcl_page.specs.Marks.{Mark, are_marked, dot_at, dots_of}
 use Rattle.pcl_page.specs.Text.{control_of, select_by_id, header_refusal, character_refusal, text_refusal, prints, character_mark, after_character, after_blank}
 use Rattle.pcl_page.specs.Raster.{Raster, raster_from, skipped, row_sent, with_row, row_mark, is_ignored_in_raster, ends_raster}
@@ -199,19 +199,21 @@ text_in dpi codes (Some font) s = codes_printed dpi font (prints s.fonts (font_i
 
 -- a universal exit with these lines was performed
 abbrev pub exited : List ℕ → Situation → Situation
-exited lines s = record s { asks = with_exit (record { pages = length s.pages; lines = lines }) s.asks }
+exited lines s = record s { asks = with_exit (length s.pages) lines s.asks }
 
 -- the printer is put back to its defaults, besides what is set: a reset deletes the temporary fonts
 abbrev pub put_back : Situation → Situation
 put_back s = with_event (control Temporary 0 0) (record s { asks = restarted s.asks })
 
--- the next page is asked for on this side of a sheet; sides and a media type eject a marked page on some printers, and what only drivers
--- ask holds for all of a page
+-- the next page is asked for on this side of a sheet, or from this source; sides, a media type and an orientation eject a marked page on
+-- some printers, and what only drivers ask holds for all of a page
 abbrev pub asked_for : Asking → Value → Situation → Situation
 asked_for SheetSide value s = record s { asks = with_side (signed_whole value) s.asks }
+asked_for PaperSource value s = record s { asks = with_said_source (signed_whole value) s.asks }
 asked_for JobSeparation value s = with_lasting (is_marked s) (record s { asks = with_separation (signed_whole value) s.asks })
-asked_for Sides value s = with_lasting (is_marked s) s
+asked_for Sides value s = with_lasting (is_marked s) (record s { asks = with_said_sides (signed_whole value) s.asks })
 asked_for MediaType value s = with_lasting (is_marked s) s
+asked_for Orientation value s = with_lasting (is_marked s) s
 asked_for other value s = if is_stated other then s else with_lasting (is_marked s) s
 
 -- ---- what a command draws
@@ -219,8 +221,9 @@ asked_for other value s = if is_stated other then s else with_lasting (is_marked
 -- What a command draws, or does to the raster and to fonts. A row is sent to the raster that has begun; outside a raster it starts one at
 -- the page's left edge. It marks the page, and becomes the seed row.
 abbrev pub drawn : Dpi → Operation → Said → Situation → Situation
-drawn dpi Reset command s = put_back s
+drawn dpi Reset command s = put_back (record s { asks = with_reset s.asks })
 drawn dpi UniversalExit command s = put_back (exited command.bytes s)
+drawn dpi PageSize command s = record s { asks = with_said_size (signed_whole command.value) s.asks }
 drawn dpi (Ask what) command s = asked_for what command.value s
 drawn dpi ControlFonts command s = fonts_controlled (control_of command.value) s
 drawn dpi DownloadFont command s = with_font command.bytes s

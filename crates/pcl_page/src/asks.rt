@@ -1,7 +1,7 @@
 //! What a job asks of the printer besides dots.
 
 ghost use Rattle.std.specs.Prelude.{◌≡◌, OnOk};
-ghost use Rattle.pcl_page.specs.Asks.{no_asks, with_page, with_exit, restarted, with_side, with_separation, lasting_if, of_job, asks_of};
+ghost use Rattle.pcl_page.specs.Asks.{no_asks, with_page, with_exit, with_reset, restarted, with_side, with_said_size, with_said_sides, with_said_source, with_separation, lasting_if, of_job, asks_of};
 
 use pcl_env::Asked;
 use std::alloc::{AllocError, Global};
@@ -13,6 +13,12 @@ pub struct PageStart {
     pub is_first: bool,
     /// The side of the sheet that was asked for since the page before it, `&aG`, if one was: the last one.
     pub sheet_side: Option<i64>,
+    /// The number of the page size that was said since the page before it, `&lA`; nothing for a first page.
+    pub size: Option<i64>,
+    /// The sides that were said since then, `&lS`; nothing for a first page.
+    pub sides: Option<i64>,
+    /// The paper source that was said since then, `&lH` but 0; nothing for a first page.
+    pub source: Option<i64>,
 }
 
 impl PageStart {
@@ -20,12 +26,18 @@ impl PageStart {
     pub const FIRST: PageStart = PageStart {
         is_first: true,
         sheet_side: None,
+        size: None,
+        sides: None,
+        source: None,
     };
 
     /// What an ejected page leaves.
     pub const NEXT: PageStart = PageStart {
         is_first: false,
         sheet_side: None,
+        size: None,
+        sides: None,
+        source: None,
     };
 }
 
@@ -43,6 +55,8 @@ pub struct AskedPage {
 pub struct Exit<'a> {
     /// How many pages were ejected before it, among them the one that it ejects itself.
     pub pages: u32,
+    /// Whether a reset was performed between the page or the exit before it and itself.
+    pub is_reset: bool,
     /// The lines of the printer's job language after it: a slice of the job.
     pub lines: &'a [u8],
 }
@@ -56,6 +70,8 @@ pub struct Asks<'a> {
     pub exits: Vec<Exit<'a>>,
     /// How the next page would begin.
     pub next: PageStart,
+    /// Whether a reset was performed since the last page or universal exit.
+    pub is_reset: bool,
     /// How the job is separated from the next, `&lT`, where that is said once, after the last page and before a reset.
     pub separation: Option<i64>,
     /// Whether a command counts on fonts or macros that stay in the printer, or changes these, ejects a page on some printers, or
@@ -74,6 +90,7 @@ impl<'a> Asks<'a> {
             pages: Vec::new(alloc),
             exits: Vec::new(alloc),
             next: PageStart::FIRST,
+            is_reset: false,
             separation: None,
             lasts: false,
             whole: &[],
@@ -89,6 +106,7 @@ impl<'a> Asks<'a> {
             start: self.next,
         })?;
         self.next = PageStart::NEXT;
+        self.is_reset = false;
         let is_separated = self.separation.is_some();
         self.last_if(is_separated);
         Ok(())
@@ -96,10 +114,22 @@ impl<'a> Asks<'a> {
 
     /// One universal exit more was performed.
     pub(crate) fn push_exit(&mut self, pages: u32, lines: &'a [u8]) -> Result<(), AllocError>
-        ensures { OnOk result (asks_of self.new ≡ with_exit record { pages = pages; lines = lines.now } (asks_of self.old)) }
+        ensures { OnOk result (asks_of self.new ≡ with_exit pages lines.now (asks_of self.old)) }
     {
-        self.exits.push(Exit { pages, lines })?;
+        self.exits.push(Exit {
+            pages,
+            is_reset: self.is_reset,
+            lines,
+        })?;
+        self.is_reset = false;
         Ok(())
+    }
+
+    /// A reset was performed.
+    pub(crate) fn reset(&mut self)
+        ensures { asks_of self.new ≡ with_reset (asks_of self.old) }
+    {
+        self.is_reset = true;
     }
 
     /// The printer was put back to its defaults.
@@ -114,6 +144,33 @@ impl<'a> Asks<'a> {
         ensures { asks_of self.new ≡ with_side side (asks_of self.old) }
     {
         self.next.sheet_side = Some(side);
+    }
+
+    /// The size with this number was said.
+    pub(crate) fn say_size(&mut self, size: i64)
+        ensures { asks_of self.new ≡ with_said_size size (asks_of self.old) }
+    {
+        if !self.next.is_first {
+            self.next.size = Some(size);
+        }
+    }
+
+    /// These sides were said.
+    pub(crate) fn say_sides(&mut self, sides: i64)
+        ensures { asks_of self.new ≡ with_said_sides sides (asks_of self.old) }
+    {
+        if !self.next.is_first {
+            self.next.sides = Some(sides);
+        }
+    }
+
+    /// This paper source was said; 0 is none.
+    pub(crate) fn say_source(&mut self, source: i64)
+        ensures { asks_of self.new ≡ with_said_source source (asks_of self.old) }
+    {
+        if source != 0 && !self.next.is_first {
+            self.next.source = Some(source);
+        }
     }
 
     /// Jobs are separated by this value. That is kept where it is said once, before the printer is put back after a page.
@@ -140,6 +197,7 @@ impl<'a> Asks<'a> {
         let whole: &'a [u8] = if self.lasts { job } else { &[] };
         Asks {
             next: PageStart::FIRST,
+            is_reset: false,
             whole,
             ..self
         }

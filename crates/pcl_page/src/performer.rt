@@ -62,7 +62,7 @@ impl<'a> Performer<'a> {
     ghost use Rattle.pcl_fonts.specs.History.{FontEvent, has_permanent};
     ghost use Rattle.pcl_fonts.specs.Table.{Holds};
     ghost use Rattle.pcl_macros.specs.History.{has_permanent as is_kept};
-    ghost use Rattle.pcl_page.specs.Asks.{asks_of, restarted, with_separation, lasting_if};
+    ghost use Rattle.pcl_page.specs.Asks.{asks_of, restarted, with_reset, with_said_sides, with_separation, lasting_if};
     ghost use Rattle.pcl_bitmap.specs.declared.page.Page.{Page};
     ghost use Rattle.pcl_page.specs.inner.Reflecting.{IsIn, IsPrepared, HasRaster, Takes, IsFollowed, IsEjected, IsDrawn, Draws, IsSent, IsTurned, IsHandled, EndDone};
 
@@ -300,8 +300,9 @@ impl<'a> Performer<'a> {
             → Draws dpi (draw_refusal dpi operation (view command.now) s) (drawn dpi operation (view command.now) s) result self.new }
     {
         match operation {
-            Operation::Reset => self.put_back(),
+            Operation::Reset => self.reset(),
             Operation::UniversalExit => self.leave(command.bytes)?,
+            Operation::PageSize => self.asks.say_size(i64::from(command.value.whole())),
             Operation::Ask(what) => self.ask(what, command.value),
             Operation::ControlFonts => return self.control_fonts(command.value),
             Operation::DownloadFont => return self.download_font(command.bytes, dpi),
@@ -326,8 +327,12 @@ impl<'a> Performer<'a> {
     {
         match what {
             Asking::SheetSide => self.asks.ask_side(i64::from(value.whole())),
-            Asking::Sides => self.last_if(self.is_marked),
-            Asking::MediaType => self.last_if(self.is_marked),
+            Asking::PaperSource => self.asks.say_source(i64::from(value.whole())),
+            Asking::Sides => {
+                self.say_sides(value);
+                self.last_if(self.is_marked);
+            }
+            Asking::MediaType | Asking::Orientation => self.last_if(self.is_marked),
             Asking::JobSeparation => {
                 self.separate(value);
                 self.last_if(self.is_marked);
@@ -337,12 +342,16 @@ impl<'a> Performer<'a> {
             | Asking::Shingling
             | Asking::Depletion
             | Asking::RasterQuality => self.last_if(self.is_marked),
-            Asking::OutputBin
-            | Asking::PaperSource
-            | Asking::PageLength
-            | Asking::LeftOffset
-            | Asking::TopOffset => {}
+            Asking::OutputBin | Asking::PageLength | Asking::LeftOffset | Asking::TopOffset => {}
         }
+    }
+
+    /// Notes sides that were said.
+    fn say_sides(&mut self, value: Value)
+        ensures { (dpi : Dpi) (s : Situation) → IsIn dpi s self.old
+            → IsIn dpi (record s { asks = with_said_sides (signed_whole value) s.asks }) self.new }
+    {
+        self.asks.say_sides(i64::from(value.whole()));
     }
 
     /// Separates the job from the next.
@@ -364,6 +373,14 @@ impl<'a> Performer<'a> {
     }
 
     /// Does what a reset does but for that of the settings.
+    fn reset(&mut self)
+        ensures { (dpi : Dpi) (s : Situation) → IsIn dpi s self.old → IsIn dpi (put_back (record s { asks = with_reset s.asks })) self.new }
+    {
+        self.asks.reset();
+        self.put_back();
+    }
+
+    /// Puts the printer back to its defaults, but for the settings.
     fn put_back(&mut self)
         ensures { (dpi : Dpi) (s : Situation) → IsIn dpi s self.old → IsIn dpi (put_back s) self.new }
     {

@@ -88,6 +88,8 @@ pub struct PageFacts {
     pub output_bin: Option<i64>,
     /// The kind of paper, where the job asks for it (`&lM`).
     pub media_type: Option<i64>,
+    /// Which way round the page lies on its sheet, where the job says so (`&lO`).
+    pub orientation: Option<i64>,
     /// The front or the back of a sheet, where the job asks for it (`&aG`).
     pub sheet_side: Option<i64>,
     /// How far the page is moved to the right on its sheet, where the job says so (`&lU`), in units of 1/7200 inch.
@@ -126,6 +128,7 @@ impl PageFacts {
             source: None,
             output_bin: None,
             media_type: None,
+            orientation: None,
             sheet_side: None,
             left_offset: None,
             top_offset: None,
@@ -148,6 +151,7 @@ impl PageFacts {
             source: asked.said.paper_source,
             output_bin: asked.said.output_bin,
             media_type: asked.said.media_type,
+            orientation: asked.said.orientation,
             sheet_side: asked.start.sheet_side,
             left_offset: units_of(asked.said.left_offset),
             top_offset: units_of(asked.said.top_offset),
@@ -201,6 +205,8 @@ impl Total {
 pub struct ExitFacts {
     /// How many pages come before it.
     pub pages: u32,
+    /// Whether a reset stands between the page or the exit before it and itself.
+    pub reset: bool,
     /// The lines of the printer's job language after it, each byte as the character of its number.
     pub lines: String,
 }
@@ -214,6 +220,7 @@ impl ExitFacts {
         }
         Ok(ExitFacts {
             pages: exit.pages,
+            reset: exit.is_reset,
             lines,
         })
     }

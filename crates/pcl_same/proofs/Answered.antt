@@ -1,6 +1,7 @@
 -- What is found of kept pages is so of the pages of the jobs.
 use Rattle.std.proofs.Common.{◌≡◌, ℕ, ◌+◌, ◌<◌, List, [], ◌∷◌, ◌++◌, length, drop, Option, Some, None, refl, ap, sym, ◌∙◌, arith}
 use Rattle.pcl_same.proofs.Names.{Profile, AllByRecursion, Dpi, page_width, page_height, Picture, dot, Page, AreAlike, AllAlike, Asks, asks_of, HasPagesBy, HasAsksBy, is_black, Shows, Sheet, AskedComparison, Difference, Size, Copies, Dot, PagesDifference, KeptJob, KeptPage, Compare, of_pages, CompareAsks, IsComparisonCounting, as_counted, IsFirstDot, DifferBy, DifferFirst, KeepAll, PagesDiffer, FindAll, IsAlike, PagesDifferBy, comparison_of, IsKept}
+use Rattle.pcl_same.specs.DifferingAsks.{AreAtEnd}
 use Rattle.pcl_same.specs.declared.comparison.PagesDifference.TheVariants as difference
 use Rattle.pcl_same.proofs.AskedPages.{OnePages, asked_pages}
 use Rattle.pcl_same.proofs.OneAnswer.{alike_count}
@@ -111,13 +112,15 @@ pub beside_kept : {last : LastExit} {profile : Profile} → OnePages profile
     → (k : IsKept profile dpi first kept) → HasPagesBy profile dpi second others → HasAsksBy profile dpi second other_asks
     → (difference : Option PagesDifference) (found : List (Option Difference)) → FindAll dpi kept.pages.items others found
     → PagesDifferBy (length kept.pages.items) found difference → (result : AskedComparison) → of_pages result ≡ comparison_of difference
-    → ((difference ≡ None → length kept.asks.pages.items ≡ length other_asks.pages) → kept.asks.next ≡ other_asks.next
+    → ((difference ≡ None → length kept.asks.pages.items ≡ length other_asks.pages) → AreAtEnd (asks_of kept.asks) other_asks
     → CompareAsks (as_counted last (asks_of kept.asks)) (as_counted last other_asks) result)
     → IsComparisonCounting last profile dpi first second result
 beside_kept {last} one {dpi} {first} {second} {kept} {others} {other_asks} k meaning asked difference found f is result pages asks =
     let compare = compared_so dpi k.pages kept.pages.items others found difference k.keeps f is in
     let compare_pages : Compare dpi k.pages others (of_pages result) = rw pages compare in
     let compare_asks = asks (λ none.
-    cc (asked_pages one k.meaning k.asked, alike_count dpi k.pages others (rw none at compare), asked_pages one meaning asked))
-    (ap (λ (a : Asks). a.next) k.asked.asked ∙ sym (ap (λ (a : Asks). a.next) asked.asked)) in
+    cc (asked_pages one k.meaning k.asked, alike_count dpi k.pages others (rw none at compare), asked_pages one meaning asked)) (
+      ap (λ (a : Asks). a.next) k.asked.asked ∙ sym (ap (λ (a : Asks). a.next) asked.asked),
+      ap (λ (a : Asks). a.is_reset) k.asked.asked ∙ sym (ap (λ (a : Asks). a.is_reset) asked.asked),
+    ) in
     search (k, meaning, asked, compare_pages, compare_asks)

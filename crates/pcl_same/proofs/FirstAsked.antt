@@ -2,7 +2,7 @@
 use Rattle.std.proofs.Common.{◌≡◌, ℕ, suc, ◌+◌, ◌<◌, List, length, map, take, drop, get_or, Option, Some, None, refl, arith}
 use Rattle.pcl_same.proofs.Names.{MatchOption, option_or, take-append-drop, length-take-le, length-map, take_more_same, get_or-map, drop-cons, AskedPage, exit_of, ExitDifference, Setting, SettingDifference, DifferAt, HaveSameSettings, setting_of, order_of, IsFirstSetting, ExitsDifferBy, IsSettingDifference, IsExitDifference}
 use Rattle.pcl_page.specs.declared.asks.Exit.{Exit as ExitOfCode}
-use Rattle.pcl_same.specs.declared.comparison.Setting.TheVariants.{Copies, PageSize, PageLength, Sides, OutputBin, MediaType, PaperSource, LeftOffset, TopOffset, TextScale, PrintQuality, Shingling, Depletion, RasterQuality, SheetSide}
+use Rattle.pcl_same.specs.declared.comparison.Setting.TheVariants.{Copies, PageSize, PageLength, Orientation, Sides, OutputBin, MediaType, PaperSource, LeftOffset, TopOffset, TextScale, PrintQuality, Shingling, Depletion, RasterQuality, SheetSide, SizeAgain, SidesAgain, SourceAgain}
 use Rattle.pcl_same.specs.declared.comparison.AsksDifference.TheVariants as exits
 
 -- ---- settings
@@ -45,12 +45,12 @@ then_setting one other setting None None below here = one_more one other setting
 pub none_below : (one other : AskedPage) → SaysBelow one other 0 None
 none_below one other setting lt = absurd (omega arith)
 
-pub all_same : (one other : AskedPage) (found : Option SettingDifference) → SaysBelow one other 15 found
+pub all_same : (one other : AskedPage) (found : Option SettingDifference) → SaysBelow one other 19 found
     → MatchOption found (HaveSameSettings one other) (IsFirstSetting one other)
 all_same one other (Some d) says = says
 all_same one other None says = λ setting. says setting (small setting)
   where
-    small : (setting : Setting) → order_of setting < 15
+    small : (setting : Setting) → order_of setting < 19
     small setting = grind arith
 
 -- ---- a page
@@ -60,6 +60,7 @@ same_page first same =
     let copies = same Copies in
     let size = same PageSize in
     let len = same PageLength in
+    let orientation = same Orientation in
     let sides = same Sides in
     let bin = same OutputBin in
     let media = same MediaType in
@@ -72,11 +73,15 @@ same_page first same =
     let depletion = same Depletion in
     let raster_quality = same RasterQuality in
     let side = same SheetSide in
+    let size_again = same SizeAgain in
+    let sides_again = same SidesAgain in
+    let source_again = same SourceAgain in
     λ i. record {
       said = record {
         copies = copies i;
         page_size = size i;
         page_length = len i;
+        orientation = orientation i;
         sides = sides i;
         output_bin = bin i;
         media_type = media i;
@@ -89,7 +94,7 @@ same_page first same =
         depletion = depletion i;
         raster_quality = raster_quality i;
       };
-      start = record { is_first = first i; sheet_side = side i };
+      start = record { is_first = first i; sheet_side = side i; size = size_again i; sides = sides_again i; source = source_again i };
     }
 
 -- ---- lists

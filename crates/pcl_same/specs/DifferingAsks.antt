@@ -7,11 +7,11 @@ use Rattle.pcl_same.specs.declared.comparison.AskedDifference.TheVariants.{Reset
 use Rattle.pcl_same.specs.declared.comparison.AsksDifference.{AsksDifference}
 use Rattle.pcl_same.specs.declared.comparison.AsksDifference.TheVariants.{Page, ExitCount, Exit, Separation, Lasting}
 use Rattle.pcl_same.specs.declared.comparison.ExitDifference.{ExitDifference}
-use Rattle.pcl_same.specs.declared.comparison.ExitDifference.TheVariants.{Place, Lines}
+use Rattle.pcl_same.specs.declared.comparison.ExitDifference.TheVariants as exit
 use Rattle.pcl_same.specs.declared.asking.LastExit.{LastExit}
 use Rattle.pcl_same.specs.declared.asking.LastExit.TheVariants.{Counts, Ends}
 use Rattle.pcl_same.specs.declared.comparison.Setting.{Setting}
-use Rattle.pcl_same.specs.declared.comparison.Setting.TheVariants.{Copies, PageSize, PageLength, Sides, OutputBin, MediaType, PaperSource, LeftOffset, TopOffset, TextScale, PrintQuality, Shingling, Depletion, RasterQuality, SheetSide}
+use Rattle.pcl_same.specs.declared.comparison.Setting.TheVariants.{Copies, PageSize, PageLength, Orientation, Sides, OutputBin, MediaType, PaperSource, LeftOffset, TopOffset, TextScale, PrintQuality, Shingling, Depletion, RasterQuality, SheetSide, SizeAgain, SidesAgain, SourceAgain}
 use Rattle.pcl_same.specs.declared.comparison.SettingDifference.{SettingDifference}
 
 -- what has this number in two lists, counted from 1, differs so, and what is before it is the same
@@ -33,6 +33,7 @@ abbrev pub setting_of : Setting → AskedPage → Option ℤ
 setting_of Copies page = page.said.copies
 setting_of PageSize page = page.said.page_size
 setting_of PageLength page = page.said.page_length
+setting_of Orientation page = page.said.orientation
 setting_of Sides page = page.said.sides
 setting_of OutputBin page = page.said.output_bin
 setting_of MediaType page = page.said.media_type
@@ -45,24 +46,31 @@ setting_of Shingling page = page.said.shingling
 setting_of Depletion page = page.said.depletion
 setting_of RasterQuality page = page.said.raster_quality
 setting_of SheetSide page = page.start.sheet_side
+setting_of SizeAgain page = page.start.size
+setting_of SidesAgain page = page.start.sides
+setting_of SourceAgain page = page.start.source
 
 -- the order in which settings are compared
 abbrev pub order_of : Setting → ℕ
 order_of Copies = 0
 order_of PageSize = 1
 order_of PageLength = 2
-order_of Sides = 3
-order_of OutputBin = 4
-order_of MediaType = 5
-order_of PaperSource = 6
-order_of LeftOffset = 7
-order_of TopOffset = 8
-order_of TextScale = 9
-order_of PrintQuality = 10
-order_of Shingling = 11
-order_of Depletion = 12
-order_of RasterQuality = 13
-order_of SheetSide = 14
+order_of Orientation = 3
+order_of Sides = 4
+order_of OutputBin = 5
+order_of MediaType = 6
+order_of PaperSource = 7
+order_of LeftOffset = 8
+order_of TopOffset = 9
+order_of TextScale = 10
+order_of PrintQuality = 11
+order_of Shingling = 12
+order_of Depletion = 13
+order_of RasterQuality = 14
+order_of SheetSide = 15
+order_of SizeAgain = 16
+order_of SidesAgain = 17
+order_of SourceAgain = 18
 
 abbrev pub HaveSameSettings : AskedPage → AskedPage → Type 0
 HaveSameSettings one other = (setting : Setting) → setting_of setting one ≡ setting_of setting other
@@ -81,10 +89,11 @@ IsAskedBy one other (BySetting difference) = (one.start.is_first ≡ other.start
 
 -- ---- a universal exit
 
--- two exits differ so: in how many pages come before them; else in their lines
+-- two exits differ so: in how many pages come before them; else in whether a reset does; else in their lines
 abbrev pub ExitsDifferBy : UniversalExit → UniversalExit → ExitDifference → Type 0
-ExitsDifferBy one other (Place first second) = (one.pages ≡ first) × (other.pages ≡ second) × (first ≢ second)
-ExitsDifferBy one other Lines = (one.pages ≡ other.pages) × (one.lines ≢ other.lines)
+ExitsDifferBy one other (exit.Place first second) = (one.pages ≡ first) × (other.pages ≡ second) × (first ≢ second)
+ExitsDifferBy one other exit.Reset = (one.pages ≡ other.pages) × (one.is_reset ≢ other.is_reset)
+ExitsDifferBy one other exit.Lines = (one.pages ≡ other.pages) × (one.is_reset ≡ other.is_reset) × (one.lines ≢ other.lines)
 
 -- a universal exit after the last page and without a line, as the last of a list or as none
 abbrev pub is_end : ℕ → List UniversalExit → Bool
@@ -101,6 +110,10 @@ abbrev pub as_counted : LastExit → Asks → Asks
 as_counted last asks = record asks { exits = counted_exits last (length asks.pages) asks.exits }
 
 -- ---- jobs
+
+-- what is asked at the ends of two jobs, where the next page begins as after a reset, and none is left to be seen before an exit
+abbrev pub AreAtEnd : Asks → Asks → Type 0
+AreAtEnd asks others = (asks.next ≡ others.next) × (asks.is_reset ≡ others.is_reset)
 
 -- what the printer keeps or ejects is the same: nothing of either lasts, or both are one job, byte for byte
 abbrev pub LeaveTheSame : Asks → Asks → Type 0

@@ -2,7 +2,7 @@
 
 ghost use Rattle.std.specs.Prelude.{◌≡◌, ◌≢◌, ◌-◌, MatchOption, length, map, drop};
 ghost use Rattle.pcl_page.specs.Asks.{asks_of, exit_of};
-ghost use Rattle.pcl_same.specs.DifferingAsks.{IsFirstSetting, HaveSameSettings, IsAskedBy, ExitsDifferBy, AsksDifferBy, as_counted, counted_exits, is_end};
+ghost use Rattle.pcl_same.specs.DifferingAsks.{IsFirstSetting, HaveSameSettings, IsAskedBy, ExitsDifferBy, AsksDifferBy, AreAtEnd, as_counted, counted_exits, is_end};
 ghost use Rattle.pcl_same.specs.inner.Asking.{IsSettingDifference, IsPageDifference, IsExitDifference};
 
 use crate::{AskedDifference, AsksDifference, ExitDifference, Setting, SettingDifference};
@@ -47,7 +47,7 @@ pub fn asks_difference(
     second: &Asks<'_>,
     last: LastExit,
 ) -> Option<AsksDifference>
-    ensures { length first.now.pages.items ≡ length second.now.pages.items → first.now.next ≡ second.now.next
+    ensures { length first.now.pages.items ≡ length second.now.pages.items → AreAtEnd (asks_of first.now) (asks_of second.now)
         → MatchOption result (as_counted last (asks_of first.now) ≡ as_counted last (asks_of second.now))
         (AsksDifferBy (as_counted last (asks_of first.now)) (as_counted last (asks_of second.now))) }
 {
@@ -98,6 +98,7 @@ fn setting_difference(one: &AskedPage, other: &AskedPage) -> Option<SettingDiffe
     differing(Setting::Copies, said.copies, others.copies)
         .or(differing(Setting::PageSize, said.page_size, others.page_size))
         .or(differing(Setting::PageLength, said.page_length, others.page_length))
+        .or(differing(Setting::Orientation, said.orientation, others.orientation))
         .or(differing(Setting::Sides, said.sides, others.sides))
         .or(differing(Setting::OutputBin, said.output_bin, others.output_bin))
         .or(differing(Setting::MediaType, said.media_type, others.media_type))
@@ -122,6 +123,9 @@ fn setting_difference(one: &AskedPage, other: &AskedPage) -> Option<SettingDiffe
             one.start.sheet_side,
             other.start.sheet_side,
         ))
+        .or(differing(Setting::SizeAgain, one.start.size, other.start.size))
+        .or(differing(Setting::SidesAgain, one.start.sides, other.start.sides))
+        .or(differing(Setting::SourceAgain, one.start.source, other.start.source))
 }
 
 /// The values of a setting, where they differ.
@@ -179,6 +183,9 @@ fn exit_difference(one: &Exit<'_>, other: &Exit<'_>) -> Option<ExitDifference>
             first: one.pages,
             second: other.pages,
         });
+    }
+    if one.is_reset != other.is_reset {
+        return Some(ExitDifference::Reset);
     }
     if one.lines != other.lines {
         return Some(ExitDifference::Lines);

@@ -3,7 +3,7 @@
 ghost use Rattle.std.specs.Prelude.{◌≡◌, ℕ, List, length, None};
 ghost use Rattle.pcl_page.specs.Asks.{asks_of};
 ghost use Rattle.pcl_same.specs.Comparing.{of_pages, CompareAsks};
-ghost use Rattle.pcl_same.specs.DifferingAsks.{as_counted};
+ghost use Rattle.pcl_same.specs.DifferingAsks.{AreAtEnd, as_counted};
 ghost use Rattle.pcl_same.specs.Keeping.{IsKept, IsComparedBeside, IsCountedBeside};
 ghost use Rattle.pcl_same.specs.inner.Pages.{IsFoundBeside, PagesDifferBy, comparison_of};
 
@@ -59,7 +59,8 @@ fn conclude(
     last: LastExit,
 ) -> AskedComparison
     ensures pages { of_pages result ≡ comparison_of pages }
-    ensures asks { (pages ≡ None → length first.now.pages.items ≡ length second.now.pages.items) → first.now.next ≡ second.now.next
+    ensures asks { (pages ≡ None → length first.now.pages.items ≡ length second.now.pages.items)
+        → AreAtEnd (asks_of first.now) (asks_of second.now)
         → CompareAsks (as_counted last (asks_of first.now)) (as_counted last (asks_of second.now)) result }
 {
     if let Some(difference) = pages {

@@ -130,6 +130,8 @@ pub enum Setting {
     PageSize,
     /// The length of the page, `&lP`, in units of 1/7200 inch.
     PageLength,
+    /// Which way round the page lies on its sheet, `&lO`.
+    Orientation,
     /// One side or both, `&lS`.
     Sides,
     /// Where printed sheets go, `&lG`.
@@ -154,6 +156,12 @@ pub enum Setting {
     RasterQuality,
     /// The front or the back of a sheet, `&aG`.
     SheetSide,
+    /// The page size that was said since the page before, `&lA`.
+    SizeAgain,
+    /// The sides that were said since then, `&lS`.
+    SidesAgain,
+    /// The paper source that was said since then, `&lH`.
+    SourceAgain,
 }
 
 /// The first setting in which what two pages are asked with differs, and its values: `None` where nothing is asked.
@@ -164,11 +172,13 @@ pub struct SettingDifference {
     pub second: Option<i64>,
 }
 
-/// How a universal exit of one job differs from that of another: in its place, else in its lines.
+/// How a universal exit of one job differs from that of another: in its place, else in a reset before it, else in its lines.
 #[derive(Clone, Copy, Debug, PartialEq, Eq)]
 pub enum ExitDifference {
     /// How many pages each has before it.
     Place { first: u32, second: u32 },
+    /// A reset stands between one of them and the page or the exit before it, and none before the other.
+    Reset,
     /// They have different lines after them.
     Lines,
 }

@@ -1,16 +1,23 @@
 use Rattle.std.proofs.Common.{◌≡◌, Bool, inl, inr, refl, subst}
 use Rattle.pcl_page.proofs.Names.{IsIn}
 use Rattle.pcl_base.specs.Value.{signed_whole}
-use Rattle.pcl_page.specs.Asks.{with_separation}
+use Rattle.pcl_page.specs.Asks.{with_said_sides, with_separation}
 use Rattle.pcl_page.specs.Situation.{with_lasting, asked_for, is_marked}
 use Rattle.pcl_page.proofs.performer.Performer.ask.Goals as goal
 
 pub returns-in-Sides : goal.returns-in-Sides
-returns-in-Sides c = λ dpi s i. rw c.in-Sides.is
-    (subst (λ (test : Bool). IsIn dpi (with_lasting test s) c.last_if.new.self) i.marked (c.last_if.ensures.situation dpi s i))
+returns-in-Sides c = λ dpi s i.
+    let said = c.say_sides.ensures dpi s i in
+    let with_them = record s { asks = with_said_sides (signed_whole c.args.value) s.asks } in
+    rw c.in-Sides.is
+    (subst (λ (test : Bool). IsIn dpi (with_lasting test with_them) c.last_if.new.self) said.marked
+    (c.last_if.ensures.situation dpi with_them said))
 
 pub returns-in-MediaType : goal.returns-in-MediaType
-returns-in-MediaType c = λ dpi s i. rw c.in-MediaType.is
+returns-in-MediaType c = λ dpi s i.
+    let same : asked_for c.args.what c.args.value s ≡ with_lasting (is_marked s) s =
+    elim c.in-MediaType.is [ inl e ↦ rw e refl | inr e ↦ rw e refl ] in
+    rw same
     (subst (λ (test : Bool). IsIn dpi (with_lasting test s) c.last_if-in-MediaType.new.self) i.marked
     (c.last_if-in-MediaType.ensures.situation dpi s i))
 

@@ -22,7 +22,7 @@ returns-in_ok-send_row-in-RasterRow g c = λ s i. rw c.in-RasterRow.is
     (refl, row_in (view c.args.command.now) i c.in_ok-send_row-in-RasterRow.ensures)
 
 pub returns-in-Reset : goal.returns-in-Reset
-returns-in-Reset g c = λ s i. rw c.in-Reset.is (refl, c.put_back.ensures c.args.dpi s i)
+returns-in-Reset g c = λ s i. rw c.in-Reset.is (refl, c.reset.ensures c.args.dpi s i)
 
 pub returns-in-Ask : goal.returns-in-Ask
 returns-in-Ask g c = λ s i. rw c.in-Ask.is (refl, c.ask.ensures c.args.dpi s i)

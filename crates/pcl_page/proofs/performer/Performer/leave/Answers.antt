@@ -14,8 +14,8 @@ returns c = λ dpi s i.
       ejected = i.ejected;
       performed = i.performed;
       asks = c.in_ok-push_exit.ensures
-          ∙ ap (λ (n : ℕ). with_exit (record { pages = n; lines = lines }) (asks_of c.args.self.now.asks)) i.ejected
-          ∙ ap (with_exit (record { pages = length s.pages; lines = lines })) i.asks;
+          ∙ ap (λ (n : ℕ). with_exit n lines (asks_of c.args.self.now.asks)) i.ejected
+          ∙ ap (with_exit (length s.pages) lines) i.asks;
       fonts = i.fonts;
       sized = i.sized;
       painted = i.painted;
