@@ -1,6 +1,7 @@
 -- What a job asks for, written around the texts of its pages, one exit or page more.
 use Rattle.std.proofs.Common.{◌≡◌, ◌≢◌, ℕ, suc, ◌+◌, Bool, true, false, ◌==◌, ◌||◌, List, [], ◌∷◌, ◌++◌, length, map, take, get_or, ◌<◌, ◌≤◌, refl, sym, ap, subst, ◌∙◌, append_assoc, append-nil, arith}
-use Rattle.pcl_shrink.proofs.Names.{nat_tests, length-append, length-map, length-take-le, map_more, flat_map-cons, flat_map-append, Asks, Exit, exit_of, Text, least_of, exit_bytes, exit_text, exits_after, is_exit_after, fitted, asked_at, page_start, asked_pages}
+use Rattle.pcl_shrink.proofs.Names.{nat_tests, length-append, length-map, length-take-le, map_more, flat_map-cons, flat_map-append, Asks, Exit, exit_of, Text, least_of, exit_with_lines, exit_text, exits_after, is_exit_after, as_said, page_start, asked_pages}
+use Rattle.std.specs.List.{list_any}
 use Rattle.pcl_page.specs.declared.asks.Exit.{Exit as ExitOfCode}
 
 -- ---- exits
@@ -31,7 +32,7 @@ WritesExits number exits i old new found =
 
 pub writes_there : (number : ℕ) (exits : List ExitOfCode) {i : ℕ} (d : ExitOfCode) (old mid : List ℕ) {new : List ℕ}
     (before : Bool) {found : Bool} → i < length exits → (get_or exits i d).pages ≡ number → WritesExits number exits i old mid before
-    → new ≡ mid ++ (exit_bytes ++ (exit_of (get_or exits i d)).lines) → found ≡ true → WritesExits number exits (i + 1) old new found
+    → new ≡ mid ++ exit_with_lines (exit_of (get_or exits i d)) → found ≡ true → WritesExits number exits (i + 1) old new found
 writes_there number exits {i} d old mid before lt here so_far written same =
     let exit = exit_of (get_or exits i d) in
     let front = map exit_of (take i exits) in
@@ -51,11 +52,17 @@ writes_elsewhere number exits {i} d old mid before lt here so_far stays same =
       rw (same, so_far.1, more, found_more number front exit, other_number here) refl,
     )
 
+-- whether one of them stands there
+pub any_there : (number : ℕ) (exits : List ExitOfCode)
+    → list_any (λ (exit : ExitOfCode). exit.pages == number) exits ≡ is_exit_after number (map exit_of exits)
+any_there number [] = refl
+any_there number (exit ∷ exits) = ap (λ (test : Bool). (exit.pages == number) || test) (any_there number exits)
+
 -- ---- pages
 
 -- a page with what stands before its text
 abbrev pub page_text : Asks → ℕ → List ℕ → List ℕ
-page_text asks number text = page_start asks number ++ fitted (asked_at asks number).said text
+page_text asks number text = page_start asks number ++ as_said asks number text
 
 pub pages_more : (asks : Asks) (number : ℕ) (texts : List (List ℕ)) (text : List ℕ)
     → asked_pages asks number (texts ++ text ∷ []) ≡ asked_pages asks number texts ++ page_text asks (number + length texts) text
@@ -81,7 +88,7 @@ next_page asks texts {i} d lt =
 
 pub appended_page : (asks : Asks) (texts : List Text) {i : ℕ} (d : Text) {old start new : List ℕ} → i < length texts
     → old ≡ asked_pages asks 0 (least_of (take i texts)) → start ≡ old ++ page_start asks i
-    → new ≡ start ++ fitted (asked_at asks i).said (get_or texts i d).least.items
+    → new ≡ start ++ as_said asks i (get_or texts i d).least.items
     → new ≡ asked_pages asks 0 (least_of (take (i + 1) texts))
 appended_page asks texts {i} d lt so_far begun written =
     rw (written, begun, so_far, next_page asks texts d lt) (append_assoc _ (page_start asks i) _)
@@ -89,7 +96,7 @@ appended_page asks texts {i} d lt so_far begun written =
 -- bytes that are counted, in place of bytes that are written
 pub counted_page : (asks : Asks) (texts : List Text) {i : ℕ} (d : Text) (old new : ℕ) {start around : List ℕ} → i < length texts
     → old ≤ length (asked_pages asks 0 (least_of (take i texts))) → start ≡ page_start asks i
-    → around ≡ start ++ fitted (asked_at asks i).said (get_or texts i d).least.items
+    → around ≡ start ++ as_said asks i (get_or texts i d).least.items
     → new ≤ old + length around → new ≤ length (asked_pages asks 0 (least_of (take (i + 1) texts)))
 counted_page asks texts {i} d old new {around = around} lt so_far begun written counted =
     let page : around ≡ page_text asks i (get_or texts i d).least.items = rw (written, begun) refl in

@@ -1,7 +1,7 @@
 -- A job of least page texts that says no more than these is a least raster job.
 use Rattle.std.proofs.Common.{◌≡◌, ℕ, zero, suc, ◌+◌, ◌<◌, ◌==◌, true, false, List, [], ◌∷◌, ◌++◌, length, map, get_or, None, refl, ap, append_assoc, arith}
 use Rattle.pcl_env.specs.Settings.{nothing_asked}
-use Rattle.pcl_shrink.proofs.Names.{nat_tests, Dpi, AskedPage, Sheet, frame_bytes, IsWrittenPage, PrintEach, page_said, said_for, next_page, plain_page, is_usual, page_start, asked_pages, asked_job, AreLeastTexts}
+use Rattle.pcl_shrink.proofs.Names.{nat_tests, Dpi, AskedPage, Sheet, frame_bytes, IsWrittenPage, PrintEach, is_some, later_said, said_for, plain_page, is_usual, page_start, asked_pages, asked_job, AreLeastTexts}
 
 abbrev pub joined : List (List ℕ) → List ℕ
 joined [] = []
@@ -28,7 +28,7 @@ record AsksLittle (page : AskedPage) : Type 0 where
 
 -- the pages after the first
 abbrev said_later : List Sheet → ℕ → AskedPage
-said_later sheets k = get_or (map (page_said next_page) sheets) k plain_page
+said_later sheets k = get_or (map later_said sheets) k plain_page
 
 little_later : (sheets : List Sheet) (k : ℕ) → AsksLittle (said_later sheets k)
 little_later [] k = record { said = refl; side = refl; later = refl }
@@ -40,6 +40,12 @@ usual_later [] k lt = absurd (omega arith)
 usual_later (sheet ∷ sheets) zero lt = refl
 usual_later (sheet ∷ sheets) (suc k) lt = usual_later sheets k (omega arith)
 
+-- and they say a size
+sized_later : (sheets : List Sheet) (k : ℕ) → k < length sheets → is_some (said_later sheets k).start.size ≡ true
+sized_later [] k lt = absurd (omega arith)
+sized_later (sheet ∷ sheets) zero lt = refl
+sized_later (sheet ∷ sheets) (suc k) lt = sized_later sheets k (omega arith)
+
 no_start : (first : Sheet) (sheets : List Sheet) (k : ℕ) → page_start (said_for (first ∷ sheets)) (suc k) ≡ []
 no_start first sheets k =
     let l = little_later sheets k in
@@ -50,7 +56,12 @@ later_texts : (first : Sheet) (sheets : List Sheet) (texts : List (List ℕ)) (k
     → asked_pages (said_for (first ∷ sheets)) (suc k) texts ≡ joined texts
 later_texts first sheets [] k count = refl
 later_texts first sheets (text ∷ texts) k count =
-    rw (no_start first sheets k, usual_later sheets k (omega arith), later_texts first sheets texts (suc k) (omega arith)) refl
+    rw (
+      no_start first sheets k,
+      sized_later sheets k (omega arith),
+      usual_later sheets k (omega arith),
+      later_texts first sheets texts (suc k) (omega arith),
+    ) refl
 
 pub job_as_said : (pages : List Sheet) (texts : List (List ℕ)) → length texts ≡ length pages
     → asked_job (said_for pages) texts ≡ frame_bytes ++ joined texts ++ frame_bytes

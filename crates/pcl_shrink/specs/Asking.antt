@@ -1,5 +1,5 @@
 -- What a job asks of the printer, written around the texts of its pages.
-use Rattle.std.specs.Prelude.{ℕ, zero, suc, ◌-◌, ◌==◌, Bool, false, not, ◌&&◌, ◌||◌, is_some, is_none, if◌then◌else◌, List, [], ◌∷◌, ◌++◌, length, drop, get_or, flat_map, codes, Option, Some, None, unwrap_or, ℤ, pos, int_div}
+use Rattle.std.specs.Prelude.{ℕ, zero, suc, ◌-◌, ◌==◌, Bool, true, false, not, ◌&&◌, ◌||◌, is_some, is_none, if◌then◌else◌, List, [], ◌∷◌, ◌++◌, length, drop, get_or, flat_map, codes, Option, Some, None, unwrap_or, ℤ, pos, int_div}
 use Rattle.std.specs.Option.{option_map}
 use Rattle.std.specs.Fmt.{signed_decimal}
 use Rattle.std.specs.Ordering.{int_eq}
@@ -7,6 +7,7 @@ use Rattle.pcl_env.specs.declared.asked.Asked.{Asked}
 use Rattle.pcl_env.specs.Offset.{offset_text}
 use Rattle.pcl_env.specs.Settings.{nothing_asked}
 use Rattle.pcl_page.specs.declared.asks.AskedPage.{AskedPage}
+use Rattle.pcl_page.specs.declared.asks.PageStart.{PageStart}
 use Rattle.pcl_page.specs.Asks.{Asks, Exit, next_page}
 use Rattle.pcl_output.specs.Tokens.{frame_bytes}
 
@@ -15,9 +16,13 @@ use Rattle.pcl_output.specs.Tokens.{frame_bytes}
 abbrev pub exit_bytes : List ℕ
 exit_bytes = 27 ∷ codes "%-12345X"
 
--- an exit with its lines, where it stands after this many pages
+-- an exit with its lines, after a reset where one stands before it
+abbrev pub exit_with_lines : Exit → List ℕ
+exit_with_lines exit = (if exit.is_reset then frame_bytes else []) ++ exit_bytes ++ exit.lines
+
+-- the same where it stands after this many pages
 abbrev pub exit_text : ℕ → Exit → List ℕ
-exit_text number exit = if exit.pages == number then exit_bytes ++ exit.lines else []
+exit_text number exit = if exit.pages == number then exit_with_lines exit else []
 
 abbrev pub exits_after : ℕ → List Exit → List ℕ
 exits_after number exits = flat_map (exit_text number) exits
@@ -41,10 +46,11 @@ offset_command letter None (Some offset) = 27 ∷ codes "&l" ++ offset_text offs
 offset_command letter (Some before) (Some offset) =
     if int_eq before offset then [] else 27 ∷ codes "&l" ++ offset_text offset ++ letter
 
--- what asks for sides, bins, media and sources where others are asked for already
+-- what asks for an orientation, sides, bins, media and sources where others are asked for already
 abbrev pub paper_text : Asked → Asked → List ℕ
 paper_text old new =
-    value_text (27 ∷ codes "&l") (codes "S") old.sides new.sides
+    value_text (27 ∷ codes "&l") (codes "O") old.orientation new.orientation
+    ++ value_text (27 ∷ codes "&l") (codes "S") old.sides new.sides
     ++ value_text (27 ∷ codes "&l") (codes "G") old.output_bin new.output_bin
     ++ value_text (27 ∷ codes "&l") (codes "M") old.media_type new.media_type
     ++ value_text (27 ∷ codes "&l") (codes "H") old.paper_source new.paper_source
@@ -97,9 +103,37 @@ start_as_said said =
 abbrev pub is_usual : Asked → Bool
 is_usual said = is_some said.copies && (is_some said.page_size && is_none said.page_length)
 
--- a page text that says what was said
-abbrev pub fitted : Asked → List ℕ → List ℕ
-fitted said text = if is_usual said then text else start_as_said said ++ drop (length (usual_start said)) text
+-- a page text of what was said that says a part of that
+abbrev pub fitted : Asked → Asked → List ℕ → List ℕ
+fitted part said text = if is_usual part then text else start_as_said part ++ drop (length (usual_start said)) text
+
+-- whether a value is another than before
+abbrev pub is_new : Option ℤ → Option ℤ → Bool
+is_new old None = false
+is_new None (Some value) = true
+is_new (Some before) (Some value) = not (int_eq before value)
+
+-- the value, where it is another than before
+abbrev pub new_value : Option ℤ → Option ℤ → Option ℤ
+new_value old new = if is_new old new then new else None
+
+-- What a page text says of copies and paper: all of it with a size, which is said where it is another than before, and where it was said
+-- between the two pages; else what is another than before.
+abbrev pub part_to_say : Asked → AskedPage → Asked
+part_to_say before page =
+    if is_some page.start.size || is_new before.page_size page.said.page_size then page.said
+    else record page.said {
+      copies = new_value before.copies page.said.copies;
+      page_size = None;
+      page_length = new_value before.page_length page.said.page_length;
+    }
+
+-- what is asked for already and needn't be said: not sides and a source that were said between the two pages
+abbrev pub still_asked : PageStart → Asked → Asked
+still_asked start before = record before {
+  sides = if is_some start.sides then None else before.sides;
+  paper_source = if is_some start.source then None else before.paper_source;
+}
 
 -- ---- a job
 
@@ -128,23 +162,33 @@ asked_before asks number = if is_reset_before asks number then nothing_asked els
 -- what stands before the text of the page of this number, from 0; offsets last, since printers turn them by the side of the sheet
 abbrev pub page_start : Asks → ℕ → List ℕ
 page_start asks number =
-    exits_after number asks.exits ++ reset_text asks number ++ asked_text (asked_before asks number) (asked_at asks number).said
+    exits_after number asks.exits ++ reset_text asks number
+    ++ asked_text (still_asked (asked_at asks number).start (asked_before asks number)) (asked_at asks number).said
     ++ side_text (asked_at asks number).start.sheet_side ++ offsets_text (asked_before asks number) (asked_at asks number).said
+
+-- a text of the page of this number that says what was said of it
+abbrev pub as_said : Asks → ℕ → List ℕ → List ℕ
+as_said asks number text = fitted (part_to_say (asked_before asks number) (asked_at asks number)) (asked_at asks number).said text
 
 -- what separates the job from the next, before the printer is put back
 abbrev pub separation_text : Option ℤ → List ℕ
 separation_text value = value_text (27 ∷ codes "&l") (codes "T") None value
 
+-- a reset after the last page, unless universal exits stand there
+abbrev pub end_reset : Bool → List ℕ
+end_reset has_exit = if has_exit then [] else frame_bytes
+
 -- what stands after the last of this many pages
 abbrev pub job_end : Asks → ℕ → List ℕ
 job_end asks zero = exits_after 0 asks.exits ++ frame_bytes ++ frame_bytes
-job_end asks (suc before) = separation_text asks.separation ++ frame_bytes ++ exits_after (suc before) asks.exits
+job_end asks (suc before) =
+    separation_text asks.separation ++ exits_after (suc before) asks.exits ++ end_reset (is_exit_after (suc before) asks.exits)
 
 -- texts of the pages from a number on
 abbrev pub asked_pages : Asks → ℕ → List (List ℕ) → List ℕ
 asked_pages asks number [] = []
 asked_pages asks number (text ∷ texts) =
-    page_start asks number ++ fitted (asked_at asks number).said text ++ asked_pages asks (suc number) texts
+    page_start asks number ++ as_said asks number text ++ asked_pages asks (suc number) texts
 
 -- a job that asks for this, with these texts of its pages
 abbrev pub asked_job : Asks → List (List ℕ) → List ℕ

@@ -8,7 +8,7 @@ ghost use Rattle.pcl_env.specs.Offset.{offset_text};
 ghost use Rattle.pcl_env.specs.Settings.{nothing_asked};
 ghost use Rattle.pcl_page.specs.Asks.{asks_of, exit_of};
 ghost use Rattle.pcl_shrink.specs.Asking.{
-  exit_bytes,
+  exit_with_lines,
   exits_after,
   is_exit_after,
   value_text,
@@ -23,6 +23,11 @@ ghost use Rattle.pcl_shrink.specs.Asking.{
   start_as_said,
   is_usual,
   fitted,
+  is_new,
+  new_value,
+  part_to_say,
+  still_asked,
+  as_said,
   asked_at,
   page_start,
   is_reset_before,
@@ -57,13 +62,13 @@ pub fn append_page_start(
     let is_reset = page == 0 || (is_left || asked.start.is_first);
     append_reset(page == 0 || (!is_left && asked.start.is_first), out)?;
     let already = asked_already(asks, page, is_reset);
-    append_asked(already, asked.said, out)?;
+    append_asked(still_asked(asked.start, already), asked.said, out)?;
     append_value(b"\x1b&a", None, asked.start.sheet_side, b"G", out)?;
     append_offsets(already, asked.said, out)?;
     Ok(is_reset)
 }
 
-/// Appends what stands after the last of this many pages: what separates the job from the next, a reset, and the universal exits there.
+/// Appends what stands after the last of this many pages: what separates the job from the next, and the universal exits there, or a reset.
 pub fn append_end(asks: &Asks<'_>, pages: usize, out: &mut Vec<u8>) -> Result<(), AllocError>
     ensures { OnOk result (out.new.items ≡ out.old.items ++ job_end (asks_of asks.now) pages) }
 {
@@ -73,9 +78,8 @@ pub fn append_end(asks: &Asks<'_>, pages: usize, out: &mut Vec<u8>) -> Result<()
         return out.extend_from_slice(RESET);
     }
     append_value(b"\x1b&l", None, asks.separation, b"T", out)?;
-    out.extend_from_slice(RESET)?;
-    append_exits(asks, pages, out)?;
-    Ok(())
+    let is_left = append_exits(asks, pages, out)?;
+    append_reset(!is_left, out)
 }
 
 /// What the page of a number, from 0, is asked with.
@@ -88,6 +92,39 @@ fn asked_at(asks: &Asks<'_>, page: usize) -> AskedPage
             said: Asked::NOTHING,
             start: PageStart::NEXT,
         },
+    }
+}
+
+/// Whether something puts the printer back to its defaults before the page of a number, from 0.
+fn is_reset_before(asks: &Asks<'_>, page: usize) -> bool
+    ensures { result ≡ is_reset_before (asks_of asks.now) page }
+{
+    page == 0 || (has_exit(asks, page) || asked_at(asks, page).start.is_first)
+}
+
+/// Whether a universal exit stands after this many pages.
+pub fn has_exit(asks: &Asks<'_>, pages: usize) -> bool
+    ensures { result ≡ is_exit_after pages (asks_of asks.now).exits }
+{
+    asks.exits.iter().any(|exit| exit.pages as usize == pages)
+}
+
+/// What of this needn't be said before a page that starts so: not sides and a source that were said after the page before.
+fn still_asked(start: PageStart, already: Asked) -> Asked
+    ensures { result ≡ still_asked start already }
+{
+    Asked {
+        sides: if start.sides.is_some() {
+            None
+        } else {
+            already.sides
+        },
+        paper_source: if start.source.is_some() {
+            None
+        } else {
+            already.paper_source
+        },
+        ..already
     }
 }
 
@@ -116,10 +153,11 @@ fn append_exits(asks: &Asks<'_>, pages: usize, out: &mut Vec<u8>) -> Result<bool
     Ok(found)
 }
 
-/// Appends a universal exit with its lines.
+/// Appends a universal exit with its lines, after a reset where one stands before it.
 fn append_exit(exit: &Exit<'_>, out: &mut Vec<u8>) -> Result<(), AllocError>
-    ensures { OnOk result (out.new.items ≡ out.old.items ++ (exit_bytes ++ (exit_of exit.now).lines)) }
+    ensures { OnOk result (out.new.items ≡ out.old.items ++ exit_with_lines (exit_of exit.now)) }
 {
+    append_reset(exit.is_reset, out)?;
     out.extend_from_slice(UNIVERSAL_EXIT)?;
     out.extend_from_slice(exit.lines)
 }
@@ -153,10 +191,11 @@ fn append_quality(old: Asked, new: Asked, out: &mut Vec<u8>) -> Result<(), Alloc
     append_value(b"\x1b*r", old.raster_quality, new.raster_quality, b"Q", out)
 }
 
-/// Appends what asks for sides, bins, media and sources, as far as they aren't asked for already.
+/// Appends what asks for an orientation, sides, bins, media and sources, as far as they aren't asked for already.
 fn append_paper(old: Asked, new: Asked, out: &mut Vec<u8>) -> Result<(), AllocError>
     ensures { OnOk result (out.new.items ≡ out.old.items ++ paper_text old new) }
 {
+    append_value(b"\x1b&l", old.orientation, new.orientation, b"O", out)?;
     append_value(b"\x1b&l", old.sides, new.sides, b"S", out)?;
     append_value(b"\x1b&l", old.output_bin, new.output_bin, b"G", out)?;
     append_value(b"\x1b&l", old.media_type, new.media_type, b"M", out)?;
@@ -245,22 +284,59 @@ pub fn append_page_text(
     text: &[u8],
     out: &mut Vec<u8>,
 ) -> Result<(), AllocError>
-    ensures { OnOk result (out.new.items ≡ out.old.items ++ fitted (asked_at (asks_of asks.now) page).said text.now) }
+    ensures { OnOk result (out.new.items ≡ out.old.items ++ as_said (asks_of asks.now) page text.now) }
 {
-    append_fitted(asked_at(asks, page).said, text, out)
+    let asked = asked_at(asks, page);
+    let already = asked_already(asks, page, is_reset_before(asks, page));
+    append_fitted(part_to_say(already, asked), asked.said, text, out)
 }
 
-/// Appends a page text: itself where its copies and its size were said and no length, else with another start.
-fn append_fitted(said: Asked, text: &[u8], out: &mut Vec<u8>) -> Result<(), AllocError>
-    ensures { OnOk result (out.new.items ≡ out.old.items ++ fitted said text.now) }
+/// Appends a page text of what was said that says a part of that: itself where the part is copies and a size and no length, else with
+/// another start.
+fn append_fitted(part: Asked, said: Asked, text: &[u8], out: &mut Vec<u8>) -> Result<(), AllocError>
+    ensures { OnOk result (out.new.items ≡ out.old.items ++ fitted part said text.now) }
 {
-    if is_usual(said) {
+    if is_usual(part) {
         return out.extend_from_slice(text);
     }
     let mut usual = Vec::new(*out.allocator());
     append_usual_start(said, &mut usual)?;
-    append_start(said, out)?;
+    append_start(part, out)?;
     out.extend_from_slice(after(text, usual.len()))
+}
+
+/// What the text of a page says of copies and paper where this is asked for already: all of it with a size, else what is another.
+fn part_to_say(already: Asked, page: AskedPage) -> Asked
+    ensures { result ≡ part_to_say already page }
+{
+    let said = page.said;
+    if page.start.size.is_some() || is_new(already.page_size, said.page_size) {
+        return said;
+    }
+    Asked {
+        copies: new_value(already.copies, said.copies),
+        page_size: None,
+        page_length: new_value(already.page_length, said.page_length),
+        ..said
+    }
+}
+
+/// A value, where it is another than before.
+fn new_value(old: Option<i64>, new: Option<i64>) -> Option<i64>
+    ensures { result ≡ new_value old new }
+{
+    if is_new(old, new) { new } else { None }
+}
+
+/// Whether a value is another than before.
+fn is_new(old: Option<i64>, new: Option<i64>) -> bool
+    ensures { result ≡ is_new old new }
+{
+    match (old, new) {
+        (_, None) => false,
+        (None, Some(_)) => true,
+        (Some(before), Some(value)) => before != value,
+    }
 }
 
 /// A text after this many of its bytes: nothing where it has fewer.

@@ -1,6 +1,6 @@
 //! A job written again with its letters as soft fonts or as macros, page by page where that takes fewer bytes.
 
-use crate::asking::{append_end, append_page_start, append_page_text};
+use crate::asking::{append_end, append_page_start, append_page_text, has_exit};
 use crate::proposals::says_length;
 use crate::raster_jobs::REPEATED_BYTES;
 use crate::reading::{Original, ReadJob};
@@ -340,11 +340,6 @@ fn lower_page(out: &mut Vec<u8>, place: usize) -> Result<(), AllocError> {
     out.extend_from_slice(start.strip_suffix(NO_MARGIN).unwrap_or(start))?;
     out.extend_from_slice(HALF_DOT_MARGIN)?;
     out.extend_from_slice(rest)
-}
-
-/// Whether a universal exit stands before the page of this number, from 0.
-fn has_exit(asks: &Asks<'_>, page: usize) -> bool {
-    asks.exits.iter().any(|exit| exit.pages as usize == page)
 }
 
 /// Whether a reset stands between pages of the stretch that starts with the page of this number, from 0.
