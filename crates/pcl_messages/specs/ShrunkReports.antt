@@ -4,7 +4,7 @@ use Rattle.pcl_printers.specs.declared.doubts.Doubt.{Doubt}
 use Rattle.pcl_printers.specs.declared.doubts.Doubt.TheVariants.{BetweenDots, ShortRaster, FirstLine, SeedRow, RasterSize, Advance, Code}
 use Rattle.pcl_printers.specs.declared.doubts.Doubt.TheVariants.{EmptyMark, ColumnWidth, PastEnd, PartOfUnit, Ejection, Edge, OpenRaster}
 use Rattle.pcl_printers.specs.declared.doubts.Doubt.TheVariants.{RowStart, TextScale, Back, JobLine}
-use Rattle.pcl_printers.specs.declared.doubts.Doubt.TheVariants.{OtherFont, RightMargin, RowData, Sides, CalledMacro, Paper}
+use Rattle.pcl_printers.specs.declared.doubts.Doubt.TheVariants.{OtherFont, RightMargin, RowData, Sides, CalledMacro, Paper, NoPage, OpenEnd}
 use Rattle.pcl_shrink.specs.declared.candidate.Candidate.{Candidate}
 use Rattle.pcl_shrink.specs.declared.candidate.Candidate.TheVariants.{Input, Raster, Coarse, Glyphs}
 use Rattle.pcl_shrink.specs.declared.candidate.Shrunk.{Shrunk}
@@ -32,7 +32,7 @@ doubt_text EmptyMark = codes "a mark without dots on the page"
 doubt_text ColumnWidth = codes "the column width after another font, or a font sent anew"
 doubt_text PastEnd = codes "a tab, a move by rows or a line spacing past the end of the page"
 doubt_text PartOfUnit = codes "a part of a unit"
-doubt_text Ejection = codes "sides, a media type or a page length on a page with marks"
+doubt_text Ejection = codes "sides, a media type, a page length or an orientation on a page with marks"
 doubt_text Edge = codes "ink past an edge of the page"
 doubt_text OpenRaster = codes "where a raster ends"
 doubt_text RowStart = codes "where a row begins, after a raster away from the left edge"
@@ -45,6 +45,8 @@ doubt_text RowData = codes "a row by method 3 that ends in an offset"
 doubt_text Sides = codes "which side of the sheet comes next"
 doubt_text CalledMacro = codes "a page size or the end of a page in a called macro"
 doubt_text Paper = codes "a page without a size, where papers differ"
+doubt_text NoPage = codes "a job without a page"
+doubt_text OpenEnd = codes "what the job leaves at its end"
 
 -- what follows the number of its pages
 abbrev pub pages_word : ℕ → List ℕ

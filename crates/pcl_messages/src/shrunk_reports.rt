@@ -147,7 +147,9 @@ fn doubt_name(doubt: Doubt) -> &'static [u8]
         Doubt::ColumnWidth => b"the column width after another font, or a font sent anew",
         Doubt::PastEnd => b"a tab, a move by rows or a line spacing past the end of the page",
         Doubt::PartOfUnit => b"a part of a unit",
-        Doubt::Ejection => b"sides, a media type or a page length on a page with marks",
+        Doubt::Ejection => {
+            b"sides, a media type, a page length or an orientation on a page with marks"
+        }
         Doubt::Edge => b"ink past an edge of the page",
         Doubt::OpenRaster => b"where a raster ends",
         Doubt::RowStart => b"where a row begins, after a raster away from the left edge",
@@ -160,5 +162,7 @@ fn doubt_name(doubt: Doubt) -> &'static [u8]
         Doubt::Sides => b"which side of the sheet comes next",
         Doubt::CalledMacro => b"a page size or the end of a page in a called macro",
         Doubt::Paper => b"a page without a size, where papers differ",
+        Doubt::NoPage => b"a job without a page",
+        Doubt::OpenEnd => b"what the job leaves at its end",
     }
 }

@@ -16,8 +16,9 @@ pub struct Sheets {
     has_back: bool,
     /// Whether the last command was a reset or a universal exit.
     is_reset: bool,
-    /// The sides that were said before the command.
+    /// The sides that were said before the command, and whether an orientation was.
     sides: Option<i64>,
+    is_turned: bool,
     /// Whether an odd number of pages was ejected since a reset or other sides, and whether one was since a reset.
     is_odd: bool,
     has_page: bool,
@@ -30,6 +31,7 @@ impl Sheets {
     /// A command begins while this is asked.
     pub fn begin(&mut self, asked: Asked) {
         self.sides = asked.sides;
+        self.is_turned = asked.orientation.is_some();
     }
 
     /// A page was ejected that was asked with this.
@@ -92,7 +94,9 @@ impl Printers {
             | Asking::RasterQuality => {}
             Asking::LeftOffset => self.see_offset(environment.asked().left_offset),
             Asking::TopOffset => self.see_offset(environment.asked().top_offset),
-            Asking::Sides | Asking::MediaType | Asking::PageLength if is_marked => {
+            Asking::Orientation if self.sheets.is_turned => {}
+            Asking::Sides | Asking::MediaType | Asking::PageLength | Asking::Orientation
+                if is_marked => {
                 self.note(Doubt::Ejection);
             }
             Asking::SheetSide if is_marked && !is_side(command.value) => {

@@ -34,7 +34,7 @@ pub enum Doubt {
     PastEnd,
     /// A part of a unit of 1/7200 inch, or of a PCL unit, also in an advance.
     PartOfUnit,
-    /// Sides, a media type or a page length on a marked page, which may eject it.
+    /// Sides, a media type, a page length or an orientation on a marked page, which may eject it.
     Ejection,
     /// Ink past the left or the right edge of the page, half a dot past its lower one, or past the edge to which the page is moved; a row
     /// of a raster that began with the cursor at the right edge.
@@ -65,4 +65,8 @@ pub enum Doubt {
     /// What differs on Letter, A4 and Legal in a job that says no size: ink past what they share, a page that a line feed ejects, or a
     /// mark at the cursor that an edge may have stopped.
     Paper,
+    /// A job without a page, which may be there for what it sets or sends.
+    NoPage,
+    /// What is said after the last page, or after a reset behind it, and no reset puts back; or a page that the end of the job ejects.
+    OpenEnd,
 }

@@ -10,7 +10,7 @@ use crate::margins::RightMargin;
 use crate::rasters::Rasters;
 use crate::widths::Width;
 use pcl_base::{Asking, Dpi, Operation};
-use pcl_env::Env;
+use pcl_env::{Asked, Env};
 use pcl_page::{Event, Observer, SeenCommand, SeenRaster};
 
 /// Printers, which look for what some of them read otherwise in a job that is performed.
@@ -38,6 +38,9 @@ pub struct Printers {
     pub(crate) calls: Calls,
     /// The command that was performed last.
     pub(crate) last: Operation,
+    /// Whether a page was ejected, and whether something was said since then, or since a reset, that no reset has put back.
+    has_page: bool,
+    is_open: bool,
 }
 
 impl Printers {
@@ -55,6 +58,8 @@ impl Printers {
             lines: JobLines::default(),
             calls: Calls::default(),
             last: Operation::Reset,
+            has_page: false,
+            is_open: false,
         }
     }
 
@@ -96,6 +101,7 @@ impl Printers {
 
     /// Looks at a command that has set what it sets.
     fn see_command(&mut self, command: &SeenCommand<'_>, environment: &Env) {
+        self.is_open = leaves_open(command, self.is_open);
         self.see_parts(command, environment);
         self.see_width(command, environment);
         self.see_fonts(command, environment);
@@ -113,6 +119,15 @@ impl Printers {
     /// Looks at the end of a job whose last page is marked or not.
     fn see_job_end(&mut self, is_marked: bool) {
         self.note_if(!is_marked && self.rasters.has_begun, Doubt::EmptyMark);
+        self.note_if(!is_marked && !self.has_page, Doubt::NoPage);
+        self.note_if(is_marked || self.is_open, Doubt::OpenEnd);
+    }
+
+    /// Looks at a page that was ejected and was asked with this.
+    fn see_page(&mut self, asked: Asked, environment: &Env) {
+        self.has_page = true;
+        self.is_open = false;
+        self.see_ejection(asked, environment);
     }
 
     /// Looks at a command that ejects a page if that is marked, where it isn't.
@@ -128,13 +143,22 @@ impl Observer for Printers {
             Event::Comes(operation, raster) => self.see_coming(operation, raster, environment),
             Event::Begins(_) => self.see_begin(environment),
             Event::Sets(command) => self.see_command(&command, environment),
-            Event::Ejects(asked) => self.see_ejection(asked, environment),
+            Event::Ejects(asked) => self.see_page(asked, environment),
             Event::Marks(mark) => self.see_mark(&mark, environment),
             Event::Blank(code) => self.see_blank(code, environment),
             Event::InMacro { is_called } => self.calls.go_on(is_called),
             Event::MacroEnds(end) => self.see_macro_end(&end, environment),
             Event::JobEnds { is_marked } => self.see_job_end(is_marked),
         }
+    }
+}
+
+/// Whether something is left that no reset has put back after a command, by whether it was before: paper source 0 sets nothing.
+fn leaves_open(command: &SeenCommand<'_>, is_open: bool) -> bool {
+    match command.operation {
+        Operation::Reset | Operation::UniversalExit => false,
+        Operation::Ask(Asking::PaperSource) => is_open || command.value.whole() != 0,
+        _ => true,
     }
 }
 
