@@ -43,6 +43,9 @@ LENGTH_LIMIT = 2_147_483_647
 BLANK = b"\x1b&l1x2a0E\x1b*p0x0Y\x1b*t300R\x1b*r2400s0A\x1b*rC\x0c"
 BLANK_IMAGE = b"P4\n4800 6600\n" + bytes(600 * 6600)
 BLANK_CERTIFICATE = 4 + 2 + 8 * 4 * 3301
+# Its greymap at 600 dots per inch, a byte each dot, and of how many such pages the greymaps are written one by one.
+BLANK_GREYMAP = b"P5\n4800 6600\n255\n" + b"\xff" * (4800 * 6600)
+GREYMAPS = 16
 # What is long: words, a job, what is written of it, and how many bytes are held at once. A page that says neither copies nor size
 # isn't shrunk to one that does.
 LONG = [
@@ -323,6 +326,24 @@ def check_sizes(program):
     return wrong, count
 
 
+def check_greymaps(program):
+    """Greymaps of many pages, half a gigabyte, are written within three times what one has. Within half of that, memory runs out."""
+    wrong = []
+    for limit, greymaps, status, said in ((3 * len(BLANK_GREYMAP), GREYMAPS, 0, b""),
+                                          (len(BLANK_GREYMAP) // 2, 0, 3, OUT_OF_MEMORY.encode() + b"\n")):
+        bound = ["timeout", "120", "sh", "-c", 'ulimit -v "$0"; exec "$@"', str(limit // 1024)]
+        words = [*bound, program, "pgm", "--scale", "1", "--dpi", "600"]
+        with subprocess.Popen(words, stdin=subprocess.PIPE, stdout=subprocess.PIPE, stderr=subprocess.PIPE) as process:
+            process.stdin.write(b"\x0c" * GREYMAPS)
+            process.stdin.close()
+            is_right = all(process.stdout.read(len(BLANK_GREYMAP)) == BLANK_GREYMAP for _ in range(greymaps))
+            is_right &= process.stdout.read() == b""
+            came = process.stderr.read()
+        if not is_right or (process.returncode, came) != (status, said):
+            wrong.append(f"pgm --scale 1 within {limit // 1024} KB: {process.returncode}, {came}, the images are {is_right}")
+    return wrong, 2
+
+
 def run_on_terminal(program, words, job):
     """What a run writes to a terminal that is its standard error, and how many seconds it took."""
     leader, follower = pty.openpty()
@@ -448,8 +469,8 @@ def main():
         copy = shutil.copy(program, os.path.join(folder, "program"))
         os.chmod(copy, 0o755)
         wrong, count = [], 0
-        for check in (check_table, check_texts, check_owners, check_access_lists, check_append_only, check_lengths, check_sizes, check_memory,
-                      check_terminal, check_hints, check_spared_terminal):
+        for check in (check_table, check_texts, check_owners, check_access_lists, check_append_only, check_lengths, check_sizes,
+                      check_greymaps, check_memory, check_terminal, check_hints, check_spared_terminal):
             try:
                 faults, cases_of_it = check(copy)
             except subprocess.TimeoutExpired as late:

@@ -9,7 +9,11 @@ use Rattle.pcl_page.specs.Accepting.{IsAccepted, IsFirstAccepted}
 use Rattle.pcl_page.specs.Delivering.{IsRefusal, IsRefusalBy}
 use Rattle.pcl_streams.specs.declared.fault.Fault.{Fault}
 use Rattle.pcl_streams.specs.declared.fault.Fault.TheVariants.{Refused, Memory, WriteFault}
+use Rattle.pcl_preview.specs.declared.form.ImageForm.{ImageForm}
+use Rattle.pcl_preview.specs.declared.form.ImageForm.TheVariants.{Bitmap, Greymap}
+use Rattle.pcl_preview.specs.declared.page_images.PageChoice.{PageChoice}
 use Rattle.pcl_preview.specs.PageImages.{IsPagesPreview}
+use Rattle.pcl_preview.specs.StreamedImages.{IsPagesStreamed}
 use Rattle.pcl_streams.specs.Transfer.{AppendsFront}
 use Rattle.pcl_tool.specs.Writing.{IsWrittenJob}
 use Rattle.pcl_explain.specs.Findings.{Explains, ExplainsAsObject, ExplainsKind, ExplainsKindAsObject}
@@ -49,10 +53,16 @@ abbrev pub ExplainsKindIn : Layout → Kind → List ℕ → Type 0
 ExplainsKindIn Text kind text = ExplainsKind kind text
 ExplainsKindIn Json kind text = ExplainsKindAsObject kind text
 
+-- the pages that are asked for are written as images: bitmaps once all of them are made, greymaps one by one
+abbrev pub ArePagesWritten : ImageForm → PageChoice → Profile → Dpi → (job : List ℕ) → (old new : Option (List ℕ)) → Result (Unit {0}) Fault
+    → Type 0
+ArePagesWritten Bitmap choice profile dpi job old new done = IsPagesPreview Bitmap profile dpi job choice old new done
+ArePagesWritten (Greymap scale) choice profile dpi job old new done = IsPagesStreamed (Greymap scale) profile dpi job choice old new done
+
 -- what was asked for is done with a job at a resolution, or failed so
 abbrev pub IsDone : Task → Dpi → (job : List ℕ) → (old new : Option (List ℕ)) → Result (Unit {0}) Fault → Type 0
 IsDone Minimize dpi job old new done = WritesOrRefuses (IsWrittenJob dpi job) (IsRefusal dpi job) old new done
-IsDone (Preview choice form profile) dpi job old new done = IsPagesPreview form profile dpi job choice old new done
+IsDone (Preview choice form profile) dpi job old new done = ArePagesWritten form choice profile dpi job old new done
 IsDone (Explain layout profile) dpi job old new done = WritesOrRefuses (ExplainsIn layout profile dpi job) NeverRefuses old new done
 IsDone (ExplainKind layout kind) dpi job old new done = WritesOrRefuses (ExplainsKindIn layout kind) NeverRefuses old new done
 IsDone (DescribePages layout profile) dpi job old new done =

@@ -7,7 +7,7 @@ ghost use Rattle.pcl_request.specs.Requests.{widest_of};
 ghost use Rattle.pcl_files.specs.World.{world, world_found, world_left};
 ghost use Rattle.pcl_command.specs.Profiles.{IsWrittenUnder, IsWrittenEverywhereUnder, IsRefusedEverywhereUnder};
 ghost use Rattle.pcl_command.specs.Runs.{HasChecked, HasCompared, HasDone, HasDoneRead, HasEnded, HasRun, HasWritten, IsJobRead};
-ghost use Rattle.pcl_command.specs.Tasks.{ExplainsIn, ExplainsKindIn, IsDone, NeverRefuses, TellsOfPages, WritesOrRefuses};
+ghost use Rattle.pcl_command.specs.Tasks.{ArePagesWritten, ExplainsIn, ExplainsKindIn, IsDone, NeverRefuses, TellsOfPages, WritesOrRefuses};
 
 use crate::certifying::certify;
 use crate::checks::check;
@@ -20,7 +20,7 @@ use pcl_explain::{explanation, explanation_object, kind_explanation, kind_object
 use pcl_files::{JobFiles, Outlet, Surroundings, settle};
 use pcl_messages::{Ending, Failure, refuse_clash};
 use pcl_pages::describe_pages;
-use pcl_preview::preview_pages;
+use pcl_preview::{ImageForm, PageChoice, preview_pages, stream_pages};
 use pcl_request::{
     CheckedFiles, ComparedFiles, Layout, Request, Resolution, Run, Shrinking, Source, Target, Task,
     Work, resolve,
@@ -256,11 +256,38 @@ fn do_task<W: Write, P: Reporter>(
             choice,
             form,
             profile,
-        } => preview_pages(outlet.alloc, job, choice, form, profile, dpi, outlet.out),
+        } => write_images(outlet, choice, form, profile, dpi, job),
         Task::Explain { layout, profile } => explain(outlet, layout, profile, dpi, job),
         Task::ExplainKind { layout, kind } => explain_kind(outlet, layout, kind),
         Task::DescribePages { layout, profile } => describe(outlet, layout, profile, dpi, job),
         Task::Shrink { how, report } => write_smaller(outlet, how, report, dpi, job),
+    }
+}
+
+/// Writes images of the pages of a job that are asked for: bitmaps once all of them are made, greymaps one by one.
+fn write_images<W: Write, P: Reporter>(
+    outlet: Outlet<'_, W, P>,
+    choice: PageChoice,
+    form: ImageForm,
+    profile: Profile,
+    dpi: Dpi,
+    job: &[u8],
+) -> Result<(), Fault>
+    ensures { ArePagesWritten form choice profile dpi job.now (W.contents outlet.entry.out.now) (W.contents outlet.exit.0.now) result }
+{
+    match form {
+        ImageForm::Bitmap => preview_pages(
+            outlet.alloc,
+            job,
+            choice,
+            ImageForm::Bitmap,
+            profile,
+            dpi,
+            outlet.out,
+        ),
+        ImageForm::Greymap(scale) => {
+            stream_pages(outlet.alloc, job, choice, scale, profile, dpi, outlet.out)
+        }
     }
 }
 

@@ -6,3 +6,4 @@ pub mod Pixels
 pub mod Flags
 pub mod Showings
 pub mod Comparings
+pub mod Streamings

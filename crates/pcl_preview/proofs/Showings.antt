@@ -19,7 +19,7 @@ AreLeft None number = Unit {0}
 AreLeft (Some flags) number = last_listed flags ≤ number
 
 -- the image of the first page, if it is asked for, and those of the later ones
-next_and_later : (form : ImageForm) (left : Option (List Bool)) (page : Page) (pages : List Page)
+pub next_and_later : (form : ImageForm) (left : Option (List Bool)) (page : Page) (pages : List Page)
     → images_in form (left_by left (page ∷ pages)) ≡ next_image form left page ++ images_in form (left_by (later left) pages)
 next_and_later form None page pages = refl
 next_and_later form (Some []) page pages = refl
@@ -34,7 +34,7 @@ one_later false zero number = (λ there. omega arith, λ there. omega arith)
 one_later flag (suc last) number = rw (some_more last) (λ there. omega (arith, there), λ there. omega (arith, there))
 
 -- what is missing of the later pages is missing of all
-there_later : (left : Option (List Bool)) (number : ℕ) → AreLeft left (suc number) ↔ AreLeft (later left) number
+pub there_later : (left : Option (List Bool)) (number : ℕ) → AreLeft left (suc number) ↔ AreLeft (later left) number
 there_later None number = (λ there. tt, λ there. tt)
 there_later (Some []) number = (λ there. omega arith, λ there. omega arith)
 there_later (Some (flag ∷ flags)) number = one_later flag (last_listed flags) number
@@ -46,12 +46,12 @@ pub record HasShown (dpi : Dpi) (sheets : List Sheet) (old new : Showing) : Type
   pub images : new.images ≡ old.images ++ images_in old.form (left_by old.left pages)
   pub met : AreLeft old.left (length sheets) ↔ IsMet new.left
 
-none_left : (form : ImageForm) (left : Option (List Bool)) → images_in form (left_by left []) ≡ []
+pub none_left : (form : ImageForm) (left : Option (List Bool)) → images_in form (left_by left []) ≡ []
 none_left form None = refl
 none_left form (Some []) = refl
 none_left form (Some (flag ∷ flags)) = refl
 
-met_of_none : (left : Option (List Bool)) → AreLeft left 0 ↔ IsMet left
+pub met_of_none : (left : Option (List Bool)) → AreLeft left 0 ↔ IsMet left
 met_of_none None = (λ there. tt, λ met. tt)
 met_of_none (Some flags) = (λ there. omega (arith, there), λ met. omega (arith, met))
 
@@ -76,11 +76,11 @@ has_shown dpi (sheet ∷ sheets) old new h =
 -- ---- previews
 
 -- what is left at first, and how many pages have to be there
-chosen_left : (choice : PageChoice) (pages : List Page) → left_by (flags_of choice) pages ≡ chosen choice pages
+pub chosen_left : (choice : PageChoice) (pages : List Page) → left_by (flags_of choice) pages ≡ chosen choice pages
 chosen_left All pages = refl
 chosen_left (Listed set) pages = refl
 
-there_left : (choice : PageChoice) (number : ℕ) → AreLeft (flags_of choice) number ↔ AreThere choice number
+pub there_left : (choice : PageChoice) (number : ℕ) → AreLeft (flags_of choice) number ↔ AreThere choice number
 there_left All number = (λ there. omega arith, λ there. tt)
 there_left (Listed set) number = (λ there. there, λ there. there)
 

@@ -2,4 +2,5 @@ pub mod Image
 pub mod Greymap
 pub mod Preview
 pub mod PageImages
+pub mod StreamedImages
 pub mod inner

@@ -3,3 +3,4 @@ pub mod Choice
 pub mod Comparing
 pub mod Counting
 pub mod Showing
+pub mod Streaming

@@ -1,8 +1,8 @@
 //! The preview of pages of a job, one image after the other.
 
-ghost use Rattle.std.specs.Prelude.{◌≡◌, ℕ, false};
+ghost use Rattle.std.specs.Prelude.{◌≡◌, ℕ, drop, false};
 ghost use Rattle.pcl_preview.specs.PageImages.{is_listed, last_listed, last_page, HasWith, ArePageImages, IsPagesPreview};
-ghost use Rattle.pcl_preview.specs.inner.Showing.{asks_next, flags_of, later, left_of, IsMetBy};
+ghost use Rattle.pcl_preview.specs.inner.Showing.{asks_next, flags_of, is_all, later, left_among, left_of, IsMetBy};
 
 use crate::form::ImageForm;
 use crate::image::append_image_in;
@@ -68,12 +68,29 @@ impl PageChoice {
     }
 
     /// Of each page whether it is listed, from the first on; none where all are asked for.
-    fn flags(&self) -> Option<&[bool]>
+    pub(crate) fn flags(&self) -> Option<&[bool]>
         ensures { left_of result ≡ flags_of self.now }
     {
         match self {
             PageChoice::All => None,
             PageChoice::Listed(set) => Some(&set.flags),
+        }
+    }
+
+    /// Whether all pages are asked for.
+    pub(crate) fn is_all(&self) -> bool
+        ensures { result ≡ is_all self.now }
+    {
+        matches!(self, PageChoice::All)
+    }
+
+    /// Of each page whether it is listed, from the first on; nothing where all are asked for.
+    pub(crate) fn listed(&self) -> &[bool]
+        ensures { left_among (is_all self.now) result.now ≡ flags_of self.now }
+    {
+        match self {
+            PageChoice::All => &[],
+            PageChoice::Listed(set) => &set.flags,
         }
     }
 }
@@ -92,7 +109,7 @@ fn last_listed(flags: &[bool]) -> usize
 }
 
 /// Whether the first of the pages that are to come is asked for, by which of them are listed.
-fn asks_next(left: Option<&[bool]>) -> bool
+pub(crate) fn asks_next(left: Option<&[bool]>) -> bool
     ensures { result ≡ asks_next (left_of left.entry) }
 {
     match left {
@@ -105,20 +122,27 @@ fn asks_next(left: Option<&[bool]>) -> bool
 }
 
 /// Which are listed of the pages after the first of those that are to come.
-fn later(left: Option<&[bool]>) -> Option<&[bool]>
+pub(crate) fn later(left: Option<&[bool]>) -> Option<&[bool]>
     ensures { left_of result ≡ later (left_of left.entry) }
 {
     match left {
         None => None,
-        Some(flags) => match flags.split_first() {
-            Some((_, others)) => Some(others),
-            None => Some(flags),
-        },
+        Some(flags) => Some(others(flags)),
+    }
+}
+
+/// All flags but the first.
+pub(crate) fn others(flags: &[bool]) -> &[bool]
+    ensures { result.now ≡ drop 1 flags.now }
+{
+    match flags.split_first() {
+        Some((_, others)) => others,
+        None => flags,
     }
 }
 
 /// Whether no further page is asked for by its number.
-fn is_met(left: Option<&[bool]>) -> bool
+pub(crate) fn is_met(left: Option<&[bool]>) -> bool
     ensures { IsMetBy (left_of left.entry) result }
 {
     match left {

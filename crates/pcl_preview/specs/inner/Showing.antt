@@ -18,6 +18,14 @@ abbrev pub flags_of : PageChoice → Option (List Bool)
 flags_of All = None
 flags_of (Listed set) = Some set.flags
 
+abbrev pub is_all : PageChoice → Bool
+is_all All = true
+is_all (Listed set) = false
+
+-- which of the pages to come are listed, by these flags, unless all are asked for
+abbrev pub left_among : (is_all : Bool) (flags : List Bool) → Option (List Bool)
+left_among is_all flags = if is_all then None else Some flags
+
 abbrev pub left_of : Option (Bor (List Bool)) → Option (List Bool)
 left_of None = None
 left_of (Some flags) = Some flags.now

@@ -30,7 +30,8 @@ done_seen : (task : Task) (resolution : Resolution) (dpi : Dpi) (job : List ℕ)
     (done : Result (Unit {0}) Fault) → IsForOne task resolution → IsSeenAt resolution (task_profile task) job dpi
     → IsDone task dpi job old new done → IsDoneSeen task resolution job old new done
 done_seen task (Given dpi) at job old new done one seen d = rw seen at d
-done_seen task FirstAccepted dpi job old new done one seen d = grind (arith, seen, d)
+done_seen (Shrink how report) FirstAccepted dpi job old new done one seen d = absurd one
+done_seen task FirstAccepted dpi job old new done one seen d = inr (dpi, seen, d)
 
 -- memory ran out before that was known
 unseen : (task : Task) (resolution : Resolution) (job : List ℕ) (held : Option (List ℕ)) → IsForOne task resolution
