@@ -86,6 +86,7 @@ fn say_asked(difference: AskedDifference, words: &mut String) -> Result<(), Allo
 fn say_exit(difference: ExitDifference, words: &mut String) -> Result<(), AllocError> {
     match difference {
         ExitDifference::Place { first, second } => write!(words, "place {first} {second}")?,
+        ExitDifference::Reset => words.push_str("reset")?,
         ExitDifference::Lines => words.push_str("lines")?,
     }
     Ok(())

@@ -22,7 +22,7 @@ type Outcome = (Result<Effect, Unsupported>, u32, u32);
 /// what is wanted of it, and the next one begins a new job.
 type Step = (Operation, Sign, u32, Option<Outcome>);
 
-const STEPS: [Step; 135] = [
+const STEPS: [Step; 137] = [
     // The first line and the top margin.
     (NoEffect, Absent, 0, Some((STAY, 0, 4500))),
     (TopMargin, Absent, 0, Some((STAY, 0, 900))),
@@ -222,6 +222,13 @@ const STEPS: [Step; 135] = [
     ),
     (OnlyZero, Minus, 9999, Some((STAY, 0, 4500))),
     (OnlyZero, Absent, 10_000, Some((REFUSED, 0, 4500))),
+    (Ask(Asking::Orientation), Minus, 9999, Some((STAY, 0, 4500))),
+    (
+        Ask(Asking::Orientation),
+        Absent,
+        10_000,
+        Some((REFUSED, 0, 4500)),
+    ),
     (SeedRowSource, Minus, 9999, Some((STAY, 0, 4500))),
     (SeedRowSource, Absent, 10_000, Some((REFUSED, 0, 4500))),
     (

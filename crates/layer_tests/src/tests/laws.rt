@@ -102,7 +102,10 @@ fn assert_asks(rt: &impl Abort, alloc: Global) -> Result<(), Fail> {
             paper_source: Some(2),
             ..said
         },
-        start: PageStart::NEXT,
+        start: PageStart {
+            source: Some(2),
+            ..PageStart::NEXT
+        },
     };
     assert_gives(
         rt,
@@ -112,8 +115,9 @@ fn assert_asks(rt: &impl Abort, alloc: Global) -> Result<(), Fail> {
     );
     assert_gives(rt, &"exits", &asks.exits.len(), &1);
     for exit in asks.exits.iter() {
-        let wanted = (2, b"@PJL EOJ\n".as_slice());
-        assert_gives(rt, &"exit", &(exit.pages, exit.lines), &wanted);
+        let wanted = (2, false, b"@PJL EOJ\n".as_slice());
+        let found = (exit.pages, exit.is_reset, exit.lines);
+        assert_gives(rt, &"exit", &found, &wanted);
     }
     Ok(())
 }
