@@ -332,9 +332,10 @@ class Performer:
         # Macros by ID: their commands, and whether they are permanent. The definition that is open: an ID and its commands.
         # How many macros run.
         self.macros, self.definition, self.running = {}, None, 0
-        # The universal exits: how many pages were ejected before each, and its lines. Whether the job changes what stays in the printer,
-        # counts on it, or asks for something on a marked page.
+        # The universal exits: how many pages were ejected before each, whether a reset stands between the page or the exit before it and
+        # itself, and its lines. Whether the job changes what stays in the printer, counts on it, or asks for something on a marked page.
         self.exits, self.counts_whole = [], False
+        self.is_reset = False
         # The job separation that was said: once, after the last page.
         self.separation = None
         self.begin()
@@ -355,6 +356,8 @@ class Performer:
         self.macros = {number: macro for number, macro in self.macros.items() if macro[1]}
         # What was said to the printer, by the command that says it; the side of the sheet, for the next page alone; whether that begins one.
         self.said, self.sheet_side, self.begins_sheet = {}, None, True
+        # The size, sides and source that were said since the page before, by their commands; nothing for a page that begins a sheet.
+        self.since = {}
         self.set_size("Letter")
 
     def set_size(self, size):
@@ -377,14 +380,20 @@ class Performer:
         if len(self.pages) == MOST_PAGES:
             raise Refused("TooManyPages", command.at, command.name)
         self.counts_whole |= self.separation is not None
-        asked = dict(self.said, side=self.sheet_side, begins_sheet=self.begins_sheet)
+        asked = dict(self.said, side=self.sheet_side, begins_sheet=self.begins_sheet, since=self.since)
         self.pages.append(Page(self.size, self.copies, self.rows, asked))
         self.rows, self.marked, self.sheet_side, self.begins_sheet = {}, False, None, False
+        self.since, self.is_reset = {}, False
         self.to_first_line()
 
     def eject_marked(self, command):
         if self.marked:
             self.eject(command)
+
+    def say_between(self, name, value):
+        """Keeps what is said between two pages."""
+        if not self.begins_sheet:
+            self.since[name] = value
 
     def keep(self, command):
         """Keeps a command for the definition that is open, unless it ends the definition: then it answers True."""
@@ -612,6 +621,7 @@ def page_size(performer, command):
     performer.set_size(size)
     performer.said.pop("&lP", None)
     performer.said["&lA"] = size
+    performer.say_between("&lA", size)
 
 
 def offset(side):
@@ -633,6 +643,14 @@ def asking(performer, command):
     """Says something to the printer."""
     performer.counts_whole |= performer.marked and command.name != b"&lG"
     performer.said[command.name.decode()] = command.value.whole()
+    if command.name == b"&lS":
+        performer.say_between("&lS", command.value.whole())
+
+
+def orientation(performer, command):
+    if command.value.whole() != 0:
+        refuse(command)
+    asking(performer, command)
 
 
 def job_separation(performer, command):
@@ -653,6 +671,7 @@ def paper_source(performer, command):
     performer.eject_marked(command)
     if command.value.whole() != 0:
         performer.said["&lH"] = command.value.whole()
+        performer.say_between("&lH", command.value.whole())
 
 
 def side_of_sheet(performer, command):
@@ -665,7 +684,8 @@ def reset(performer, command):
         refuse(command)
     performer.eject_marked(command)
     if command.name == b"%X":
-        performer.exits.append((len(performer.pages), command.data))
+        performer.exits.append((len(performer.pages), performer.is_reset, command.data))
+    performer.is_reset = command.name == b"E"
     performer.begin()
 
 
@@ -835,7 +855,7 @@ PERFORM = {
     b"&lE": from_zero(top_margin),
     b"&lF": text_length,
     b"&lL": taking({0, 1}, lambda p, whole: setattr(p, "skips", whole == 1)),
-    b"&lO": taking({0}, nothing), b"&aP": taking({0}, nothing),
+    b"&lO": orientation, b"&aP": taking({0}, nothing),
     b"&lU": offset("left"), b"&lZ": offset("top"),
     b"&lH": paper_source, b"&aG": side_of_sheet, b"&lP": page_length,
     **{name: asking for name in DRIVERS_ASKS | {b"&lS", b"&lG", b"&lM"}}, b"&lT": job_separation,
@@ -886,7 +906,7 @@ def pages_of(job, dpi, profile=Profile.STATED):
 
 def exits_of(performer, counts_last):
     """The universal exits that count: a last one after all pages and without lines ends the job, where it doesn't count as any other."""
-    ends = not counts_last and performer.exits[-1:] == [(len(performer.pages), b"")]
+    ends = not counts_last and [(pages, lines) for pages, _, lines in performer.exits[-1:]] == [(len(performer.pages), b"")]
     return performer.exits[:-1] if ends else performer.exits
 
 
