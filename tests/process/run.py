@@ -51,7 +51,7 @@ GREYMAPS = 16
 LONG = [
     (["pbm", "--dpi", "600"], b"\x0c" * 4, BLANK_IMAGE * 4, 4 * len(BLANK_IMAGE)),
     (["min"], bytes(17_000_000) + DOT, WRITTEN, 17_000_000),
-    (["shrink"], bytes(17_000_000) + DOT, WRITTEN.replace(b"1x2a", b""), 17_000_000),
+    (["shrink"], bytes(17_000_000) + DOT + b"\x1bE", WRITTEN.replace(b"1x2a", b""), 17_000_000),
     (["min", "--cert", "long.cert"], b"\x0c" * 256, b"\x1bE" + BLANK * 256 + b"\x1bE", 256 * BLANK_CERTIFICATE),
 ]
 
