@@ -324,10 +324,13 @@ fn askings(rt: HostRuntime) {
     );
     let all_stay = (STAY, STAY, STAY, STAY, STAY, STAY);
     assert_gives(&rt, &"answers to drivers", &of_drivers, &all_stay);
+    let orientation = say(&mut env, Ask(Asking::Orientation), 0);
+    assert_gives(&rt, &"answer to an orientation", &orientation, &STAY);
     let asked = Asked {
         copies: None,
         page_size: None,
         page_length: Some(79_200),
+        orientation: Some(0),
         sides: Some(1),
         output_bin: Some(2),
         media_type: Some(3),
